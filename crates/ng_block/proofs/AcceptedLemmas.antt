@@ -54,17 +54,20 @@ pub record IsAccepted (s : StateModel) (tools : List ℤ) (geometry : Geometry) 
   pub none : first_fault (path_faults goal.path geometry) ≡ None
   pub done_is : block_done block goal (remark_of (last_comment line.pieces)) s ≡ done
 
-pub accepted : (s : StateModel) (tools : List ℤ) (geometry : Geometry) (text : List ℕ) (done : Done) → executed s tools geometry text ≡ Ok done → IsAccepted s tools geometry text done
+pub accepted : (s : StateModel) (tools : List ℤ) (geometry : Geometry) (text : List ℕ) (done : Done)
+    → executed s tools geometry text ≡ Ok done → IsAccepted s tools geometry text done
 unfolding executed executed_pieces executed_values
 accepted s tools geometry text done e =
     let line = then_ok (read text) (λ line. executed_pieces s line.pieces tools geometry) done e in
-    let values = then_ok (settled_pieces line.0.pieces s.params) (λ values. executed_values s (remark_of (last_comment line.0.pieces)) values tools geometry) done line.2 in
+    let values = then_ok (settled_pieces line.0.pieces s.params)
+    (λ values. executed_values s (remark_of (last_comment line.0.pieces)) values tools geometry) done line.2 in
     let block = then_ok (checked values.0.words s.modal.modes (length tools)) (λ b.
     and_then (goal_of b values.0.assignments s tools geometry) (λ goal.
     unless_refused (first_fault (path_faults goal.path geometry)) (Ok (block_done b goal (remark_of (last_comment line.0.pieces)) s)))) done values.2 in
     let goal = then_ok (goal_of block.0 values.0.assignments s tools geometry) (λ goal.
     unless_refused (first_fault (path_faults goal.path geometry)) (Ok (block_done block.0 goal (remark_of (last_comment line.0.pieces)) s))) done block.2 in
-    let unrefused = unless_refused_ok (first_fault (path_faults goal.0.path geometry)) (block_done block.0 goal.0 (remark_of (last_comment line.0.pieces)) s) done goal.2 in
+    let unrefused = unless_refused_ok (first_fault (path_faults goal.0.path geometry))
+    (block_done block.0 goal.0 (remark_of (last_comment line.0.pieces)) s) done goal.2 in
     record {
       line = line.0;
       read_is = line.1;
@@ -90,7 +93,8 @@ pub record IsReached (b : Block) (assignments : List Change) (s : StateModel) (t
   pub kept_is : kept_of b s.modal ≡ Ok goal.kept
   pub goal_is : goal_with feed (bearings_after b s.params at) goal.path goal.kept ≡ goal
 
-pub reached : (b : Block) (assignments : List Change) (s : StateModel) (tools : List ℤ) (geometry : Geometry) (goal : Goal) → goal_of b assignments s tools geometry ≡ Ok goal → IsReached b assignments s tools geometry goal
+pub reached : (b : Block) (assignments : List Change) (s : StateModel) (tools : List ℤ) (geometry : Geometry)
+    (goal : Goal) → goal_of b assignments s tools geometry ≡ Ok goal → IsReached b assignments s tools geometry goal
 reached b assignments s tools geometry goal e =
     let table = with_changes s.params assignments in
     let feed = then_ok (feed_of b s.modal) (λ feed.
@@ -99,7 +103,8 @@ reached b assignments s tools geometry goal e =
     let way = then_ok (path_after_bearings b assignments s tools feed.0 geometry) (λ way.
     and_then (kept_of b s.modal) (λ kept. Ok (goal_with feed.0 (bearings_after b s.params way.0) way.1 kept))) goal feed.2 in
     let kept = then_ok (kept_of b s.modal) (λ kept. Ok (goal_with feed.0 (bearings_after b s.params way.0.0) way.0.1 kept)) goal way.2 in
-    let at = then_ok (bearings_of b assignments s tools) (λ at. and_then (path_of b s.modal at.offsets table feed.0 geometry) (λ path. Ok (at, path))) way.0 way.1 in
+    let at = then_ok (bearings_of b assignments s tools)
+    (λ at. and_then (path_of b s.modal at.offsets table feed.0 geometry) (λ path. Ok (at, path))) way.0 way.1 in
     let path = then_ok (path_of b s.modal at.0.offsets table feed.0 geometry) (λ path. Ok (at.0, path)) way.0 at.2 in
     let both : Bearings × Path = (at.0, path.0) in
     let way_is : both ≡ way.0 = same_ok both way.0 path.2 in
@@ -107,7 +112,8 @@ reached b assignments s tools geometry goal e =
     let same : made ≡ goal = same_ok made goal kept.2 in
     let there : path.0 ≡ goal.path = ap (λ (w : Bearings × Path). w.1) way_is ∙ ap (λ (g : Goal). g.path) same in
     let found : path_of b s.modal at.0.offsets table feed.0 geometry ≡ Ok goal.path = path.1 ∙ ap {B = Result Path Fault} Ok there in
-    let move = then_ok (move_by b s.modal at.0.offsets table feed.0) (path_by s.modal.point geometry) goal.path (sym (path_is b s.modal at.0.offsets table feed.0 geometry) ∙ found) in
+    let move = then_ok (move_by b s.modal at.0.offsets table feed.0) (path_by s.modal.point geometry) goal.path
+    (sym (path_is b s.modal at.0.offsets table feed.0 geometry) ∙ found) in
     record {
       feed = feed.0;
       at = at.0;

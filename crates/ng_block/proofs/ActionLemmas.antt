@@ -23,7 +23,8 @@ no_time PerMinute motion f h = refl
 no_time InverseTime motion f h = absurd (cc h)
 
 -- no time, and none of eight words
-pub record AreMissing (inverse : Bool) (s t : Option ℤ) (change : Bool) (spindle : Option Spindle) (coolant : Option Coolant) (word : Option NonModal) (plane : Option Plane)
+pub record AreMissing (inverse : Bool) (s t : Option ℤ) (change : Bool) (spindle : Option Spindle)
+    (coolant : Option Coolant) (word : Option NonModal) (plane : Option Plane)
     (unit : Option LengthUnit) : Type 0 where
   pub inverse_is : inverse ≡ false
   pub s_is : s ≡ None
@@ -35,11 +36,22 @@ pub record AreMissing (inverse : Bool) (s t : Option ℤ) (change : Bool) (spind
   pub plane_is : plane ≡ None
   pub unit_is : unit ≡ None
 
-missing : (inverse : Bool) (s t : Option ℤ) (change : Bool) (spindle : Option Spindle) (coolant : Option Coolant) (word : Option NonModal) (plane : Option Plane) (unit : Option LengthUnit) →
+missing : (inverse : Bool) (s t : Option ℤ) (change : Bool) (spindle : Option Spindle) (coolant : Option Coolant)
+    (word : Option NonModal) (plane : Option Plane) (unit : Option LengthUnit) →
     not (inverse || is_some s || is_some t || change || is_some spindle || is_some coolant || is_some word || is_some plane || is_some unit) ≡ true →
     AreMissing inverse s t change spindle coolant word plane unit
 missing false None None false None None None None None h =
-    record { inverse_is = refl; s_is = refl; t_is = refl; change_is = refl; spindle_is = refl; coolant_is = refl; word_is = refl; plane_is = refl; unit_is = refl }
+    record {
+      inverse_is = refl;
+      s_is = refl;
+      t_is = refl;
+      change_is = refl;
+      spindle_is = refl;
+      coolant_is = refl;
+      word_is = refl;
+      plane_is = refl;
+      unit_is = refl;
+    }
 missing true s t change spindle coolant word plane unit h = absurd (cc h)
 missing false (Some _) t change spindle coolant word plane unit h = absurd (cc h)
 missing false None (Some _) change spindle coolant word plane unit h = absurd (cc h)

@@ -19,7 +19,8 @@ pub record NoShift (length : Option ToolLength) (system : Option ℕ) (word : Op
   pub system_is : system ≡ None
   pub word_is : word ≡ None
 
-missing : (length : Option ToolLength) (system : Option ℕ) (word : Option NonModal) → not (is_some length || is_some system || is_some word) ≡ true → NoShift length system word
+missing : (length : Option ToolLength) (system : Option ℕ) (word : Option NonModal)
+    → not (is_some length || is_some system || is_some word) ≡ true → NoShift length system word
 missing None None None h = record { length_is = refl; system_is = refl; word_is = refl }
 missing (Some _) system word h = absurd (cc h)
 missing None (Some _) word h = absurd (cc h)

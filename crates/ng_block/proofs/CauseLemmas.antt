@@ -1,6 +1,7 @@
 -- A line is refused exactly if a cause holds, with the fault of the first one that does. The list is proved part by
 -- part.
-use Rattle.std.proofs.Common.{◌≡◌, ◌∙◌, ℕ, ℤ, ◌||◌, Bool, true, false, List, [], ◌∷◌, ◌++◌, length, Option, Some, None, Result, Ok, Err, refl, sym, ap, if◌then◌else◌}
+use Rattle.std.proofs.Common.{◌≡◌, ◌∙◌, ℕ, ℤ, ◌||◌, Bool, true, false, List, [], ◌∷◌, ◌++◌, length, Option, Some}
+use Rattle.std.proofs.Common.{None, Result, Ok, Err, refl, sym, ap, if◌then◌else◌}
 use Rattle.std.specs.Prelude.{MatchResult, is_err, is_none}
 use Rattle.std.specs.Option.{is_some}
 use Rattle.std.specs.Result.{result_err, result_unwrap_or}
@@ -41,7 +42,8 @@ use Rattle.ng_block.specs.declared.path.Path.{Path}
 use Rattle.ng_block.specs.declared.path.Path.TheVariants as path
 use Rattle.ng_block.specs.declared.shifts.Shifted.{Shifted}
 use Rattle.ng_block.specs.Arcs.{turn_of, centre_offsets_on, asked_by, turned_where, turning_at, path_along_arc}
-use Rattle.ng_block.specs.Asked.{written_on, pieces_in, values_of, offsets_found, Move, Stays, Goes, Turns, GoesHome, Drills, straight, round, in_cycle, homeward, pace_of, move_by}
+use Rattle.ng_block.specs.Asked.{written_on, pieces_in, values_of, offsets_found, Move, Stays, Goes, Turns}
+use Rattle.ng_block.specs.Asked.{GoesHome, Drills, straight, round, in_cycle, homeward, pace_of, move_by}
 use Rattle.ng_block.specs.Motion.{feed_of, end_of, straight_end_of}
 use Rattle.ng_block.specs.Causes.{value_cause, value_causes, reaches_far, computes_beyond, arc_faults, cycle_faults, has_no_feed, goes_outside, causes}
 use Rattle.ng_block.specs.Cycles.{kind_of, kept_for, kept_where, kept_of, own_words, cycle_words, context_of, cycle_where, cycle_path}
@@ -85,7 +87,8 @@ path_by start geometry (GoesHome between home) = Ok (path.Homing (record { start
 path_by start geometry (Drills w s) = and_then (cycle.canned_of w s geometry) (λ drill. Ok (path.Cycle drill))
 
 -- one length after another, and then what is made of them
-after_one : {X Y Z : Type 0} (r : Result X Fault) (f : X → Y) (next : Y → Result Z Fault) → and_then r (λ x. next (f x)) ≡ and_then (and_then r (λ x. Ok (f x))) next
+after_one : {X Y Z : Type 0} (r : Result X Fault) (f : X → Y) (next : Y → Result Z Fault)
+    → and_then r (λ x. next (f x)) ≡ and_then (and_then r (λ x. Ok (f x))) next
 after_one (Ok x) f next = refl
 after_one (Err fault) f next = refl
 
@@ -104,20 +107,24 @@ round_is : (turn : Option ArcDirection) (b : Block) (m : ModalState) (o : Offset
 unfolding path_by
 round_is None b m o feed geometry = refl
 round_is (Some turn) b m o feed geometry =
-    after_two (end_of b m o) (λ _. centre_offsets_on b m.modes) (λ end offsets. Turns (pace_of b m feed) (asked_by b m turn end offsets (pace_of b m feed))) (path_by m.point geometry)
+    after_two (end_of b m o) (λ _. centre_offsets_on b m.modes)
+    (λ end offsets. Turns (pace_of b m feed) (asked_by b m turn end offsets (pace_of b m feed)))
+    (path_by m.point geometry)
 
 in_cycle_is : (kind : Option CycleKind) (b : Block) (m : ModalState) (o : Offsets) (feed : ℤ) (geometry : Geometry) →
     cycle_where kind b m o feed geometry ≡ and_then (in_cycle kind b m o feed) (path_by m.point geometry)
 unfolding path_by
 in_cycle_is None b m o feed geometry = refl
 in_cycle_is (Some kind) b m o feed geometry =
-    after_two (own_words b m.modes) (λ own. cycle_words b m.modes kind own) (λ own words. Drills words (context_of b m o feed (kept_for kind m))) (path_by m.point geometry)
+    after_two (own_words b m.modes) (λ own. cycle_words b m.modes kind own)
+    (λ own words. Drills words (context_of b m o feed (kept_for kind m))) (path_by m.point geometry)
 
 homeward_is : (home : Option Point) (b : Block) (m : ModalState) (o : Offsets) (geometry : Geometry) →
     home_path b m o home ≡ and_then (homeward home b m o) (path_by m.point geometry)
 unfolding path_by
 homeward_is None b m o geometry = refl
-homeward_is (Some home) b m o geometry = either (has_axis b.values) _ _ _ _ (path_by m.point geometry) (after_one (end_of b m o) (λ between. GoesHome between home) (path_by m.point geometry)) refl
+homeward_is (Some home) b m o geometry = either (has_axis b.values) _ _ _ _ (path_by m.point geometry)
+    (after_one (end_of b m o) (λ between. GoesHome between home) (path_by m.point geometry)) refl
 
 straight_is : (b : Block) (m : ModalState) (o : Offsets) (feed : ℤ) (geometry : Geometry) →
     and_then (straight_end_of b m o) (λ end. Ok (straight_to b m feed end)) ≡ and_then (straight b m o feed) (path_by m.point geometry)
@@ -224,7 +231,8 @@ kept_by_kind true turns (Some kind) b m o feed x y z move p q e = absurd (cc (p 
 kept_by_kind false true (Some kind) b m o feed x y z move p q e = absurd (cc (q refl))
 kept_by_kind false false (Some kind) b m o feed x y z move p q e = own_found (own_words b m.modes) _ _ move e
 
-kept_found : (b : Block) (m : ModalState) (o : Offsets) (table : List ℤ) (feed : ℤ) (move : Move) → move_by b m o table feed ≡ Ok move → (kept : KeptWords) × (kept_of b m ≡ Ok kept)
+kept_found : (b : Block) (m : ModalState) (o : Offsets) (table : List ℤ) (feed : ℤ) (move : Move)
+    → move_by b m o table feed ≡ Ok move → (kept : KeptWords) × (kept_of b m ≡ Ok kept)
 kept_found b m o table feed move e =
     kept_by_kind (is_straight b.motion) (is_arc b.motion) (kind_of b.motion) b m o feed _ _ _ move (straight_none b.motion) (arc_none b.motion) e
 
@@ -235,15 +243,19 @@ reached geometry done found = and_then found (λ goal. unless_refused (first_fau
 -- the goal, from its path and its kept words
 abbrev goal_found : Block → StateModel → ℤ → Bearings → Result Path Fault → Result KeptWords Fault → Result Goal Fault
 goal_found b s feed at paths kept =
-    and_then {X = Bearings × Path} (and_then paths (λ path. Ok (at, path))) (λ way. and_then kept (λ kept. Ok (goal_with feed (bearings_after b s.params way.0) way.1 kept)))
+    and_then {X = Bearings × Path} (and_then paths (λ path. Ok (at, path)))
+    (λ way. and_then kept (λ kept. Ok (goal_with feed (bearings_after b s.params way.0) way.1 kept)))
 
-goal_first : (b : Block) (s : StateModel) (feed : ℤ) (at : Bearings) (geometry : Geometry) (done : Goal → Done) (paths : Result Path Fault) (kept : KeptWords) (r : Result KeptWords Fault) → r ≡ Ok kept →
-    result_err (reached geometry done (goal_found b s feed at paths r)) ≡ result_err (moved geometry (λ path. done (goal_with feed (bearings_after b s.params at) path kept)) paths)
+goal_first : (b : Block) (s : StateModel) (feed : ℤ) (at : Bearings) (geometry : Geometry) (done : Goal → Done)
+    (paths : Result Path Fault) (kept : KeptWords) (r : Result KeptWords Fault) → r ≡ Ok kept →
+    result_err (reached geometry done (goal_found b s feed at paths r)) ≡ result_err
+    (moved geometry (λ path. done (goal_with feed (bearings_after b s.params at) path kept)) paths)
 goal_first b s feed at geometry done (Ok path) kept r e = rw e refl
 goal_first b s feed at geometry done (Err fault) kept r e = refl
 
 -- once the feed and the offsets are found
-way_first : (b : Block) (s : StateModel) (feed : ℤ) (at : Bearings) (geometry : Geometry) (done : Goal → Done) (r : Result Move Fault) (paths : Result Path Fault) (kept : Result KeptWords Fault) →
+way_first : (b : Block) (s : StateModel) (feed : ℤ) (at : Bearings) (geometry : Geometry) (done : Goal → Done)
+    (r : Result Move Fault) (paths : Result Path Fault) (kept : Result KeptWords Fault) →
     OnlyFar r → paths ≡ and_then r (path_by s.modal.point geometry) → ((move : Move) → r ≡ Ok move → (words : KeptWords) × (kept ≡ Ok words)) →
     result_err (reached geometry done (goal_found b s feed at paths kept))
     ≡ first_fault ((is_err r || reaches_far (result_unwrap_or r Stays), OutOfRange) ∷ move_causes (result_unwrap_or r Stays) geometry)
@@ -256,23 +268,38 @@ way_first b s feed at geometry done (Ok move) paths kept far is words =
     ∙ move_first move s.modal.point geometry _
 
 -- the whole goal
-abbrev goal_by_parts : Block → List Change → StateModel → Result ℤ Fault → Result Shifted Fault → (Offsets → ℤ → Result Path Fault) → Result KeptWords Fault → Result Goal Fault
+abbrev goal_by_parts : Block → List Change → StateModel → Result ℤ Fault → Result Shifted Fault
+    → (Offsets → ℤ → Result Path Fault) → Result KeptWords Fault → Result Goal Fault
 goal_by_parts b assignments s feeds shifts paths kept =
     and_then feeds (λ feed.
-    and_then {X = Bearings × Path} (and_then {X = Bearings} (and_then shifts (λ at. Ok (record { offsets = at.offsets; shown = at.shown; changes = storing at.stored (selecting b.g.system assignments) })))
+    and_then {X = Bearings × Path}
+    (and_then {X = Bearings}
+    (and_then shifts (λ at.
+    Ok (record {
+      offsets = at.offsets;
+      shown = at.shown;
+      changes =
+          storing at.stored (selecting b.g.system assignments);
+    })))
     (λ at. and_then (paths at.offsets feed) (λ path. Ok (at, path))))
     (λ way. and_then kept (λ kept. Ok (goal_with feed (bearings_after b s.params way.0) way.1 kept))))
 
 parts_first : (b : Block) (assignments : List Change) (s : StateModel) (geometry : Geometry) (done : Goal → Done)
-    (feeds : Result ℤ Fault) (shifts : Result Shifted Fault) (moves : Offsets → ℤ → Result Move Fault) (paths : Offsets → ℤ → Result Path Fault) (kept : Result KeptWords Fault) →
+    (feeds : Result ℤ Fault) (shifts : Result Shifted Fault) (moves : Offsets → ℤ → Result Move Fault)
+    (paths : Offsets → ℤ → Result Path Fault) (kept : Result KeptWords Fault) →
     OnlyFar feeds → OnlyFar shifts → ((o : Offsets) (feed : ℤ) → OnlyFar (moves o feed)) →
     ((o : Offsets) (feed : ℤ) → paths o feed ≡ and_then (moves o feed) (path_by s.modal.point geometry)) →
     ((o : Offsets) (feed : ℤ) (move : Move) → moves o feed ≡ Ok move → (words : KeptWords) × (kept ≡ Ok words)) →
     result_err (reached geometry done (goal_by_parts b assignments s feeds shifts paths kept))
     ≡ (let found = moves (offsets_found shifts s.modal.offsets) (result_unwrap_or feeds s.modal.feed_per_min) in
-    first_fault ((is_err feeds || (is_err shifts || (is_err found || reaches_far (result_unwrap_or found Stays))), OutOfRange) ∷ move_causes (result_unwrap_or found Stays) geometry))
-parts_first b assignments s geometry done (Err fault) shifts moves paths kept far_f far_s far_m is words = ap {B = Option Fault} Some (far_f.fault_is fault refl)
-parts_first b assignments s geometry done (Ok feed) (Err fault) moves paths kept far_f far_s far_m is words = ap {B = Option Fault} Some (far_s.fault_is fault refl)
+    first_fault ((
+      is_err feeds || (is_err shifts || (is_err found || reaches_far (result_unwrap_or found Stays))),
+      OutOfRange,
+    ) ∷ move_causes (result_unwrap_or found Stays) geometry))
+parts_first b assignments s geometry done (Err fault) shifts moves paths kept far_f far_s far_m is words =
+    ap {B = Option Fault} Some (far_f.fault_is fault refl)
+parts_first b assignments s geometry done (Ok feed) (Err fault) moves paths kept far_f far_s far_m is words =
+    ap {B = Option Fault} Some (far_s.fault_is fault refl)
 parts_first b assignments s geometry done (Ok feed) (Ok at) moves paths kept far_f far_s far_m is words =
     way_first b s feed _ geometry done (moves at.offsets feed) (paths at.offsets feed) kept (far_m at.offsets feed) (is at.offsets feed) (words at.offsets feed)
 
@@ -281,7 +308,8 @@ parts_first b assignments s geometry done (Ok feed) (Ok at) moves paths kept far
 -- E3 of what is computed, and the causes after it
 abbrev block_causes : Block → StateModel → List ℤ → List ℤ → Geometry → Causes
 block_causes b s table tools geometry =
-    let found = move_by b s.modal (offsets_found (shift_of b s.modal table tools) s.modal.offsets) table (result_unwrap_or (feed_of b s.modal) s.modal.feed_per_min) in
+    let found = move_by b s.modal (offsets_found (shift_of b s.modal table tools) s.modal.offsets) table
+    (result_unwrap_or (feed_of b s.modal) s.modal.feed_per_min) in
     (computes_beyond b s.modal table tools, OutOfRange) ∷ move_causes (result_unwrap_or found Stays) geometry
 
 abbrev causes_of_values : StateModel → Settled → List ℤ → Geometry → Causes
@@ -293,11 +321,16 @@ abbrev causes_of_pieces : StateModel → List Piece → List ℤ → Geometry �
 causes_of_pieces s pieces tools geometry = value_causes pieces s.params ++ causes_of_values s (values_of pieces s.params) tools geometry
 
 block_first : (b : Block) (assignments : List Change) (s : StateModel) (tools : List ℤ) (geometry : Geometry) (done : Goal → Done) →
-    result_err (reached geometry done (goal_by_parts b assignments s (feed_of b s.modal) (shift_of b s.modal (with_changes s.params assignments) tools) (λ o feed. path_of b s.modal o (with_changes s.params assignments) feed geometry) (kept_of b s.modal)))
+    result_err (reached geometry done
+    (goal_by_parts b assignments s (feed_of b s.modal)
+    (shift_of b s.modal (with_changes s.params assignments) tools)
+    (λ o feed. path_of b s.modal o (with_changes s.params assignments) feed geometry) (kept_of b s.modal)))
     ≡ first_fault (block_causes b s (with_changes s.params assignments) tools geometry)
 block_first b assignments s tools geometry done =
     let table = with_changes s.params assignments in
-    parts_first b assignments s geometry done (feed_of b s.modal) (shift_of b s.modal table tools) (λ o feed. move_by b s.modal o table feed) (λ o feed. path_of b s.modal o table feed geometry) (kept_of b s.modal)
+    parts_first b assignments s geometry done (feed_of b s.modal) (shift_of b s.modal table tools)
+    (λ o feed. move_by b s.modal o table feed) (λ o feed. path_of b s.modal o table feed geometry)
+    (kept_of b s.modal)
     (far_feed b s.modal) (far_shift b s.modal table tools) (λ o feed. far_move b s.modal o table feed)
     (λ o feed. path_is b s.modal o table feed geometry) (λ o feed. kept_found b s.modal o table feed)
 
@@ -306,11 +339,14 @@ values_first : (s : StateModel) (remark : List CanonModel) (values : Settled) (t
 unfolding executed_values
 values_first s remark values tools geometry =
     let b = block_of values.words s.modal.modes in
-    stage (first_fault (faults values.words s.modal.modes (length tools))) b _ (faults values.words s.modal.modes (length tools)) (block_causes b s (with_changes s.params values.assignments) tools geometry) refl
+    stage (first_fault (faults values.words s.modal.modes (length tools))) b _
+    (faults values.words s.modal.modes (length tools))
+    (block_causes b s (with_changes s.params values.assignments) tools geometry) refl
     (block_first b values.assignments s tools geometry (λ goal. block_done b goal remark s))
 
 -- the values of the pieces, if each has one
-followed_if_ok_is : (first : Settled) (found : Option Fault) (rest : Settled) → and_then (unless found rest) (λ b. Ok (followed first b)) ≡ unless found (followed first rest)
+followed_if_ok_is : (first : Settled) (found : Option Fault) (rest : Settled)
+    → and_then (unless found rest) (λ b. Ok (followed first b)) ≡ unless found (followed first rest)
 followed_if_ok_is first None rest = refl
 followed_if_ok_is first (Some fault) rest = refl
 
@@ -321,23 +357,30 @@ settled_by (Err fault) rest values later e = refl
 
 settled_is : (pieces : List Piece) (table : List ℤ) → settled_pieces pieces table ≡ unless (first_fault (value_causes pieces table)) (values_of pieces table)
 settled_is [] table = refl
-settled_is (p ∷ pieces) table = settled_by (given table p) (settled_pieces pieces table) (values_of pieces table) (value_causes pieces table) (settled_is pieces table)
+settled_is (p ∷ pieces) table = settled_by (given table p) (settled_pieces pieces table) (values_of pieces table)
+    (value_causes pieces table) (settled_is pieces table)
 
-pieces_first : (s : StateModel) (pieces : List Piece) (tools : List ℤ) (geometry : Geometry) → result_err (executed_pieces s pieces tools geometry) ≡ first_fault (causes_of_pieces s pieces tools geometry)
+pieces_first : (s : StateModel) (pieces : List Piece) (tools : List ℤ) (geometry : Geometry)
+    → result_err (executed_pieces s pieces tools geometry) ≡ first_fault (causes_of_pieces s pieces tools geometry)
 unfolding executed_pieces
 pieces_first s pieces tools geometry =
-    ap (λ (r : Result Settled Fault). result_err (and_then r (λ values. executed_values s (remark_of (last_comment pieces)) values tools geometry))) (settled_is pieces s.params)
-    ∙ stage (first_fault (value_causes pieces s.params)) (values_of pieces s.params) _ (value_causes pieces s.params) (causes_of_values s (values_of pieces s.params) tools geometry) refl
+    ap (λ (r : Result Settled Fault).
+    result_err (and_then r (λ values. executed_values s (remark_of (last_comment pieces)) values tools
+    geometry))) (settled_is pieces s.params)
+    ∙ stage (first_fault (value_causes pieces s.params)) (values_of pieces s.params) _
+    (value_causes pieces s.params) (causes_of_values s (values_of pieces s.params) tools geometry) refl
     (values_first s (remark_of (last_comment pieces)) (values_of pieces s.params) tools geometry)
 
 text_first : (long : Bool) (line : Option ParsedLine) (next : ParsedLine → Result Done Fault) (rest : List Piece → Causes) →
     ((w : ParsedLine) → result_err (next w) ≡ first_fault (rest w.pieces)) →
-    result_err (and_then (if long then Err LineTooLong else or_unreadable line) next) ≡ first_fault ((long, LineTooLong) ∷ ((is_none line, Unreadable) ∷ rest (pieces_in line)))
+    result_err (and_then (if long then Err LineTooLong else or_unreadable line) next) ≡ first_fault
+    ((long, LineTooLong) ∷ ((is_none line, Unreadable) ∷ rest (pieces_in line)))
 text_first true line next rest h = refl
 text_first false None next rest h = refl
 text_first false (Some w) next rest h = h w
 
-line_first : (s : StateModel) (tools : List ℤ) (geometry : Geometry) (text : List ℕ) → result_err (executed s tools geometry text) ≡ first_fault (causes s tools geometry text)
+line_first : (s : StateModel) (tools : List ℤ) (geometry : Geometry) (text : List ℕ)
+    → result_err (executed s tools geometry text) ≡ first_fault (causes s tools geometry text)
 unfolding executed read causes
 line_first s tools geometry text =
     text_first (is_too_long text) (written_on text) (λ line. executed_pieces s line.pieces tools geometry) (λ pieces. causes_of_pieces s pieces tools geometry)
@@ -345,10 +388,12 @@ line_first s tools geometry text =
 
 -- ---- what a line does, and why it is refused
 
-pub none_of : (s : StateModel) (tools : List ℤ) (geometry : Geometry) (text : List ℕ) (done : Done) → executed s tools geometry text ≡ Ok done → NoneHolds (causes s tools geometry text)
+pub none_of : (s : StateModel) (tools : List ℤ) (geometry : Geometry) (text : List ℕ) (done : Done)
+    → executed s tools geometry text ≡ Ok done → NoneHolds (causes s tools geometry text)
 none_of s tools geometry text done e = none_holds _ (sym (line_first s tools geometry text) ∙ ap result_err e)
 
-pub first_of : (s : StateModel) (tools : List ℤ) (geometry : Geometry) (text : List ℕ) (fault : Fault) → executed s tools geometry text ≡ Err fault → IsFirstFault (causes s tools geometry text) fault
+pub first_of : (s : StateModel) (tools : List ℤ) (geometry : Geometry) (text : List ℕ) (fault : Fault)
+    → executed s tools geometry text ≡ Err fault → IsFirstFault (causes s tools geometry text) fault
 first_of s tools geometry text fault e = is_first _ fault (sym (line_first s tools geometry text) ∙ ap result_err e)
 
 -- for a line that was read, and for a result whose effect is elsewhere

@@ -1,5 +1,6 @@
 -- Offsets move nothing; and the state after the program's end.
-use Rattle.std.proofs.Common.{arith, ◌≡◌, ◌≢◌, ◌∙◌, ℕ, ◌≤◌, ℤ, Bool, true, false, not, ◌&&◌, ◌||◌, List, [], ◌∷◌, ◌++◌, Option, Some, None, Ok, refl, sym, ap, subst, if◌then◌else◌, length}
+use Rattle.std.proofs.Common.{arith, ◌≡◌, ◌≢◌, ◌∙◌, ℕ, ◌≤◌, ℤ, Bool, true, false, not, ◌&&◌, ◌||◌, List, [], ◌∷◌}
+use Rattle.std.proofs.Common.{◌++◌, Option, Some, None, Ok, refl, sym, ap, subst, if◌then◌else◌, length}
 use Rattle.std.specs.Option.{is_some}
 use Rattle.ng_params.specs.Change.{with_changes}
 use Rattle.ng_params.specs.Points.{origin_of, selection}
@@ -15,7 +16,9 @@ use Rattle.ng_modal.specs.BlockOfWords.{block_of}
 use Rattle.ng_modal.specs.ByLetter.{has_axis}
 use Rattle.ng_modal.specs.Block.{takes_axes, motion_by}
 use Rattle.ng_modal.specs.declared.requests.NonModal.{NonModal}
-use Rattle.ng_modal.specs.declared.requests.NonModal.TheVariants.{Dwell, SetOrigin, Home, SecondHome, MachineCoordinates, SetOffset, ClearOffset, DropOffset, RestoreOffset}
+use Rattle.ng_modal.specs.declared.requests.NonModal.TheVariants.{Dwell, SetOrigin, Home, SecondHome}
+use Rattle.ng_modal.specs.declared.requests.NonModal.TheVariants.{MachineCoordinates, SetOffset, ClearOffset}
+use Rattle.ng_modal.specs.declared.requests.NonModal.TheVariants.{DropOffset, RestoreOffset}
 use Rattle.ng_modal.specs.declared.requests.StopWord.{StopWord}
 use Rattle.ng_modal.specs.declared.requests.StopWord.TheVariants as word
 use Rattle.ng_modal.specs.declared.block.Block.{Block}
@@ -69,23 +72,29 @@ stays : (b : Block) (m : ModalState) (o : Offsets) (table : List ℤ) (feed : �
 stays b m o table feed geometry e h = rw (e, h) refl
 
 -- one text asks for one block
-pub same_block : (s : StateModel) (tools : List ℤ) (geometry : Geometry) (text : List ℕ) (done : Done) (b : Block) (a : IsAccepted s tools geometry text done) → AsksFor s text b → b ≡ a.block
+pub same_block : (s : StateModel) (tools : List ℤ) (geometry : Geometry) (text : List ℕ) (done : Done) (b : Block)
+    (a : IsAccepted s tools geometry text done) → AsksFor s text b → b ≡ a.block
 same_block s tools geometry text done b a asks =
     let line : asks.line ≡ a.line = same_ok asks.line a.line (sym ((reads_iff text asks.line).1 asks.is_line) ∙ a.read_is) in
     let values : asks.values ≡ a.values =
     same_ok asks.values a.values (sym asks.have_values ∙ ap (λ (w : ParsedLine). settled_pieces w.pieces s.params) line ∙ a.settled_is) in
     asks.block_is ∙ ap (λ (v : Settled). block_of v.words s.modal.modes) values ∙ sym a.block_is
 
-pub alone : (s : StateModel) (tools : List ℤ) (geometry : Geometry) (text : List ℕ) (done : Done) (b : Block) → executed s tools geometry text ≡ Ok done → AsksFor s text b → SetsOffsetsAlone b →
+pub alone : (s : StateModel) (tools : List ℤ) (geometry : Geometry) (text : List ℕ) (done : Done) (b : Block)
+    → executed s tools geometry text ≡ Ok done → AsksFor s text b → SetsOffsetsAlone b →
     done.setup.modal.point ≡ s.modal.point
 alone s tools geometry text done b e asks h =
     let a = accepted s tools geometry text done e in
     let g = reached a.block a.values.assignments s tools geometry a.goal a.goal_is in
-    let motion : b.motion ≡ None = ap (λ (x : Block). x.motion) asks.block_is ∙ no_motion asks.values.words s.modal.modes (subst SetsOffsetsAlone asks.block_is h) in
+    let motion : b.motion ≡ None = ap (λ (x : Block). x.motion) asks.block_is
+    ∙ no_motion asks.values.words s.modal.modes (subst SetsOffsetsAlone asks.block_is h) in
     let table = with_changes s.params a.values.assignments in
-    let path : path_of b s.modal g.at.offsets table g.feed geometry ≡ Ok Still = stays b s.modal g.at.offsets table g.feed geometry motion (no_home b.g.non_modal table h.no_way_home) in
+    let path : path_of b s.modal g.at.offsets table g.feed geometry ≡ Ok Still = stays b s.modal g.at.offsets table
+    g.feed geometry motion (no_home b.g.non_modal table h.no_way_home) in
     let same : a.goal.path ≡ Still =
-    same_ok a.goal.path Still (sym g.path_found ∙ ap (λ (x : Block). path_of x s.modal g.at.offsets table g.feed geometry) (sym (same_block s tools geometry text done b a asks)) ∙ path) in
+    same_ok a.goal.path Still (sym g.path_found
+    ∙ ap (λ (x : Block). path_of x s.modal g.at.offsets table g.feed geometry)
+    (sym (same_block s tools geometry text done b a asks)) ∙ path) in
     ap (λ (d : Done). d.setup.modal.point) (sym a.done_is) ∙ ap (λ (p : Path). point_after p s.modal.point) same
 
 -- ---- the program's end
@@ -102,11 +111,13 @@ after_end : (b : Block) (params : List ℤ) (there : Bearings) → ends b.m.stop
 after_end b params there e = rw e refl
 
 -- no other parameter is the number of the system in force
-others_stay : (params : List ℤ) (changes : List Change) (p : ℕ) → 1 ≤ p → 5220 ≢ p → at (with_changes params (changes ++ selection 1 ∷ [])) p ≡ at (with_changes params changes) p
+others_stay : (params : List ℤ) (changes : List Change) (p : ℕ) → 1 ≤ p → 5220 ≢ p
+    → at (with_changes params (changes ++ selection 1 ∷ [])) p ≡ at (with_changes params changes) p
 others_stay params [] p some other = at-others params (selection 1 ∷ []) p some (omega arith, other, tt)
 others_stay params (c ∷ changes) p some other = others_stay (with_value params c.index c.value) changes p some other
 
-origin_stays : (params : List ℤ) (changes : List Change) → origin_of (with_changes params changes) 1 ≡ origin_of (with_changes params (changes ++ selection 1 ∷ [])) 1
+origin_stays : (params : List ℤ) (changes : List Change) → origin_of (with_changes params changes) 1 ≡ origin_of
+    (with_changes params (changes ++ selection 1 ∷ [])) 1
 origin_stays params changes =
     let x = others_stay params changes 5221 (omega arith) (λ e. absurd (omega (arith, e))) in
     let y = others_stay params changes 5222 (omega arith) (λ e. absurd (omega (arith, e))) in
@@ -125,7 +136,8 @@ kept_none (Some kind) b m kept e h =
     let words = in_force own.0 (kept_for kind m) in
     sym (same_ok (if ends b.m.stop then no_words else words) kept own.2) ∙ dropped_words false (ends b.m.stop) words e
 
-pub ended_by : (s : StateModel) (tools : List ℤ) (geometry : Geometry) (text : List ℕ) (done : Done) → length s.params ≡ 5399 → executed s tools geometry text ≡ Ok done → done.stop ≡ Ends → IsEnded done.setup
+pub ended_by : (s : StateModel) (tools : List ℤ) (geometry : Geometry) (text : List ℕ) (done : Done)
+    → length s.params ≡ 5399 → executed s tools geometry text ≡ Ok done → done.stop ≡ Ends → IsEnded done.setup
 ended_by s tools geometry text done all e stop =
     let a = accepted s tools geometry text done e in
     let b = a.block in

@@ -47,7 +47,9 @@ drop-on (x ∷ xs) ys (suc n) =
     let e : suc n - suc (length xs) ≡ n - length xs = omega arith in
     ap (λ k. drop k (drop n xs ++ ys)) e ∙ drop-on xs ys n
 
-pub after_segments-on : (at : MotionState) (xs ys : List Segment) (n : ℕ) → after_segments (after_segments at (take n xs)) (take (n - length xs) (drop n xs ++ ys)) ≡ after_segments at (take n (xs ++ ys))
+pub after_segments-on : (at : MotionState) (xs ys : List Segment) (n : ℕ)
+    → after_segments (after_segments at (take n xs)) (take (n - length xs) (drop n xs ++ ys)) ≡ after_segments at
+    (take n (xs ++ ys))
 after_segments-on at [] ys n =
     let e : n - 0 ≡ n = omega arith in
     ap (λ (none : List Segment). after_segments (after_segments at none) (take (n - 0) (drop n [] ++ ys))) (take-nil n)

@@ -15,7 +15,9 @@ use Rattle.ng_state.specs.declared.modes.PathMode.{PathMode}
 use Rattle.ng_block.specs.After.{keeps_modes, modes_after}
 
 -- none of nine words is there
-pub record NoModes (plane : Option Plane) (distance : Option Distance) (mode : Option FeedMode) (unit : Option LengthUnit) (retract : Option Retract) (path : Option PathMode) (system : Option ℕ) (overrides : Option Bool) (stop : Option StopWord) : Type 0 where
+pub record NoModes (plane : Option Plane) (distance : Option Distance) (mode : Option FeedMode)
+    (unit : Option LengthUnit) (retract : Option Retract) (path : Option PathMode) (system : Option ℕ)
+    (overrides : Option Bool) (stop : Option StopWord) : Type 0 where
   pub plane_is : plane ≡ None
   pub distance_is : distance ≡ None
   pub mode_is : mode ≡ None
@@ -26,11 +28,24 @@ pub record NoModes (plane : Option Plane) (distance : Option Distance) (mode : O
   pub overrides_is : overrides ≡ None
   pub stop_is : stop ≡ None
 
-missing : (plane : Option Plane) (distance : Option Distance) (mode : Option FeedMode) (unit : Option LengthUnit) (retract : Option Retract) (path : Option PathMode) (system : Option ℕ) (overrides : Option Bool) (stop : Option StopWord) →
-    not (is_some plane || is_some distance || is_some mode || is_some unit || is_some retract || is_some path || is_some system || is_some overrides || is_some stop) ≡ true →
+missing : (plane : Option Plane) (distance : Option Distance) (mode : Option FeedMode) (unit : Option LengthUnit)
+    (retract : Option Retract) (path : Option PathMode) (system : Option ℕ) (overrides : Option Bool)
+    (stop : Option StopWord) →
+    not (is_some plane || is_some distance || is_some mode || is_some unit || is_some retract || is_some path ||
+    is_some system || is_some overrides || is_some stop) ≡ true →
     NoModes plane distance mode unit retract path system overrides stop
 missing None None None None None None None None None h =
-    record { plane_is = refl; distance_is = refl; mode_is = refl; unit_is = refl; retract_is = refl; path_is = refl; system_is = refl; overrides_is = refl; stop_is = refl }
+    record {
+      plane_is = refl;
+      distance_is = refl;
+      mode_is = refl;
+      unit_is = refl;
+      retract_is = refl;
+      path_is = refl;
+      system_is = refl;
+      overrides_is = refl;
+      stop_is = refl;
+    }
 missing (Some _) distance mode unit retract path system overrides stop h = absurd (cc h)
 missing None (Some _) mode unit retract path system overrides stop h = absurd (cc h)
 missing None None (Some _) unit retract path system overrides stop h = absurd (cc h)

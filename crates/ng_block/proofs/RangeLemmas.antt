@@ -16,7 +16,9 @@ use Rattle.ng_modal.specs.ByLetter.{has_axis}
 use Rattle.ng_modal.specs.Causes.{is_machine}
 use Rattle.ng_modal.specs.Block.{is_straight, is_arc}
 use Rattle.ng_modal.specs.declared.requests.NonModal.{NonModal}
-use Rattle.ng_modal.specs.declared.requests.NonModal.TheVariants.{Dwell, SetOrigin, Home, SecondHome, MachineCoordinates, SetOffset, ClearOffset, DropOffset, RestoreOffset}
+use Rattle.ng_modal.specs.declared.requests.NonModal.TheVariants.{Dwell, SetOrigin, Home, SecondHome}
+use Rattle.ng_modal.specs.declared.requests.NonModal.TheVariants.{MachineCoordinates, SetOffset, ClearOffset}
+use Rattle.ng_modal.specs.declared.requests.NonModal.TheVariants.{DropOffset, RestoreOffset}
 use Rattle.ng_modal.specs.declared.block.Block.{Block}
 use Rattle.ng_state.specs.declared.modes.Distance.{Distance}
 use Rattle.ng_state.specs.declared.modes.Distance.TheVariants.{Absolute, Incremental}
@@ -31,7 +33,8 @@ use Rattle.ng_cycles.specs.declared.words.CycleKind.{CycleKind}
 use Rattle.ng_state.specs.declared.modal_state.ModalState.{ModalState}
 use Rattle.ng_block.specs.Arcs.{turn_of, centre_offsets_on}
 use Rattle.ng_block.specs.Asked.{straight, round, in_cycle, homeward, move_by}
-use Rattle.ng_block.specs.AxisData.{unit_after, no_axis_data, named_on, system_after, with_system, with_origin, with_offset, axis_data_by, axis_data_of, offsets_after}
+use Rattle.ng_block.specs.AxisData.{unit_after, no_axis_data, named_on, system_after, with_system, with_origin}
+use Rattle.ng_block.specs.AxisData.{with_offset, axis_data_by, axis_data_of, offsets_after}
 use Rattle.ng_block.specs.Motion.{feed_word, feed_by, feed_of, feed_mode_after, program_coordinate, coordinate, end_of, straight_end_of}
 use Rattle.ng_block.specs.Cycles.{kind_of, own_words, cycle_words}
 use Rattle.ng_block.specs.Homes.{home_on}
@@ -54,7 +57,8 @@ far_if true a b p q = p
 far_if false a b p q = q
 
 far_in_range : (n : ℤ) → OnlyFar (in_range n)
-far_in_range n = far_if (nat_le (unsigned_abs n) greatest) (Ok n) (Err OutOfRange) (found n) (record { fault_is = λ fault e. let same : OutOfRange ≡ fault = cc e in sym same })
+far_in_range n = far_if (nat_le (unsigned_abs n) greatest) (Ok n) (Err OutOfRange) (found n)
+    (record { fault_is = λ fault e. let same : OutOfRange ≡ fault = cc e in sym same })
 
 -- ---- lengths and points
 
@@ -82,7 +86,8 @@ far_coordinate : (word : Option ℤ) (unit : LengthUnit) (distance : Distance) (
 far_coordinate None unit distance shift machine = found _
 far_coordinate (Some word) unit distance shift machine =
     far_then (in_range (nm_of word unit)) _ (far_in_range (nm_of word unit)) (λ length.
-    far_then (program_coordinate distance (machine -ℤ shift) length) _ (far_program distance (machine -ℤ shift) length) (λ program. far_in_range (program +ℤ shift)))
+    far_then (program_coordinate distance (machine -ℤ shift) length) _
+    (far_program distance (machine -ℤ shift) length) (λ program. far_in_range (program +ℤ shift)))
 
 far_end : (b : Block) (m : ModalState) (o : Offsets) → OnlyFar (end_of b m o)
 far_end b m o =
@@ -141,11 +146,14 @@ far_origin : (system : Option ℕ) (b : Block) (m : Modes) (o : Offsets) (table 
 far_origin None b m o table = found no_axis_data
 far_origin (Some system) b m o table =
     far_then (named_on b m) _ (far_named_on b m) (λ named.
-    far_then (given_origin o system (system_after b m) named table) _ (far_given o system (system_after b m) named table) (λ given. found (record { new = given.0; stored = Some given.1 })))
+    far_then (given_origin o system (system_after b m) named table) _
+    (far_given o system (system_after b m) named table)
+    (λ given. found (record { new = given.0; stored = Some given.1 })))
 
 far_offset_for : (wanted : Option ℤ) (old shift machine : ℤ) → OnlyFar (offset_for wanted old shift machine)
 far_offset_for None old shift machine = found _
-far_offset_for (Some wanted) old shift machine = far_then (in_range (machine -ℤ shift)) _ (far_in_range (machine -ℤ shift)) (λ current. far_in_range ((old +ℤ current) -ℤ wanted))
+far_offset_for (Some wanted) old shift machine = far_then (in_range (machine -ℤ shift)) _
+    (far_in_range (machine -ℤ shift)) (λ current. far_in_range ((old +ℤ current) -ℤ wanted))
 
 far_offsets_for : (o : Offsets) (wanted : Named) (machine : Point) → OnlyFar (offsets_for o wanted machine)
 far_offsets_for o wanted machine =
@@ -164,7 +172,8 @@ far_offset b m machine o =
     far_then (named_on b m) _ (far_named_on b m) (λ named.
     far_then (set_offset o named machine) _ (far_set o named machine) (λ set. found (record { new = Some set.0; stored = Some set.1 })))
 
-far_axis_data : (word : Option NonModal) (b : Block) (m : Modes) (machine : Point) (o : Offsets) (table : List ℤ) → OnlyFar (axis_data_by word b m machine o table)
+far_axis_data : (word : Option NonModal) (b : Block) (m : Modes) (machine : Point) (o : Offsets) (table : List ℤ)
+    → OnlyFar (axis_data_by word b m machine o table)
 far_axis_data None b m machine o table = found _
 far_axis_data (Some Dwell) b m machine o table = found _
 far_axis_data (Some Home) b m machine o table = found _
@@ -182,7 +191,8 @@ pub far_shift : (b : Block) (m : ModalState) (table lengths : List ℤ) → Only
 far_shift b m table lengths =
     let o = offsets_after_length b.g.tool_length b.values.h lengths m.offsets in
     far_then (with_system b.g.system o table) _ (far_system b.g.system o table) (λ system.
-    far_then (axis_data_of b m.modes m.point (offsets_after system o) table) _ (far_axis_data b.g.non_modal b m.modes m.point (offsets_after system o) table) (λ _. found _))
+    far_then (axis_data_of b m.modes m.point (offsets_after system o) table) _
+    (far_axis_data b.g.non_modal b m.modes m.point (offsets_after system o) table) (λ _. found _))
 
 -- ---- the move
 
@@ -199,7 +209,9 @@ far_round : (turn : Option ArcDirection) (b : Block) (m : ModalState) (o : Offse
 far_round None b m o feed = found _
 far_round (Some turn) b m o feed =
     far_then (end_of b m o) _ (far_end b m o) (λ _.
-    far_then (centre_offsets_on b m.modes) _ (far_then (named_by b.values.i b.values.j b.values.k (unit_after b m.modes)) _ (far_named b.values.i b.values.j b.values.k (unit_after b m.modes)) (λ _. found _)) (λ _. found _))
+    far_then (centre_offsets_on b m.modes) _
+    (far_then (named_by b.values.i b.values.j b.values.k (unit_after b m.modes)) _
+    (far_named b.values.i b.values.j b.values.k (unit_after b m.modes)) (λ _. found _)) (λ _. found _))
 
 far_in_cycle : (kind : Option CycleKind) (b : Block) (m : ModalState) (o : Offsets) (feed : ℤ) → OnlyFar (in_cycle kind b m o feed)
 far_in_cycle None b m o feed = found _

@@ -28,7 +28,8 @@ worded_again : {X : Type 0} (word : Option X) (mode : X) → unwrap_or word (unw
 worded_again (Some w) mode = refl
 worded_again None mode = refl
 
-allowed_again : (is_end : Bool) (word : Option Bool) (mode : Bool) → (is_end || unwrap_or word (is_end || unwrap_or word mode)) ≡ (is_end || unwrap_or word mode)
+allowed_again : (is_end : Bool) (word : Option Bool) (mode : Bool)
+    → (is_end || unwrap_or word (is_end || unwrap_or word mode)) ≡ (is_end || unwrap_or word mode)
 allowed_again true word mode = refl
 allowed_again false (Some w) mode = refl
 allowed_again false None mode = refl
@@ -70,14 +71,18 @@ modes_of_same one other m same =
       overrides = ends (same.stop i) || unwrap_or (same.overrides i) m.overrides;
     })
 
-modes_left : (s : StateModel) (tools : List ℤ) (geometry : Geometry) (text : List ℕ) (done : Done) (b : Block) → executed s tools geometry text ≡ Ok done → AsksFor s text b
+modes_left : (s : StateModel) (tools : List ℤ) (geometry : Geometry) (text : List ℕ) (done : Done) (b : Block)
+    → executed s tools geometry text ≡ Ok done → AsksFor s text b
     → done.setup.modal.modes ≡ modes_after b s.modal.modes
 modes_left s tools geometry text done b e asks =
     let a = accepted s tools geometry text done e in
-    ap (λ (d : Done). d.setup.modal.modes) (sym a.done_is) ∙ ap (λ (x : Block). modes_after x s.modal.modes) (sym (same_block s tools geometry text done b a asks))
+    ap (λ (d : Done). d.setup.modal.modes) (sym a.done_is) ∙ ap (λ (x : Block). modes_after x s.modal.modes)
+    (sym (same_block s tools geometry text done b a asks))
 
-pub modes_kept : (s : StateModel) (tools : List ℤ) (geometry : Geometry) (text again : List ℕ) (done next : Done) (one other : Block) → executed s tools geometry text ≡ Ok done → AsksFor s text one
-    → executed done.setup tools geometry again ≡ Ok next → AsksFor done.setup again other → HasSameModes one other → next.setup.modal.modes ≡ done.setup.modal.modes
+pub modes_kept : (s : StateModel) (tools : List ℤ) (geometry : Geometry) (text again : List ℕ) (done next : Done)
+    (one other : Block) → executed s tools geometry text ≡ Ok done → AsksFor s text one
+    → executed done.setup tools geometry again ≡ Ok next → AsksFor done.setup again other → HasSameModes one other
+    → next.setup.modal.modes ≡ done.setup.modal.modes
 modes_kept s tools geometry text again done next one other e asks f asks_again same =
     let left : done.setup.modal.modes ≡ modes_after one s.modal.modes = modes_left s tools geometry text done one e asks in
     modes_left done.setup tools geometry again next other f asks_again

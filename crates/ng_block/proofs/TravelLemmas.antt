@@ -1,5 +1,6 @@
 -- The segments of a valid block join, and stay inside the travel: those of its path do, and no others move.
-use Rattle.std.proofs.Common.{arith, ◌≡◌, ◌∙◌, ℕ, zero, suc, ℤ, Bool, true, false, not, ◌&&◌, ◌||◌, List, [], ◌∷◌, ◌++◌, Option, Some, None, Result, Ok, Err, refl, sym, ap, subst, if◌then◌else◌, cond}
+use Rattle.std.proofs.Common.{arith, ◌≡◌, ◌∙◌, ℕ, zero, suc, ℤ, Bool, true, false, not, ◌&&◌, ◌||◌, List, [], ◌∷◌}
+use Rattle.std.proofs.Common.{◌++◌, Option, Some, None, Result, Ok, Err, refl, sym, ap, subst, if◌then◌else◌, cond}
 use Rattle.std.specs.Option.{is_some}
 use Rattle.std.specs.Ordering.{int_eq}
 use Rattle.std.specs.List.{All, list_any}
@@ -146,7 +147,9 @@ of_path Holds on p h =
 
 -- ---- a cycle
 
-to_r_joins : (c : Bool) (at : MotionState) (end : Point) (pace : Pace) → (let xs : List Segment = if c then [] else line_to pace at.point end ∷ [] in Joins at.point xs (after_segments at xs).point)
+to_r_joins : (c : Bool) (at : MotionState) (end : Point) (pace : Pace)
+    → (let xs : List Segment = if c then [] else line_to pace at.point end ∷ [] in Joins at.point xs
+    (after_segments at xs).point)
 to_r_joins true at end pace = refl
 to_r_joins false at end pace = (refl, refl)
 
@@ -168,7 +171,9 @@ traced_joins d at (s ∷ ss) =
     (joins_on at.point next.point (after_segments next (traced d next ss)).point here (traced d next ss) (stroke_joins d at s) (traced_joins d next ss))
 
 drill_joins : (start : Point) (d : Drill) → d.start ≡ start → Joins start (cycle_segments d) (after_segments (begin d) (cycle_segments d)).point
-drill_joins start d e = subst (λ (p : Point). Joins p (cycle_segments d) (after_segments (begin d) (cycle_segments d)).point) e (traced_joins d (begin d) (strokes d))
+drill_joins start d e =
+    subst (λ (p : Point). Joins p (cycle_segments d) (after_segments (begin d) (cycle_segments d)).point) e
+    (traced_joins d (begin d) (strokes d))
 
 -- ---- a path
 
@@ -178,24 +183,34 @@ BeginsAt start (Turns pace asked) = asked.start ≡ start
 BeginsAt start (Drills w s) = s.point ≡ start
 BeginsAt start _ = Unit {0}
 
-turning_joins : (start : Point) (pace : Option Pace) (arc : Arc) → arc.start ≡ start → Joins start (path_segments (turning_at pace arc)) (point_after (turning_at pace arc) start)
+turning_joins : (start : Point) (pace : Option Pace) (arc : Arc) → arc.start ≡ start
+    → Joins start (path_segments (turning_at pace arc)) (point_after (turning_at pace arc) start)
 turning_joins start None arc e = refl
 turning_joins start (Some pace) arc e = (e, refl)
 
-path_joins : (start : Point) (geometry : Geometry) (move : Move) (p : Path) → BeginsAt start move → path_by start geometry move ≡ Ok p → Joins start (path_segments p) (point_after p start)
+path_joins : (start : Point) (geometry : Geometry) (move : Move) (p : Path) → BeginsAt start move
+    → path_by start geometry move ≡ Ok p → Joins start (path_segments p) (point_after p start)
 unfolding path_by
 path_joins start geometry Stays p h e = subst (λ (q : Path). Joins start (path_segments q) (point_after q start)) (same_ok path.Still p e) refl
 path_joins start geometry (Goes None end) p h e = subst (λ (q : Path). Joins start (path_segments q) (point_after q start)) (same_ok path.WithoutFeed p e) refl
-path_joins start geometry (Goes (Some pace) end) p h e = subst (λ (q : Path). Joins start (path_segments q) (point_after q start)) (same_ok (moving_at (Some pace) start end) p e) (refl, refl)
-path_joins start geometry (GoesHome between home) p h e = subst (λ (q : Path). Joins start (path_segments q) (point_after q start)) (same_ok (path.Homing (record { start = start; between = between; home = home })) p e) (refl, (refl, refl))
+path_joins start geometry (Goes (Some pace) end) p h e =
+    subst (λ (q : Path). Joins start (path_segments q) (point_after q start))
+    (same_ok (moving_at (Some pace) start end) p e) (refl, refl)
+path_joins start geometry (GoesHome between home) p h e =
+    subst (λ (q : Path). Joins start (path_segments q) (point_after q start))
+    (same_ok (path.Homing (record { start = start; between = between; home = home })) p e) (refl, (refl, refl))
 path_joins start geometry (Turns pace asked) p h e =
     let found = then_ok (arc.checked asked) (λ a. Ok (turning_at pace a)) p e in
     let is : arc_of asked ≡ found.0 = (unless_ok (first_fault (arc.causes asked)) (arc_of asked) found.0 found.1).1 in
-    subst (λ (q : Path). Joins start (path_segments q) (point_after q start)) (same_ok (turning_at pace found.0) p found.2) (turning_joins start pace found.0 (ap (λ (a : Arc). a.start) (sym is) ∙ h))
+    subst (λ (q : Path). Joins start (path_segments q) (point_after q start))
+    (same_ok (turning_at pace found.0) p found.2)
+    (turning_joins start pace found.0 (ap (λ (a : Arc). a.start) (sym is) ∙ h))
 path_joins start geometry (Drills w s) p h e =
     let found = then_ok (cycle.canned_of w s geometry) (λ d. Ok (path.Cycle d)) p e in
     let is = unless_ok (first_fault (cycle.causes w s geometry)) (cycle.drill_of w s) found.0 found.1 in
-    subst (λ (q : Path). Joins start (path_segments q) (point_after q start)) (same_ok (path.Cycle found.0) p found.2) (drill_joins start found.0 (ap (λ (d : Drill). d.start) (sym is.1) ∙ h))
+    subst (λ (q : Path). Joins start (path_segments q) (point_after q start))
+    (same_ok (path.Cycle found.0) p found.2)
+    (drill_joins start found.0 (ap (λ (d : Drill). d.start) (sym is.1) ∙ h))
 
 -- a move that is found begins there
 abbrev Begins : Point → Result Move Fault → Type 0
@@ -208,7 +223,8 @@ begins_if start false a b p q = q
 begins_ok : (start : Point) (move : Move) → BeginsAt start move → Begins start (Ok move)
 begins_ok start move h other e = subst (BeginsAt start) (same_ok move other e) h
 
-begins_then : {X : Type 0} (start : Point) (r : Result X Fault) (next : X → Result Move Fault) → ((x : X) → Begins start (next x)) → Begins start (and_then r next)
+begins_then : {X : Type 0} (start : Point) (r : Result X Fault) (next : X → Result Move Fault)
+    → ((x : X) → Begins start (next x)) → Begins start (and_then r next)
 begins_then start (Ok x) next h move e = h x move e
 begins_then start (Err fault) next h move e = absurd (cc e)
 
@@ -231,7 +247,9 @@ in_cycle_begins (Some kind) b m o feed =
 homeward_begins : (home : Option Point) (b : Block) (m : ModalState) (o : Offsets) → Begins m.point (homeward home b m o)
 homeward_begins None b m o = begins_ok m.point Stays tt
 homeward_begins (Some home) b m o =
-    begins_if m.point (has_axis b.values) _ _ (begins_then m.point (end_of b m o) _ (λ between. begins_ok m.point (GoesHome between home) tt)) (begins_ok m.point (Goes (Some pace.Traverse) home) tt)
+    begins_if m.point (has_axis b.values) _ _
+    (begins_then m.point (end_of b m o) _ (λ between. begins_ok m.point (GoesHome between home) tt))
+    (begins_ok m.point (Goes (Some pace.Traverse) home) tt)
 
 move_begins : (b : Block) (m : ModalState) (o : Offsets) (table : List ℤ) (feed : ℤ) → Begins m.point (move_by b m o table feed)
 move_begins b m o table feed =
@@ -246,18 +264,24 @@ move_begins b m o table feed =
 joins_before : (p q : Point) (xs ys : List Segment) → Joins p xs q → NoneMoves ys → Joins p (xs ++ ys) q
 joins_before p q xs ys h k = joins_on p q q xs ys h (still_joins q ys k)
 
-pub joined : (s : StateModel) (tools : List ℤ) (geometry : Geometry) (text : List ℕ) (done : Done) → executed s tools geometry text ≡ Ok done → Joins s.modal.point done.segments done.setup.modal.point
+pub joined : (s : StateModel) (tools : List ℤ) (geometry : Geometry) (text : List ℕ) (done : Done)
+    → executed s tools geometry text ≡ Ok done → Joins s.modal.point done.segments done.setup.modal.point
 joined s tools geometry text done e =
     let a = accepted s tools geometry text done e in
     let g = reached a.block a.values.assignments s tools geometry a.goal a.goal_is in
-    let h = path_joins s.modal.point geometry g.move a.goal.path (move_begins a.block s.modal g.at.offsets (with_changes s.params a.values.assignments) g.feed g.move g.move_is) g.path_found_by in
+    let h = path_joins s.modal.point geometry g.move a.goal.path
+    (move_begins a.block s.modal g.at.offsets (with_changes s.params a.values.assignments) g.feed g.move
+    g.move_is) g.path_found_by in
     let start = s.modal.point in
     let end = point_after a.goal.path start in
     subst (λ (d : Done). Joins start d.segments d.setup.modal.point) a.done_is
-    (of_path (λ xs. Joins start xs end) (λ xs ys still k. joins_on start start end xs ys (still_joins start xs still) k) (plan_of a.block a.goal (remark_of (last_comment a.line.pieces)) s.modal)
+    (of_path (λ xs. Joins start xs end)
+    (λ xs ys still k. joins_on start start end xs ys (still_joins start xs still) k)
+    (plan_of a.block a.goal (remark_of (last_comment a.line.pieces)) s.modal)
     (λ ys still. joins_before start end (path_segments a.goal.path) ys h still))
 
-pub still : (s : StateModel) (tools : List ℤ) (geometry : Geometry) (text : List ℕ) (done : Done) → executed s tools geometry text ≡ Ok done → NoneMoves done.segments →
+pub still : (s : StateModel) (tools : List ℤ) (geometry : Geometry) (text : List ℕ) (done : Done)
+    → executed s tools geometry text ≡ Ok done → NoneMoves done.segments →
     done.setup.modal.point ≡ s.modal.point
 still s tools geometry text done e h = joins_still s.modal.point done.setup.modal.point done.segments (joined s tools geometry text done e) h
 
@@ -276,15 +300,19 @@ neither true b e = absurd (cc e)
 neither false b e = (refl, e)
 
 -- a line by itself
-line_inside : (g : Geometry) (pace : Pace) (start end : Point) → list_any (cycle.ends_outside g) (line_to pace start end ∷ []) ≡ false → AreInside g (line_to pace start end ∷ [])
+line_inside : (g : Geometry) (pace : Pace) (start end : Point)
+    → list_any (cycle.ends_outside g) (line_to pace start end ∷ []) ≡ false
+    → AreInside g (line_to pace start end ∷ [])
 line_inside g pace start end e = (not_false (is_inside g end) (neither (not (is_inside g end)) false e).0, tt)
 
-to_r_inside : (c : Bool) (g : Geometry) (pace : Pace) (start end : Point) → list_any (cycle.ends_outside g) (if c then [] else line_to pace start end ∷ []) ≡ false →
+to_r_inside : (c : Bool) (g : Geometry) (pace : Pace) (start end : Point)
+    → list_any (cycle.ends_outside g) (if c then [] else line_to pace start end ∷ []) ≡ false →
     AreInside g (if c then [] else line_to pace start end ∷ [])
 to_r_inside true g pace start end e = tt
 to_r_inside false g pace start end e = line_inside g pace start end e
 
-stroke_inside : (g : Geometry) (d : Drill) (at : MotionState) (s : Stroke) → list_any (cycle.ends_outside g) (stroke_segments d at s) ≡ false → AreInside g (stroke_segments d at s)
+stroke_inside : (g : Geometry) (d : Drill) (at : MotionState) (s : Stroke)
+    → list_any (cycle.ends_outside g) (stroke_segments d at s) ≡ false → AreInside g (stroke_segments d at s)
 stroke_inside g d at (Across r) e = line_inside g pace.Traverse at.point _ e
 stroke_inside g d at ToR e = to_r_inside (int_eq at.point.z d.r) g pace.Traverse at.point _ e
 stroke_inside g d at (TraverseTo z) e = line_inside g pace.Traverse at.point _ e
@@ -292,12 +320,14 @@ stroke_inside g d at (FeedTo z) e = line_inside g (pace.Feed d.rate) at.point _ 
 stroke_inside g d at (Wait seconds) e = (tt, tt)
 stroke_inside g d at (TurnSpindle spindle) e = (tt, tt)
 
-traced_inside : (g : Geometry) (d : Drill) (at : MotionState) (ss : List Stroke) → list_any (cycle.ends_outside g) (traced d at ss) ≡ false → AreInside g (traced d at ss)
+traced_inside : (g : Geometry) (d : Drill) (at : MotionState) (ss : List Stroke)
+    → list_any (cycle.ends_outside g) (traced d at ss) ≡ false → AreInside g (traced d at ss)
 traced_inside g d at [] e = tt
 traced_inside g d at (s ∷ ss) e =
     let here = stroke_segments d at s in
     let next = after_segments at here in
-    let parts = neither (list_any (cycle.ends_outside g) here) (list_any (cycle.ends_outside g) (traced d next ss)) (sym (list_any-append (cycle.ends_outside g) here (traced d next ss)) ∙ e) in
+    let parts = neither (list_any (cycle.ends_outside g) here) (list_any (cycle.ends_outside g) (traced d next ss))
+    (sym (list_any-append (cycle.ends_outside g) here (traced d next ss)) ∙ e) in
     inside_on g here (traced d next ss) (stroke_inside g d at s parts.0) (traced_inside g d next ss parts.1)
 
 -- a valid cycle stays within the travel
@@ -326,7 +356,8 @@ drilled start g (Drills w s) d e =
     let same : found.0 ≡ d = cc (found.2) in
     subst (λ (x : Drill). cycle.leaves_travel g x ≡ false) (is.1 ∙ same) (valid_stays w s g is.0)
 
-path_inside : (g : Geometry) (p : Path) → first_fault (path_faults p g) ≡ None → ((d : Drill) → p ≡ path.Cycle d → cycle.leaves_travel g d ≡ false) → AreInside g (path_segments p)
+path_inside : (g : Geometry) (p : Path) → first_fault (path_faults p g) ≡ None
+    → ((d : Drill) → p ≡ path.Cycle d → cycle.leaves_travel g d ≡ false) → AreInside g (path_segments p)
 unfolding stays_inside
 path_inside g path.Still e h = tt
 path_inside g path.WithoutFeed e h = tt
@@ -336,11 +367,14 @@ path_inside g (path.Round a) e h =
     let inside = both (is_inside g a.end) (extremes_inside a g) (not_false (stays_inside a g) (none_holds (path_faults (path.Round a) g) e).1.0) in
     (inside, tt)
 path_inside g (path.Homing way) e h =
-    let inside = both (is_inside g way.between) (is_inside g way.home) (not_false (is_inside g way.between && is_inside g way.home) (none_holds (path_faults (path.Homing way) g) e).1.0) in
+    let inside = both (is_inside g way.between) (is_inside g way.home)
+    (not_false (is_inside g way.between && is_inside g way.home)
+    (none_holds (path_faults (path.Homing way) g) e).1.0) in
     (inside.0, (inside.1, tt))
 path_inside g (path.Cycle d) e h = traced_inside g d (begin d) (strokes d) (h d refl)
 
-pub inside : (s : StateModel) (tools : List ℤ) (geometry : Geometry) (text : List ℕ) (done : Done) → executed s tools geometry text ≡ Ok done → All (StaysInside geometry) done.segments
+pub inside : (s : StateModel) (tools : List ℤ) (geometry : Geometry) (text : List ℕ) (done : Done)
+    → executed s tools geometry text ≡ Ok done → All (StaysInside geometry) done.segments
 inside s tools geometry text done e =
     let a = accepted s tools geometry text done e in
     let g = reached a.block a.values.assignments s tools geometry a.goal a.goal_is in

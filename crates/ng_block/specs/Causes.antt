@@ -4,7 +4,8 @@ use Rattle.std.specs.Prelude.{ℕ, ℤ, int_lt, Bool, true, false, ◌||◌, Lis
 use Rattle.std.specs.List.{list_any}
 use Rattle.std.specs.Result.{result_unwrap_or}
 use Rattle.ng_num.specs.declared.fault.Fault.{Fault}
-use Rattle.ng_num.specs.declared.fault.Fault.TheVariants.{LineTooLong, Unreadable, OutOfRange, CycleNoAxis, NoZ, NoR, RBelowZ, InverseTime, NoFeed, OutsideTravel}
+use Rattle.ng_num.specs.declared.fault.Fault.TheVariants.{LineTooLong, Unreadable, OutOfRange, CycleNoAxis, NoZ}
+use Rattle.ng_num.specs.declared.fault.Fault.TheVariants.{NoR, RBelowZ, InverseTime, NoFeed, OutsideTravel}
 use Rattle.ng_params.specs.Change.{with_changes}
 use Rattle.ng_canon.specs.Pace.{above_zero}
 use Rattle.ng_canon.specs.declared.geometry.Geometry.{Geometry}

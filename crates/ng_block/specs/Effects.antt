@@ -104,7 +104,8 @@ executed_values s remark values tools geometry =
 
 -- what the pieces of a line do: the faults of their values come first
 unfoldable pub executed_pieces : StateModel → List Piece → List ℤ → Geometry → Result Done Fault
-executed_pieces s pieces tools geometry = and_then (settled_pieces pieces s.params) (λ values. executed_values s (remark_of (last_comment pieces)) values tools geometry)
+executed_pieces s pieces tools geometry = and_then (settled_pieces pieces s.params)
+    (λ values. executed_values s (remark_of (last_comment pieces)) values tools geometry)
 
 -- what a line does, or why it is refused
 unfoldable pub executed : StateModel → List ℤ → Geometry → List ℕ → Result Done Fault

@@ -9,7 +9,7 @@ use ng_num::{Len, Num, Point, Unit};
 
 /// What a word of a block does besides a remark, a feed, a move and a stop.
 #[derive(Clone, Copy)]
-pub enum Action {
+pub(crate) enum Action {
     /// S: revolutions a minute.
     SpindleSpeed(Num),
     /// T: a slot.
@@ -133,7 +133,7 @@ impl Action {
 }
 
 /// The outputs after some actions.
-pub fn outputs_after(actions: &[Action], before: Outputs) -> Outputs
+pub(crate) fn outputs_after(actions: &[Action], before: Outputs) -> Outputs
     ensures { result ≡ outputs_after before actions.now }
 {
     let mut outputs = before;

@@ -15,13 +15,13 @@ use ng_num::Num;
 use ng_state::FeedMode;
 
 /// The most actions of a block.
-pub const ACTIONS: usize = 12;
+pub(crate) const ACTIONS: usize = 12;
 
 /// The actions of a block, in order.
-pub type Actions = ArrayVec<Action, ACTIONS>;
+pub(crate) type Actions = ArrayVec<Action, ACTIONS>;
 
 /// The same actions again.
-pub fn copied(actions: &Actions) -> Actions
+pub(crate) fn copied(actions: &Actions) -> Actions
     ensures { result.items ≡ actions.now.items }
 {
     let mut copy = Actions::new();
@@ -107,7 +107,7 @@ fn put_given(rows: &[Option<Action>], actions: &mut Actions)
 /// the line before them, so this is checked first.
 #[inline]
 #[tactic(auto, using(crate::proofs::ActionLemmas::no_actions, crate::proofs::ActionLemmas::no_items))]
-pub fn put_actions(
+pub(crate) fn put_actions(
     block: &Block,
     mode: FeedMode,
     before: &Outputs,
@@ -139,7 +139,7 @@ fn put_all(
 
 /// The outputs after a block's actions. What it prints of offsets switches none.
 #[tactic(auto, using(crate::proofs::ActionLemmas::no_actions))]
-pub fn outputs_at_motion(block: &Block, mode: FeedMode, before: &Outputs) -> Outputs
+pub(crate) fn outputs_at_motion(block: &Block, mode: FeedMode, before: &Outputs) -> Outputs
     ensures { result ≡ outputs_after before.now (actions_of block.now mode before.now nothing_shown) }
 {
     if gives_nothing(block, mode) {

@@ -29,7 +29,7 @@ fn keeps_modes(block: &Block) -> bool
 
 /// Stores the modes after a block. Most lines change none but the motion, so this is checked first.
 #[inline]
-pub fn put_modes_after(block: &Block, modes: &Modes, place: &mut Modes)
+pub(crate) fn put_modes_after(block: &Block, modes: &Modes, place: &mut Modes)
     ensures { place.new ≡ modes_after block.now modes.now }
 {
     if keeps_modes(block) {

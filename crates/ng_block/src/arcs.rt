@@ -98,7 +98,7 @@ fn turned(
 /// without an offset in its plane, with radii that differ, or with none.
 #[inline(never)]
 #[tactic(auto, unfolding(crate::specs::Arcs::path_along_arc))]
-pub fn path_along_arc(
+pub(crate) fn path_along_arc(
     block: &Block,
     modal: &ModalState,
     offsets: &Offsets,

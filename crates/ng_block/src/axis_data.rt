@@ -12,7 +12,7 @@ use std::alloc::Allocator;
 
 /// What axis data do.
 #[derive(Clone, Copy)]
-pub struct AxisData {
+pub(crate) struct AxisData {
     /// The offsets, if those in force change.
     pub new: Option<NewOffsets>,
     /// The changes of parameters that store an origin or an offset.
@@ -21,7 +21,7 @@ pub struct AxisData {
 
 /// The unit after a line's own word.
 #[inline]
-pub fn unit_after(block: &Block, modes: &Modes) -> Unit
+pub(crate) fn unit_after(block: &Block, modes: &Modes) -> Unit
     ensures { result ≡ unit_after block.now modes.now }
 {
     block.g.unit.unwrap_or(modes.unit)
@@ -29,14 +29,14 @@ pub fn unit_after(block: &Block, modes: &Modes) -> Unit
 
 /// The coordinate system in force after a line's own word.
 #[inline]
-pub fn system_after(block: &Block, modes: &Modes) -> System
+pub(crate) fn system_after(block: &Block, modes: &Modes) -> System
     ensures { result ≡ system_after block.now modes.now }
 {
     block.g.system.unwrap_or(modes.system)
 }
 
 /// The axes that a line names, each with its length.
-pub fn named_on(block: &Block, modes: &Modes) -> Result<Named, Fault>
+pub(crate) fn named_on(block: &Block, modes: &Modes) -> Result<Named, Fault>
     ensures { result ≡ named_on block.now modes.now }
 {
     let values = &block.values;
@@ -88,7 +88,7 @@ fn with_offset(
 
 /// What a line's word of group 0 does to the offsets in force after its coordinate system, with the table after its
 /// assignments. E3 if an offset, or a sum that is printed, is out of range.
-pub fn axis_data_of<A: Allocator + Copy + Drop>(
+pub(crate) fn axis_data_of<A: Allocator + Copy + Drop>(
     block: &Block,
     modal: &ModalState,
     offsets: &Offsets,

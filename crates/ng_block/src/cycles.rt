@@ -17,7 +17,7 @@ use ng_state::{Distance, KeptWords, ModalState, Modes, Motion, Retract};
 
 /// The kind of cycle of a motion. `None` if it isn't a cycle.
 #[inline]
-pub fn kind_of(motion: Option<Motion>) -> Option<CycleKind>
+pub(crate) fn kind_of(motion: Option<Motion>) -> Option<CycleKind>
     ensures { result ≡ kind_of motion }
 {
     match motion {
@@ -89,7 +89,7 @@ fn kept_for(kind: CycleKind, modal: &ModalState) -> KeptWords
 /// Stores the words kept after a line that has no cycle: another motion, G80 and the program's end drop those that were
 /// kept.
 #[inline(always)]
-pub fn put_kept_beside(block: &Block, modal: &ModalState, place: &mut KeptWords)
+pub(crate) fn put_kept_beside(block: &Block, modal: &ModalState, place: &mut KeptWords)
     ensures { place.new ≡ kept_beside block.now modal.now }
 {
     if block.g.motion.is_some() || ends(block.m.stop) {
@@ -115,7 +115,7 @@ fn kept_in(kind: CycleKind, block: &Block, modal: &ModalState) -> Result<KeptWor
 /// Stores the words kept after a cycle's line, with the same fault. It isn't inlined, so that other lines don't pay for
 /// its local variables.
 #[inline(never)]
-pub fn put_kept_in(
+pub(crate) fn put_kept_in(
     kind: CycleKind,
     block: &Block,
     modal: &ModalState,
@@ -202,7 +202,7 @@ fn context_of(
 /// coordinates decide: neither repeats nor pecks are walked.
 #[inline(never)]
 #[tactic(auto, unfolding(crate::specs::Cycles::cycle_path))]
-pub fn cycle_path(
+pub(crate) fn cycle_path(
     block: &Block,
     modal: &ModalState,
     offsets: &Offsets,

@@ -12,7 +12,7 @@ use ng_num::Point;
 const STOP_COMMANDS: usize = 7;
 
 /// The commands of a stop, in order.
-pub type StopCommands = ArrayVec<CanonicalCommand, STOP_COMMANDS>;
+pub(crate) type StopCommands = ArrayVec<CanonicalCommand, STOP_COMMANDS>;
 
 /// Whether a word ends the program: M2, M30.
 #[inline]
@@ -27,7 +27,7 @@ pub fn ends(word: Option<StopWord>) -> bool
 
 /// How the program goes on after a line with this word.
 #[inline]
-pub fn stop_of(word: Option<StopWord>) -> ProgramFlow
+pub(crate) fn stop_of(word: Option<StopWord>) -> ProgramFlow
     ensures { result ≡ stop_of word }
 {
     match word {
@@ -52,7 +52,7 @@ fn put_end(origin: Point, commands: &mut StopCommands)
 }
 
 /// What a stop prints, given the origin after the line.
-pub fn put_stop(word: Option<StopWord>, origin: Point, commands: &mut StopCommands)
+pub(crate) fn put_stop(word: Option<StopWord>, origin: Point, commands: &mut StopCommands)
     requires { commands.old.items ≡ [] }
     ensures { commands.new.items ≡ stop_commands word origin }
 {
@@ -90,7 +90,7 @@ pub fn turned_off(outputs: Outputs) -> Outputs
 
 /// The outputs after a stop: the program's end turns them off.
 #[inline]
-pub fn stop_outputs(word: Option<StopWord>, before: Outputs) -> Outputs
+pub(crate) fn stop_outputs(word: Option<StopWord>, before: Outputs) -> Outputs
     ensures { result ≡ stop_outputs word before }
 {
     if ends(word) {
@@ -101,7 +101,7 @@ pub fn stop_outputs(word: Option<StopWord>, before: Outputs) -> Outputs
 }
 
 /// What a stop switches, given the outputs before it.
-pub fn stop_segment(word: Option<StopWord>, before: Outputs) -> Option<Segment>
+pub(crate) fn stop_segment(word: Option<StopWord>, before: Outputs) -> Option<Segment>
     ensures { MatchOption result
         (stop_segments word before ≡ [])
         (λ segment. stop_segments word before ≡ segment ∷ []) }

@@ -19,7 +19,7 @@ fn stays_inside(arc: &Arc, geometry: &Geometry) -> bool
 
 /// The first fault of a path.
 #[inline]
-pub fn path_fault(path: &Path, geometry: &Geometry) -> Option<Fault>
+pub(crate) fn path_fault(path: &Path, geometry: &Geometry) -> Option<Fault>
     ensures { result ≡ first_fault (path_faults path.now geometry.now) }
 {
     match path {

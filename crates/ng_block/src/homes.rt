@@ -47,7 +47,7 @@ fn point_after<A: Allocator + Copy + Drop>(
 }
 
 /// The home that a line goes to, in machine coordinates, with the table after its assignments.
-pub fn home_on<A: Allocator + Copy + Drop>(
+pub(crate) fn home_on<A: Allocator + Copy + Drop>(
     word: Option<NonModal>,
     params: &Params<A>,
     assignments: &[Change],
@@ -64,7 +64,7 @@ pub fn home_on<A: Allocator + Copy + Drop>(
 /// The way to a home, through the point that a line's axis words name. The path is still if there is no home. E3 if a
 /// coordinate of that point is out of range.
 #[inline(never)]
-pub fn home_path(
+pub(crate) fn home_path(
     block: &Block,
     modal: &ModalState,
     offsets: &Offsets,

@@ -29,7 +29,7 @@ struct Reading {
 
 /// The feed mode after a line, by which its F is read.
 #[inline]
-pub fn feed_mode_after(block: &Block, modes: &Modes) -> FeedMode
+pub(crate) fn feed_mode_after(block: &Block, modes: &Modes) -> FeedMode
     ensures { result ≡ feed_mode_after block.now modes.now }
 {
     block.g.feed_mode.unwrap_or(modes.feed_mode)
@@ -37,7 +37,7 @@ pub fn feed_mode_after(block: &Block, modes: &Modes) -> FeedMode
 
 /// Whether an F is a time: G93.
 #[inline]
-pub fn is_inverse(mode: FeedMode) -> bool
+pub(crate) fn is_inverse(mode: FeedMode) -> bool
     ensures { result ≡ is_inverse mode }
 {
     match mode {
@@ -58,7 +58,7 @@ fn is_fed(motion: Option<Motion>) -> bool
 
 /// The F that sets the feed.
 #[inline]
-pub fn feed_word(mode: FeedMode, word: Option<Num>) -> Option<Num>
+pub(crate) fn feed_word(mode: FeedMode, word: Option<Num>) -> Option<Num>
     ensures { result ≡ feed_word mode word }
 {
     match mode {
@@ -69,7 +69,7 @@ pub fn feed_word(mode: FeedMode, word: Option<Num>) -> Option<Num>
 
 /// The feed that F prints: the feed after the line.
 #[inline]
-pub fn feed_set(block: &Block, mode: FeedMode, feed_per_min: Feed) -> Option<Feed>
+pub(crate) fn feed_set(block: &Block, mode: FeedMode, feed_per_min: Feed) -> Option<Feed>
     ensures { result ≡ feed_set block.now mode feed_per_min }
 {
     match feed_word(mode, block.values.f()) {
@@ -80,7 +80,7 @@ pub fn feed_set(block: &Block, mode: FeedMode, feed_per_min: Feed) -> Option<Fee
 
 /// The F that is the time of its line's move.
 #[inline]
-pub fn time_word(mode: FeedMode, motion: Option<Motion>, word: Option<Num>) -> Option<Num>
+pub(crate) fn time_word(mode: FeedMode, motion: Option<Motion>, word: Option<Num>) -> Option<Num>
     ensures { result ≡ time_word mode motion word }
 {
     match mode {
@@ -91,7 +91,7 @@ pub fn time_word(mode: FeedMode, motion: Option<Motion>, word: Option<Num>) -> O
 
 /// The feed after a line.
 #[inline]
-pub fn feed_of(block: &Block, modal: &ModalState) -> Result<Feed, Fault>
+pub(crate) fn feed_of(block: &Block, modal: &ModalState) -> Result<Feed, Fault>
     ensures { result ≡ feed_of block.now modal.now }
 {
     match feed_word(feed_mode_after(block, &modal.modes), block.values.f()) {
@@ -121,7 +121,7 @@ fn fed_pace(mode: FeedMode, feed_per_min: Feed, word: Option<Num>) -> Option<Pac
 
 /// The pace of a line's move. `None` if its feed or its time is missing.
 #[inline]
-pub fn pace_by(
+pub(crate) fn pace_by(
     motion: Option<Motion>,
     mode: FeedMode,
     feed_per_min: Feed,
@@ -171,7 +171,7 @@ fn coordinate(word: Option<Num>, reading: Reading, shift: Shift, machine: Len) -
 
 /// The end of a move under offsets. Nearly every line needs it, so it is always inlined.
 #[inline(always)]
-pub fn end_of(block: &Block, modal: &ModalState, offsets: &Offsets) -> Result<Point, Fault>
+pub(crate) fn end_of(block: &Block, modal: &ModalState, offsets: &Offsets) -> Result<Point, Fault>
     ensures { result ≡ end_of block.now modal.now offsets.now }
 {
     let reading = Reading {
@@ -222,7 +222,7 @@ fn straight_end_of(block: &Block, modal: &ModalState, offsets: &Offsets) -> Resu
 
 /// Whether a motion is G0 or G1.
 #[inline]
-pub fn is_straight(motion: Option<Motion>) -> bool
+pub(crate) fn is_straight(motion: Option<Motion>) -> bool
     ensures { result ≡ is_straight motion }
 {
     match motion {
@@ -281,7 +281,7 @@ fn path_unless_straight<A: Allocator + Copy + Drop>(
 /// Stores the path of a motion that isn't straight, under the offsets before the line, with the same faults. It isn't
 /// inlined, so that straight moves don't pay for its local variables.
 #[inline(never)]
-pub fn put_path_unless_straight<A: Allocator + Copy + Drop>(
+pub(crate) fn put_path_unless_straight<A: Allocator + Copy + Drop>(
     block: &Block,
     state: &State<A>,
     assignments: &[Change],
@@ -306,7 +306,7 @@ pub fn put_path_unless_straight<A: Allocator + Copy + Drop>(
 
 /// The path of a line's motion: under offsets, with the feed after the line, in the table that its assignments leave.
 /// E3 if one of its coordinates is out of range; else C1 to C4 of an arc, Y1 to Y8, X1, X2 of a cycle.
-pub fn path_of<A: Allocator + Copy + Drop>(
+pub(crate) fn path_of<A: Allocator + Copy + Drop>(
     block: &Block,
     state: &State<A>,
     assignments: &[Change],

@@ -14,7 +14,7 @@ use std::marker::Model;
 
 /// The way home: to an intermediate point, and on from there, both at the traverse rate.
 #[derive(Clone, Copy)]
-pub struct HomePath {
+pub(crate) struct HomePath {
     pub start: Point,
     pub between: Point,
     pub home: Point,
@@ -22,7 +22,7 @@ pub struct HomePath {
 
 /// The path of a block's motion.
 #[derive(Clone, Copy)]
-pub enum Path {
+pub(crate) enum Path {
     /// The machine stays where it is.
     Still,
     /// A move whose feed or time is missing: its block is refused (X1).
@@ -72,7 +72,7 @@ impl Path {
 
 /// A straight move at the traverse rate.
 #[inline]
-pub fn traverse(start: Point, end: Point) -> StraightMove
+pub(crate) fn traverse(start: Point, end: Point) -> StraightMove
     ensures { result ≡ traverse start end }
 {
     StraightMove {
@@ -97,7 +97,7 @@ fn next_in(cycle: &mut Option<Cycle>) -> Option<Segment>
 
 /// The remaining segments of a path.
 #[derive(Drop)]
-pub struct PathSegments {
+pub(crate) struct PathSegments {
     next: Option<Segment>,
     /// The straight move after the next segment.
     after_next: Option<StraightMove>,
@@ -196,7 +196,7 @@ impl PathSegments {
 
 /// The command of a straight move.
 #[inline]
-pub fn pace_command(pace: Pace, end: Point) -> CanonicalCommand
+pub(crate) fn pace_command(pace: Pace, end: Point) -> CanonicalCommand
     ensures { result ≡ pace_command pace end }
 {
     match pace {
@@ -220,7 +220,7 @@ fn arc_command(arc: &Arc) -> CanonicalCommand
 }
 
 /// The command of a spindle that is switched.
-pub fn spindle_command(spindle: Spindle) -> CanonicalCommand
+pub(crate) fn spindle_command(spindle: Spindle) -> CanonicalCommand
     ensures { result ≡ spindle_command spindle }
 {
     match spindle {
@@ -231,7 +231,7 @@ pub fn spindle_command(spindle: Spindle) -> CanonicalCommand
 }
 
 /// The command of a path's segment.
-pub fn command_of(segment: &Segment) -> CanonicalCommand
+pub(crate) fn command_of(segment: &Segment) -> CanonicalCommand
     ensures { result ≡ command_of segment.now }
 {
     match segment {

@@ -13,7 +13,7 @@ use ng_modal::StopWord;
 
 /// A valid block: its parts in the order in which they act (NISTIR 6556, 3.8, table 8), and the outputs before it.
 #[derive(Drop)]
-pub struct Plan {
+pub(crate) struct Plan {
     pub remark: Remark,
     /// The feed that its F sets.
     pub feed: Option<Feed>,
@@ -50,7 +50,7 @@ fn outputs_of(actions: &Actions, stop: Option<StopWord>, before: Outputs) -> Out
 /// Stores the outputs after a block, given those before it. Most blocks switch nothing, so this is checked first.
 #[inline]
 #[tactic(auto, using(crate::proofs::ActionLemmas::no_items))]
-pub fn put_outputs_after(
+pub(crate) fn put_outputs_after(
     actions: &Actions,
     stop: Option<StopWord>,
     before: &Outputs,

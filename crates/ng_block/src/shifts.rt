@@ -18,7 +18,7 @@ use std::alloc::Allocator;
 
 /// What the steps of a line print of the offsets. `None` if a step leaves them unchanged.
 #[derive(Clone, Copy)]
-pub struct Shown {
+pub(crate) struct Shown {
     /// The tool length after G43 or G49.
     pub tool_length: Option<Len>,
     /// Origin plus G92 offset after G54 to G59.3.
@@ -44,7 +44,7 @@ impl Shown {
 
 /// The offsets after a line's words.
 #[derive(Clone, Copy)]
-pub struct Shifted {
+pub(crate) struct Shifted {
     pub offsets: Offsets,
     pub shown: Shown,
     /// The changes of parameters that its axis data make.
@@ -53,7 +53,7 @@ pub struct Shifted {
 
 /// Whether no word of a line changes an offset or stores one.
 #[inline]
-pub fn keeps_offsets(block: &Block) -> bool
+pub(crate) fn keeps_offsets(block: &Block) -> bool
     ensures { result ≡ keeps_offsets block.now }
 {
     let words = &block.g;
@@ -132,7 +132,7 @@ fn with_system<A: Allocator + Copy + Drop>(
 /// The offsets after a line's words, with the table after its assignments. E3 if one of them, or a sum that is printed,
 /// is out of range.
 #[inline(never)]
-pub fn shift_of<A: Allocator + Copy + Drop>(
+pub(crate) fn shift_of<A: Allocator + Copy + Drop>(
     block: &Block,
     modal: &ModalState,
     params: &Params<A>,

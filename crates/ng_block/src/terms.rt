@@ -1,3 +1,4 @@
+//! What a program is run with.
 use ng_canon::Geometry;
 use ng_offsets::Tools;
 use std::marker::Model;

@@ -8,7 +8,9 @@ use Rattle.ng_layout.specs.Stored.{StoredModel}
 use Rattle.ng_journal.specs.Journal.{JournalModel}
 use Rattle.ng_journal.specs.Storing.{ledger_of}
 use Rattle.ng_session.specs.Entries.{after_load}
-use Rattle.ng_session.specs.Session.{CurrentBlockModel, SessionModel, Transition, answers, tick, end, item_of, handed, is_running, rest, committed, load, load_unless, load_refusal, loaded, session_status}
+use Rattle.ng_session.specs.Session.{CurrentBlockModel, SessionModel, Transition, answers, tick, end, item_of}
+use Rattle.ng_session.specs.Session.{handed, is_running, rest, committed, load, load_unless, load_refusal, loaded}
+use Rattle.ng_session.specs.Session.{session_status}
 use Rattle.ng_session.specs.declared.reply.Reply.{Reply}
 use Rattle.ng_session.specs.declared.reply.Reply.TheVariants as reply
 use Rattle.ng_core.specs.Model.{ControllerModel}
@@ -17,7 +19,9 @@ use Rattle.ng_core.proofs.TickChoiceLemmas.{with_session}
 use Rattle.ng_core.proofs.TickLemmas.{IsDue, tick_held, tick_item, rests_there}
 
 -- the device wasn't called, or it failed
-pub stays_same : {R : Type 0} (reads : Type 0) (fault : Fault) (old new : ControllerModel R) → new.session ≡ old.session → (fault ≢ DeviceFailed → new.journal ≡ old.journal) → KeepsSession reads fault old new
+pub stays_same : {R : Type 0} (reads : Type 0) (fault : Fault) (old new : ControllerModel R)
+    → new.session ≡ old.session → (fault ≢ DeviceFailed → new.journal ≡ old.journal)
+    → KeepsSession reads fault old new
 stays_same {R} reads fault old new same journal = record {
   status = ap session_status same;
   session = λ other. same;
@@ -26,11 +30,18 @@ stays_same {R} reads fault old new same journal = record {
 }
 
 -- a line may be read in more cases
-stays_wider : {R : Type 0} (reads wider : Type 0) (fault : Fault) (old new : ControllerModel R) → (reads → wider) → KeepsSession reads fault old new → KeepsSession wider fault old new
-stays_wider reads wider fault old new wide s = record { status = s.status; session = s.session; ledger = s.ledger; journal = λ other none. s.journal other (λ r. none (wide r)) }
+stays_wider : {R : Type 0} (reads wider : Type 0) (fault : Fault) (old new : ControllerModel R) → (reads → wider)
+    → KeepsSession reads fault old new → KeepsSession wider fault old new
+stays_wider reads wider fault old new wide s = record {
+  status = s.status;
+  session = s.session;
+  ledger = s.ledger;
+  journal = λ other none. s.journal other (λ r. none (wide r));
+}
 
 -- a counter was used up, or the device failed
-pub unless_lost : {J : Type 0} (fault : Fault) (old new : J) → (fault ≡ CountersUsed) ⊎ (fault ≡ DeviceFailed) → (fault ≡ CountersUsed → new ≡ old) → fault ≢ DeviceFailed → new ≡ old
+pub unless_lost : {J : Type 0} (fault : Fault) (old new : J) → (fault ≡ CountersUsed) ⊎ (fault ≡ DeviceFailed)
+    → (fault ≡ CountersUsed → new ≡ old) → fault ≢ DeviceFailed → new ≡ old
 unless_lost fault old new (inl used) same other = same used
 unless_lost fault old new (inr lost) same other = absurd (other lost)
 
@@ -40,7 +51,8 @@ comes_by reads r out old new replied next = λ read program. (replied program, n
 
 -- for an equal outcome, and if a line may be read in more cases
 pub comes_to : {R : Type 0} (reads wider : Type 0) (answer : Result Reply Fault) (out wanted : List ℕ → Transition) (old new : ControllerModel R)
-    → (reads → wider) → ((program : List ℕ) → out program ≡ wanted program) → IsAnsweredAnyway reads answer out old new → IsAnsweredAnyway wider answer wanted old new
+    → (reads → wider) → ((program : List ℕ) → out program ≡ wanted program)
+    → IsAnsweredAnyway reads answer out old new → IsAnsweredAnyway wider answer wanted old new
 comes_to reads wider (Ok r) out wanted old new wide equal comes = λ read program.
     let here = comes (λ p. read (wide p)) program in
     (here.0 ∙ ap (λ (o : Transition). o.reply) (equal program), here.1 ∙ ap (λ (o : Transition). o.next) (equal program))
@@ -48,7 +60,8 @@ comes_to reads wider (Err fault) out wanted old new wide equal stays = stays_wid
 
 -- ---- a Tick: held, an item, a segment, an entry, a line, nothing
 
-pub comes_held : {R : Type 0} (reads : Type 0) (c : ControllerModel R) → c.session.held ≡ true → IsAnsweredAnyway reads (Ok reply.Held) (λ program. tick c.geometry program c.session) c c
+pub comes_held : {R : Type 0} (reads : Type 0) (c : ControllerModel R) → c.session.held ≡ true
+    → IsAnsweredAnyway reads (Ok reply.Held) (λ program. tick c.geometry program c.session) c c
 comes_held reads c held =
     comes_to reads reads (Ok reply.Held) (λ program. answers program reply.Held c.session) (λ program. tick c.geometry program c.session) c c (λ p. p)
     (λ program. sym (tick_held c.geometry program c.session held))
@@ -57,14 +70,22 @@ comes_held reads c held =
 comes_before : {R : Type 0} (answer : Result Reply Fault) (out : List ℕ → Transition) (old new : ControllerModel R)
     → IfErr answer (λ e. e ≡ DeviceFailed) → IsAnsweredAnyway ⊥ answer out (with_session old (handed old.session)) new → IsAnsweredAnyway ⊥ answer out old new
 comes_before (Ok r) out old new errors comes = comes
-comes_before (Err fault) out old new errors stays = record { status = stays.status; session = λ other. absurd (other errors); ledger = stays.ledger; journal = stays.journal }
+comes_before (Err fault) out old new errors stays =
+    record {
+      status = stays.status;
+      session = λ other. absurd (other errors);
+      ledger = stays.ledger;
+      journal =
+          stays.journal;
+    }
 
 pub comes_item : {R : Type 0} (reads : Type 0) (answer : Result Reply Fault) (item : Item) (old new : ControllerModel R) (taken : SessionModel)
     → old.session.held ≡ false → Some item ≡ item_of old.session.current → taken ≡ handed old.session → IfErr answer (λ e. e ≡ DeviceFailed)
     → IsAnsweredAnyway ⊥ answer (λ program. handing item program taken) (with_session old taken) new
     → IsAnsweredAnyway reads answer (λ program. tick old.geometry program old.session) old new
 comes_item reads answer item old new taken held is next errors comes =
-    comes_to ⊥ reads answer (λ program. handing item program (handed old.session)) (λ program. tick old.geometry program old.session) old new (λ none. absurd none)
+    comes_to ⊥ reads answer (λ program. handing item program (handed old.session))
+    (λ program. tick old.geometry program old.session) old new (λ none. absurd none)
     (λ program. sym (tick_item old.geometry program old.session item held (sym is)))
     (comes_before answer (λ program. handing item program (handed old.session)) old new errors
     (subst (λ (s : SessionModel). IsAnsweredAnyway ⊥ answer (λ program. handing item program s) (with_session old s) new) next comes))
@@ -73,7 +94,8 @@ pub comes_commit : {R : Type 0} (reads : Type 0) (r : Reply) (saved : StoredMode
     → r ≡ reply.Done (committed old.session due.block).stored.entries → new.session ≡ committed old.session due.block
     → IsAnsweredAnyway reads (Ok r) (λ program. end old.geometry program old.session old.session.current) old new
 comes_commit reads r saved old new due replied next =
-    comes_to reads reads (Ok r) (λ program. end old.geometry program old.session (Some due.block)) (λ program. end old.geometry program old.session old.session.current) old new (λ p. p)
+    comes_to reads reads (Ok r) (λ program. end old.geometry program old.session (Some due.block))
+    (λ program. end old.geometry program old.session old.session.current) old new (λ p. p)
     (λ program. sym (ap (λ (o : Option CurrentBlockModel). end old.geometry program old.session o) due.current))
     (comes_by reads r (λ program. end old.geometry program old.session (Some due.block)) old new (λ program. replied) (λ program. next))
 
@@ -88,7 +110,8 @@ comes_rest reads r c none idle replied =
 -- ---- a program
 
 pub comes_load : {R : Type 0} (reads : Type 0) (r : Reply) (saved : StoredModel) (text : List ℕ) (old new : ControllerModel R)
-    → load_refusal old.session text ≡ None → saved ≡ after_load old.session.stored (length text) → r ≡ reply.Done saved.entries → new.session ≡ loaded old.session saved
+    → load_refusal old.session text ≡ None → saved ≡ after_load old.session.stored (length text)
+    → r ≡ reply.Done saved.entries → new.session ≡ loaded old.session saved
     → IsAnsweredAnyway reads (Ok r) (λ program. load program old.session text) old new
 comes_load reads r saved text old new free is replied next =
     comes_to reads reads (Ok r) (λ program. load_unless program old.session text None) (λ program. load program old.session text) old new (λ p. p)

@@ -9,7 +9,9 @@ use Rattle.ng_canon.specs.declared.item.Item.{Item}
 use Rattle.ng_rig.specs.Rig.{Device}
 use Rattle.ng_journal.specs.Journal.{JournalModel, CountsFailure, IsBrokenBy}
 use Rattle.ng_journal.specs.Storing.{Ledger, ledger_of}
-use Rattle.ng_session.specs.Session.{CurrentBlockModel, SessionModel, Transition, IsBetweenLines, has_work, is_running, refuses, answers, tick, open_next, item_of, handed, opening_of, session_status}
+use Rattle.ng_session.specs.Session.{CurrentBlockModel, SessionModel, Transition, IsBetweenLines, has_work}
+use Rattle.ng_session.specs.Session.{is_running, refuses, answers, tick, open_next, item_of, handed, opening_of}
+use Rattle.ng_session.specs.Session.{session_status}
 use Rattle.ng_session.specs.declared.reply.Reply.{Reply}
 use Rattle.ng_session.specs.declared.reply.Reply.TheVariants as reply
 use Rattle.ng_core.specs.Model.{ControllerModel}
@@ -33,7 +35,8 @@ module _ {R : Type 0} (seen : R → Device) where
   -- ---- equal controllers and outcomes
 
   -- from an equal controller
-  pub carried_as : (memory device reads : ControllerModel R → Type 0) (out : ControllerModel R → List ℕ → Transition) (answer : Result Reply Fault) (old mid new : ControllerModel R)
+  pub carried_as : (memory device reads : ControllerModel R → Type 0) (out : ControllerModel R → List ℕ
+      → Transition) (answer : Result Reply Fault) (old mid new : ControllerModel R)
       → mid ≡ old → CarriesOut seen (needs (memory mid) (device mid) (reads mid)) (out mid) answer mid new
       → CarriesOut seen (needs (memory old) (device old) (reads old)) (out old) answer old new
   carried_as memory device reads out answer old mid new same c =
@@ -85,8 +88,10 @@ module _ {R : Type 0} (seen : R → Device) where
       → c.journal.broken ≡ false → (reads → ⊥) → ((program : List ℕ) → refuses program fault c.session ≡ out program)
       → CarriesOut seen (needs memory device reads) out (Ok (reply.Refused fault)) c c
   carried_refused memory device reads fault out c whole unread equal =
-      carried_to memory memory device device reads reads (λ program. refuses program fault c.session) out (Ok (reply.Refused fault)) c c (λ m. m) (λ d. d) (λ e. e) (λ e. e) equal
-      (carried_still memory device reads (reply.Refused fault) (λ program. refuses program fault c.session) c c whole unread (λ program. still refl refl refl refl) refl refl refl (λ program. refl) (λ program. refl))
+      carried_to memory memory device device reads reads (λ program. refuses program fault c.session) out
+      (Ok (reply.Refused fault)) c c (λ m. m) (λ d. d) (λ e. e) (λ e. e) equal
+      (carried_still memory device reads (reply.Refused fault) (λ program. refuses program fault c.session) c c
+      whole unread (λ program. still refl refl refl refl) refl refl refl (λ program. refl) (λ program. refl))
 
   -- there was no memory
   pub carried_short : (memory device reads : Type 0) (fault : Fault) (out : List ℕ → Transition) (old new : ControllerModel R)
@@ -132,10 +137,13 @@ module _ {R : Type 0} (seen : R → Device) where
 
   -- to store something: a counter is used up, or the device failed
   pub carried_failed : (memory device reads : Type 0) (fault e : Fault) (out : List ℕ → Transition) (old new : ControllerModel R)
-      → fault ≡ e → IsCarriedOutIfHonest seen (Err e) out old new → MakesIfHonest seen (Err e) out old new → (e ≡ CountersUsed) ⊎ (e ≡ DeviceFailed) → (e ≡ CountersUsed → new.journal ≡ old.journal)
+      → fault ≡ e → IsCarriedOutIfHonest seen (Err e) out old new → MakesIfHonest seen (Err e) out old new
+      → (e ≡ CountersUsed) ⊎ (e ≡ DeviceFailed) → (e ≡ CountersUsed → new.journal ≡ old.journal)
       → new.geometry ≡ old.geometry → new.session ≡ old.session → new.lines ≡ old.lines
       → IsCausedBy memory device (ledger_of old.journal) out e
-      → IsBrokenBy {T = Reply} (Err e) new.journal.broken → (seen new.journal.rig).sectors ≡ (seen old.journal.rig).sectors → CountsFailure {T = Reply} (Err e) (seen old.journal.rig).failed (seen new.journal.rig).failed
+      → IsBrokenBy {T = Reply} (Err e) new.journal.broken
+      → (seen new.journal.rig).sectors ≡ (seen old.journal.rig).sectors
+      → CountsFailure {T = Reply} (Err e) (seen old.journal.rig).failed (seen new.journal.rig).failed
       → CarriesOut seen (needs memory device reads) out (Err fault) old new
   carried_failed memory device reads fault e out old new is does made which unchanged geometry kept lines hindered broken size failures =
       let there : CarriesOut seen (needs memory device reads) out (Err e) old new = record {
@@ -158,9 +166,13 @@ module _ {R : Type 0} (seen : R → Device) where
 
   -- for something that uses up no counter, and the device failed
   pub carried_lost : (memory device reads : Type 0) (fault e : Fault) (out : List ℕ → Transition) (old new : ControllerModel R)
-      → fault ≡ e → IsCarriedOutIfHonest seen (Err e) out old new → CallsIfHonest seen (Err e) out old new → e ≡ DeviceFailed → device → ((program : List ℕ) → UsesUpCounter (ledger_of old.journal) (out program) → ⊥)
+      → fault ≡ e → IsCarriedOutIfHonest seen (Err e) out old new → CallsIfHonest seen (Err e) out old new
+      → e ≡ DeviceFailed → device → ((program : List ℕ) → UsesUpCounter (ledger_of old.journal) (out program)
+      → ⊥)
       → new.geometry ≡ old.geometry → new.session ≡ old.session
-      → IsBrokenBy {T = Reply} (Err e) new.journal.broken → (seen new.journal.rig).sectors ≡ (seen old.journal.rig).sectors → CountsFailure {T = Reply} (Err e) (seen old.journal.rig).failed (seen new.journal.rig).failed
+      → IsBrokenBy {T = Reply} (Err e) new.journal.broken
+      → (seen new.journal.rig).sectors ≡ (seen old.journal.rig).sectors
+      → CountsFailure {T = Reply} (Err e) (seen old.journal.rig).failed (seen new.journal.rig).failed
       → CarriesOut seen (needs memory device reads) out (Err fault) old new
   carried_lost memory device reads fault e out old new is does calls lost asked unused geometry kept broken size failures =
       let there : CarriesOut seen (needs memory device reads) out (Err e) old new = record {
@@ -180,10 +192,12 @@ module _ {R : Type 0} (seen : R → Device) where
 
   -- for a line of the program, and then there was no memory
   pub carried_read : (memory device reads : Type 0) (fault : Fault) (out : List ℕ → Transition) (old new : ControllerModel R)
-      → fault ≡ OutOfMemory → memory → IsCarriedOutIfHonest seen (Err fault) out old new → ((seen old.journal.rig).honest → (seen new.journal.rig).trace ≡ (seen old.journal.rig).trace)
+      → fault ≡ OutOfMemory → memory → IsCarriedOutIfHonest seen (Err fault) out old new
+      → ((seen old.journal.rig).honest → (seen new.journal.rig).trace ≡ (seen old.journal.rig).trace)
       → new.geometry ≡ old.geometry → new.session ≡ old.session → new.lines ≡ old.lines
       → ledger_of new.journal ≡ ledger_of old.journal → ((reads → ⊥) → new.journal ≡ old.journal)
-      → new.journal.broken ≡ false → (seen new.journal.rig).sectors ≡ (seen old.journal.rig).sectors → (seen new.journal.rig).failed ≡ (seen old.journal.rig).failed
+      → new.journal.broken ≡ false → (seen new.journal.rig).sectors ≡ (seen old.journal.rig).sectors
+      → (seen new.journal.rig).failed ≡ (seen old.journal.rig).failed
       → CarriesOut seen (needs memory device reads) out (Err fault) old new
   carried_read memory device reads fault out old new is taken does unwritten geometry kept lines ledger unread whole size failures = record {
     does = does;
@@ -206,7 +220,9 @@ module _ {R : Type 0} (seen : R → Device) where
       → CarriesOut seen (needs memory device reads) (λ program. tick c.geometry program c.session) (Ok reply.Held) c c
   carried_held memory device reads c whole unread held = record {
     does = does_held seen c held;
-    calls = calls_on seen (Ok reply.Held) (λ program. answers program reply.Held c.session) (λ program. tick c.geometry program c.session) c c (λ program. sym (tick_held c.geometry program c.session held))
+    calls = calls_on seen (Ok reply.Held) (λ program. answers program reply.Held c.session)
+        (λ program. tick c.geometry program c.session) c c
+        (λ program. sym (tick_held c.geometry program c.session held))
         (calls_quiet seen reply.Held (λ program. answers program reply.Held c.session) c c (λ program. still refl refl refl refl) (λ h. refl));
     reads = reads_on seen (Ok reply.Held) (λ program. answers program reply.Held c.session)
         (λ program. tick c.geometry program c.session) c c
@@ -215,7 +231,9 @@ module _ {R : Type 0} (seen : R → Device) where
         (λ program. still refl refl refl refl) refl refl (λ program. refl) (λ program. refl));
     comes = comes_held reads c held;
     line = λ read. absurd (unread read);
-    ledger = ledger_on seen (Ok reply.Held) (λ program. answers program reply.Held c.session) (λ program. tick c.geometry program c.session) c c (λ program. sym (tick_held c.geometry program c.session held)) (λ program. refl);
+    ledger = ledger_on seen (Ok reply.Held) (λ program. answers program reply.Held c.session)
+        (λ program. tick c.geometry program c.session) c c
+        (λ program. sym (tick_held c.geometry program c.session held)) (λ program. refl);
     hindered = tt;
     broken = whole;
     geometry = refl;
@@ -228,7 +246,8 @@ module _ {R : Type 0} (seen : R → Device) where
   some_item (Some c) item is = refl
 
   -- what is handed out uses up no counter and needs no memory
-  lost_alone : (ledger : Ledger) (item : Item) (s : SessionModel) (fault : Fault) → IsCausedBy ⊥ (Unit {0}) ledger (λ program. handing item program s) fault → fault ≡ DeviceFailed
+  lost_alone : (ledger : Ledger) (item : Item) (s : SessionModel) (fault : Fault)
+      → IsCausedBy ⊥ (Unit {0}) ledger (λ program. handing item program s) fault → fault ≡ DeviceFailed
   lost_alone ledger item s fault (inl short) = absurd short.1
   lost_alone ledger item s fault (inr (inl used)) = absurd (used.1 [])
   lost_alone ledger item s fault (inr (inr lost)) = lost.0
@@ -240,7 +259,8 @@ module _ {R : Type 0} (seen : R → Device) where
   carried_item answer item old new taken held is next c =
       let ledger = ledger_of old.journal in
       let errors : IfErr answer (λ e. e ≡ DeviceFailed) =
-      IfErr-weaker answer (IsCausedBy ⊥ (Unit {0}) ledger (λ program. handing item program taken)) (λ e. e ≡ DeviceFailed) (lost_alone ledger item taken) c.hindered in
+      IfErr-weaker answer (IsCausedBy ⊥ (Unit {0}) ledger (λ program. handing item program taken))
+      (λ e. e ≡ DeviceFailed) (lost_alone ledger item taken) c.hindered in
       let comes =
       comes_item ((old.session.held ≡ false) × IsBetweenLines old.session) answer item old new taken held is next errors
       c.comes in
@@ -255,7 +275,8 @@ module _ {R : Type 0} (seen : R → Device) where
         ledger = ledger_on seen answer (λ program. handing item program taken) (λ program. tick old.geometry program old.session) old new
             (λ program. ap (handing item program) next ∙ sym (tick_item old.geometry program old.session item held (sym is))) c.ledger;
         hindered = IfErr-weaker answer (λ e. e ≡ DeviceFailed)
-            (IsCausedBy ((old.session.held ≡ false) × IsBetweenLines old.session) ((old.session.held ≡ false) × (has_work old.session ≡ true)) ledger (λ program. tick old.geometry program old.session))
+            (IsCausedBy ((old.session.held ≡ false) × IsBetweenLines old.session) ((old.session.held ≡ false)
+            × (has_work old.session ≡ true)) ledger (λ program. tick old.geometry program old.session))
             (λ e lost. inr (inr (
               lost,
               (held, busy_block (is_running old.session.activity) old.session.current (some_item old.session.current item is)),
@@ -272,11 +293,14 @@ module _ {R : Type 0} (seen : R → Device) where
       → CarriesOut seen (needs_of_work left) (λ program. open_next old.geometry program left (opening_of left.current)) answer (with_session old left) new
       → CarriesOut seen (needs_of_tick old.session) (λ program. tick old.geometry program old.session) answer old new
   carried_further answer old new left held none same c =
-      carried_to (IsBetweenLines old.session) ((old.session.held ≡ false) × IsBetweenLines old.session) (has_work old.session ≡ true) ((old.session.held ≡ false) × (has_work old.session ≡ true))
+      carried_to (IsBetweenLines old.session) ((old.session.held ≡ false) × IsBetweenLines old.session)
+      (has_work old.session ≡ true) ((old.session.held ≡ false) × (has_work old.session ≡ true))
       (IsBetweenLines old.session) ((old.session.held ≡ false) × IsBetweenLines old.session)
       (λ program. open_next old.geometry program old.session (opening_of old.session.current)) (λ program. tick old.geometry program old.session) answer old new
       (λ p. (held, p)) (λ b. (held, b)) (λ p. (held, p)) (λ read. read.1) (λ program. sym (tick_none old.geometry program old.session held (sym none)))
-      (subst (λ (s : SessionModel). CarriesOut seen (needs_of_work s) (λ program. open_next old.geometry program s (opening_of s.current)) answer (with_session old s) new) same c)
+      (subst (λ (s : SessionModel). CarriesOut seen (needs_of_work s)
+      (λ program. open_next old.geometry program s (opening_of s.current)) answer (with_session old s) new) same
+      c)
 
 -- what holds if there is a value
 pub by_some : {T : Type 0} (P : Type 0) (Q : T → Type 0) (o : Option T) → true ≡ is_some o → MatchOption o P Q → (x : T) × Q x

@@ -40,7 +40,8 @@ pub acts_quiet : {R : Type 0} (r : Reply) (out : Transition) (program : List ℕ
 acts_quiet r out program old new trace_old trace_new alive rests journal lines replied next none same stored =
     subst (λ (l : Trace). IsCarriedOut (Ok r) out program old new trace_old l) (sym alive) (record {
       comes = (replied, next);
-      stops = stays trace_old (IsCrashOfEither (crash_in (program_session_of program old) (items trace_old)) (crash_in (session_of_transition out) (items trace_old ++ out.items)));
+      stops = stays trace_old (IsCrashOfEither (crash_in (program_session_of program old) (items trace_old))
+          (crash_in (session_of_transition out) (items trace_old ++ out.items)));
       leaves = (
         (
           rests_as trace_old old.journal new.journal (durable_state_of program old.session) (durable_state_of out.program new.session) journal
@@ -54,13 +55,17 @@ acts_quiet r out program old new trace_old trace_new alive rests journal lines r
 
 -- lines were read, and what is stored is unchanged
 pub acts_read : {R : Type 0} (r : Reply) (out : Transition) (program : List ℕ) (old new : ControllerModel R) (trace_old trace_new : Trace)
-    → trace_new ≡ trace_old → IsDurablyAt trace_new new.journal (durable_state_of program old.session) → IsKnownOf out.program new.lines → r ≡ out.reply → new.session ≡ out.next
+    → trace_new ≡ trace_old → IsDurablyAt trace_new new.journal (durable_state_of program old.session)
+    → IsKnownOf out.program new.lines → r ≡ out.reply → new.session ≡ out.next
     → out.items ≡ [] → out.program ≡ program → out.next.stored ≡ old.session.stored
     → IsCarriedOut (Ok r) out program old new trace_old trace_new
 acts_read r out program old new trace_old trace_new alive rests known replied next none same stored = record {
   comes = (replied, next);
-  stops = subst (λ (l : Trace). IsContinuation trace_old l (IsCrashOfEither (crash_in (program_session_of program old) (items trace_old)) (crash_in (session_of_transition out) (items trace_old ++ out.items)))) (sym alive)
-      (stays trace_old (IsCrashOfEither (crash_in (program_session_of program old) (items trace_old)) (crash_in (session_of_transition out) (items trace_old ++ out.items))));
+  stops = subst (λ (l : Trace).
+      IsContinuation trace_old l (IsCrashOfEither (crash_in (program_session_of program old) (items trace_old))
+      (crash_in (session_of_transition out) (items trace_old ++ out.items)))) (sym alive)
+      (stays trace_old (IsCrashOfEither (crash_in (program_session_of program old) (items trace_old))
+      (crash_in (session_of_transition out) (items trace_old ++ out.items))));
   leaves = (
     (
       rests_as trace_new new.journal new.journal (durable_state_of program old.session) (durable_state_of out.program new.session) refl
@@ -74,28 +79,40 @@ acts_read r out program old new trace_old trace_new alive rests known replied ne
 
 -- there was no memory, or no count was left, and nothing was written
 pub acts_aside : {R : Type 0} (fault : Fault) (out : Transition) (program : List ℕ) (old new : ControllerModel R) (trace_old trace_new : Trace)
-    → (fault ≡ OutOfMemory) ⊎ (fault ≡ CountersUsed) → trace_new ≡ trace_old → new.session ≡ old.session → IsDurablyAt trace_new new.journal (durable_state_of program old.session) → IsKnownOf program new.lines
+    → (fault ≡ OutOfMemory) ⊎ (fault ≡ CountersUsed) → trace_new ≡ trace_old → new.session ≡ old.session
+    → IsDurablyAt trace_new new.journal (durable_state_of program old.session) → IsKnownOf program new.lines
     → IsCarriedOut (Err fault) out program old new trace_old trace_new
 acts_aside {R} fault out program old new trace_old trace_new which alive same rests known =
     let Goal : Fault → Type 0 = λ f. IsCarriedOut (Err f) out program old new trace_old trace_new in
-    let at : IsDurablyAt trace_new new.journal (durable_state_of program new.session) = rests_as trace_new new.journal new.journal (durable_state_of program old.session) (durable_state_of program new.session) refl
+    let at : IsDurablyAt trace_new new.journal (durable_state_of program new.session) =
+    rests_as trace_new new.journal new.journal (durable_state_of program old.session)
+    (durable_state_of program new.session) refl
     (standing_same program program new.session old.session refl (ap (λ (s : SessionModel). s.stored) same)) rests in
     let here : IsAtRestWith trace_new new program = (at, known) in
-    let stops : IsContinuation trace_old trace_new (IsCrashOfEither (crash_in (program_session_of program old) (items trace_old)) (crash_in (session_of_transition out) (items trace_old ++ out.items))) =
-    subst (λ (l : Trace). IsContinuation trace_old l (IsCrashOfEither (crash_in (program_session_of program old) (items trace_old)) (crash_in (session_of_transition out) (items trace_old ++ out.items)))) (sym alive)
-    (stays trace_old (IsCrashOfEither (crash_in (program_session_of program old) (items trace_old)) (crash_in (session_of_transition out) (items trace_old ++ out.items)))) in
+    let stops : IsContinuation trace_old trace_new
+    (IsCrashOfEither (crash_in (program_session_of program old) (items trace_old))
+    (crash_in (session_of_transition out) (items trace_old ++ out.items))) =
+    subst (λ (l : Trace).
+    IsContinuation trace_old l (IsCrashOfEither (crash_in (program_session_of program old) (items trace_old))
+    (crash_in (session_of_transition out) (items trace_old ++ out.items)))) (sym alive)
+    (stays trace_old (IsCrashOfEither (crash_in (program_session_of program old) (items trace_old))
+    (crash_in (session_of_transition out) (items trace_old ++ out.items)))) in
     let short : Goal OutOfMemory = record { comes = same; stops = stops; leaves = (here, alive); untouched = tt } in
     let used : Goal CountersUsed = record { comes = same; stops = stops; leaves = (here, alive); untouched = tt } in
     ⊎_elim (λ e. subst Goal (sym e) short) (λ e. subst Goal (sym e) used) which
 
 -- the device failed in a call that wrote nothing
 pub acts_unread : {R : Type 0} (fault : Fault) (out : Transition) (program : List ℕ) (old new : ControllerModel R) (trace_old trace_new : Trace)
-    → fault ≡ DeviceFailed → trace_new ≡ trace_old → session_status new.session ≡ session_status old.session → IsCarriedOut (Err fault) out program old new trace_old trace_new
+    → fault ≡ DeviceFailed → trace_new ≡ trace_old → session_status new.session ≡ session_status old.session
+    → IsCarriedOut (Err fault) out program old new trace_old trace_new
 acts_unread fault out program old new trace_old trace_new is alive same =
     subst (λ (f : Fault). IsCarriedOut (Err f) out program old new trace_old trace_new) (sym is) (record {
       comes = same;
-      stops = subst (λ (l : Trace). IsContinuation trace_old l (IsCrashOfEither (crash_in (program_session_of program old) (items trace_old)) (crash_in (session_of_transition out) (items trace_old ++ out.items)))) (sym alive)
-          (stays trace_old (IsCrashOfEither (crash_in (program_session_of program old) (items trace_old)) (crash_in (session_of_transition out) (items trace_old ++ out.items))));
+      stops = subst (λ (l : Trace).
+          IsContinuation trace_old l (IsCrashOfEither (crash_in (program_session_of program old) (items trace_old))
+          (crash_in (session_of_transition out) (items trace_old ++ out.items)))) (sym alive)
+          (stays trace_old (IsCrashOfEither (crash_in (program_session_of program old) (items trace_old))
+          (crash_in (session_of_transition out) (items trace_old ++ out.items))));
       leaves = tt;
       untouched = tt;
     })
@@ -105,10 +122,22 @@ moved_stops : (trace_old trace_new : Trace) (before after : DurableState) (given
     → IsContinuation trace_old trace_new (IsEither (Ok before) (Ok after) (items trace_old))
     → IsContinuation trace_old trace_new (IsCrashOfEither (record { standing = before; items = given }) (record { standing = after; items = more }))
 moved_stops trace_old trace_new before after given more is same stops =
-    weaker trace_old trace_new (IsEither (Ok before) (Ok after) (items trace_old)) (IsCrashOfEither (record { standing = before; items = given }) (record { standing = after; items = more })) stops
+    weaker trace_old trace_new (IsEither (Ok before) (Ok after) (items trace_old))
+    (IsCrashOfEither (record { standing = before; items = given }) (record { standing = after; items = more }))
+    stops
     (λ image handed p. ⊎_elim
-    (λ b. record { left = record { standing = before; items = given }; which = inl refl; stands_for = record { state = b; modern = p.modern; written = p.written; handed_is = p.handed_is ∙ sym is } })
-    (λ a. record { left = record { standing = after; items = more }; which = inr refl; stands_for = record { state = a; modern = p.modern; written = p.written; handed_is = p.handed_is ∙ sym is ∙ sym same } })
+    (λ b. record {
+      left = record { standing = before; items = given };
+      which = inl refl;
+      stands_for =
+          record { state = b; modern = p.modern; written = p.written; handed_is = p.handed_is ∙ sym is };
+    })
+    (λ a. record {
+      left = record { standing = after; items = more };
+      which = inr refl;
+      stands_for =
+          record { state = a; modern = p.modern; written = p.written; handed_is = p.handed_is ∙ sym is ∙ sym same };
+    })
     p.state)
 
 -- an entry or a segment was stored, or the device failed in that
@@ -120,7 +149,9 @@ acts_moved r v out program old new trace_old trace_new moves known replied next 
     let same = left_same out (items trace_old) none in
     record {
       comes = (replied, next);
-      stops = moved_stops trace_old trace_new (durable_state_of program old.session) (durable_state_of out.program out.next) (items trace_old) (items trace_old ++ out.items) refl same moves.stops;
+      stops = moved_stops trace_old trace_new (durable_state_of program old.session)
+          (durable_state_of out.program out.next) (items trace_old) (items trace_old ++ out.items) refl same
+          moves.stops;
       leaves = (
         (
           rests_as trace_new new.journal new.journal (durable_state_of out.program out.next) (durable_state_of out.program new.session) refl
@@ -132,14 +163,17 @@ acts_moved r v out program old new trace_old trace_new moves known replied next 
       untouched = λ nothing. absurd (touched nothing);
     }
 
-pub acts_unmoved : {R T : Type 0} (fault e : Fault) (out : Transition) (program : List ℕ) (old new : ControllerModel R) (journal : JournalModel R) (trace_old trace_new : Trace)
+pub acts_unmoved : {R T : Type 0} (fault e : Fault) (out : Transition) (program : List ℕ)
+    (old new : ControllerModel R) (journal : JournalModel R) (trace_old trace_new : Trace)
     → CommitSpec {T = T} (Err e) journal (durable_state_of program old.session) (durable_state_of out.program out.next) trace_old trace_new
     → fault ≡ DeviceFailed → session_status new.session ≡ session_status old.session → out.items ≡ []
     → IsCarriedOut (Err fault) out program old new trace_old trace_new
 acts_unmoved fault e out program old new journal trace_old trace_new moves is same none =
     subst (λ (f : Fault). IsCarriedOut (Err f) out program old new trace_old trace_new) (sym is) (record {
       comes = same;
-      stops = moved_stops trace_old trace_new (durable_state_of program old.session) (durable_state_of out.program out.next) (items trace_old) (items trace_old ++ out.items) refl (left_same out (items trace_old) none) moves.stops;
+      stops = moved_stops trace_old trace_new (durable_state_of program old.session)
+          (durable_state_of out.program out.next) (items trace_old) (items trace_old ++ out.items) refl
+          (left_same out (items trace_old) none) moves.stops;
       leaves = tt;
       untouched = tt;
     })
@@ -149,20 +183,31 @@ handed_stops : (trace_old trace_new : Trace) (before after : DurableState) (give
     → IsContinuation trace_old trace_new (StandsFor before more)
     → IsContinuation trace_old trace_new (IsCrashOfEither (record { standing = before; items = given }) (record { standing = after; items = more }))
 handed_stops trace_old trace_new before after given more same stops =
-    weaker trace_old trace_new (StandsFor before more) (IsCrashOfEither (record { standing = before; items = given }) (record { standing = after; items = more })) stops
-    (λ image handed p. record { left = record { standing = after; items = more }; which = inr refl; stands_for = subst (λ (s : DurableState). StandsFor s more image handed) same p })
+    weaker trace_old trace_new (StandsFor before more)
+    (IsCrashOfEither (record { standing = before; items = given }) (record { standing = after; items = more }))
+    stops
+    (λ image handed p. record {
+      left = record { standing = after; items = more };
+      which = inr refl;
+      stands_for =
+          subst (λ (s : DurableState). StandsFor s more image handed) same p;
+    })
 
 -- an item was handed out, or the device failed in that
-pub acts_handed : {R T : Type 0} (r : Reply) (v : T) (item : Item) (out : Transition) (program : List ℕ) (old new : ControllerModel R) (trace_old trace_new : Trace)
+pub acts_handed : {R T : Type 0} (r : Reply) (v : T) (item : Item) (out : Transition) (program : List ℕ)
+    (old new : ControllerModel R) (trace_old trace_new : Trace)
     → JournalHandOutSpec {E = Fault} (Ok v) new.journal (durable_state_of program old.session) item trace_old trace_new
-    → IsKnownOf out.program new.lines → r ≡ out.reply → new.session ≡ out.next → out.items ≡ item ∷ [] → out.program ≡ program → out.next.stored ≡ old.session.stored → (TouchesNothing r → ⊥)
+    → IsKnownOf out.program new.lines → r ≡ out.reply → new.session ≡ out.next → out.items ≡ item ∷ []
+    → out.program ≡ program → out.next.stored ≡ old.session.stored → (TouchesNothing r → ⊥)
     → IsCarriedOut (Ok r) out program old new trace_old trace_new
 acts_handed r v item out program old new trace_old trace_new hands known replied next one same stored touched =
     let more : items trace_old ++ out.items ≡ items trace_old ++ item ∷ [] = ap (λ (l : List Item). items trace_old ++ l) one in
-    let standing : durable_state_of program old.session ≡ durable_state_of out.program out.next = standing_same program out.program old.session out.next (sym same) (sym stored) in
+    let standing : durable_state_of program old.session ≡ durable_state_of out.program out.next =
+    standing_same program out.program old.session out.next (sym same) (sym stored) in
     record {
       comes = (replied, next);
-      stops = handed_stops trace_old trace_new (durable_state_of program old.session) (durable_state_of out.program out.next) (items trace_old) (items trace_old ++ out.items) standing
+      stops = handed_stops trace_old trace_new (durable_state_of program old.session)
+          (durable_state_of out.program out.next) (items trace_old) (items trace_old ++ out.items) standing
           (subst (λ (l : List Item). IsContinuation trace_old trace_new (StandsFor (durable_state_of program old.session) l)) (sym more) hands.stops);
       leaves = (
         (
@@ -175,16 +220,20 @@ acts_handed r v item out program old new trace_old trace_new hands known replied
       untouched = λ nothing. absurd (touched nothing);
     }
 
-pub acts_unhanded : {R T : Type 0} (fault e : Fault) (item : Item) (out : Transition) (program : List ℕ) (old new : ControllerModel R) (journal : JournalModel R) (trace_old trace_new : Trace)
+pub acts_unhanded : {R T : Type 0} (fault e : Fault) (item : Item) (out : Transition) (program : List ℕ)
+    (old new : ControllerModel R) (journal : JournalModel R) (trace_old trace_new : Trace)
     → JournalHandOutSpec {T = T} (Err e) journal (durable_state_of program old.session) item trace_old trace_new
-    → fault ≡ DeviceFailed → session_status new.session ≡ session_status old.session → out.items ≡ item ∷ [] → out.program ≡ program → out.next.stored ≡ old.session.stored
+    → fault ≡ DeviceFailed → session_status new.session ≡ session_status old.session → out.items ≡ item ∷ []
+    → out.program ≡ program → out.next.stored ≡ old.session.stored
     → IsCarriedOut (Err fault) out program old new trace_old trace_new
 acts_unhanded fault e item out program old new journal trace_old trace_new hands is told one same stored =
     let more : items trace_old ++ out.items ≡ items trace_old ++ item ∷ [] = ap (λ (l : List Item). items trace_old ++ l) one in
-    let standing : durable_state_of program old.session ≡ durable_state_of out.program out.next = standing_same program out.program old.session out.next (sym same) (sym stored) in
+    let standing : durable_state_of program old.session ≡ durable_state_of out.program out.next =
+    standing_same program out.program old.session out.next (sym same) (sym stored) in
     subst (λ (f : Fault). IsCarriedOut (Err f) out program old new trace_old trace_new) (sym is) (record {
       comes = told;
-      stops = handed_stops trace_old trace_new (durable_state_of program old.session) (durable_state_of out.program out.next) (items trace_old) (items trace_old ++ out.items) standing
+      stops = handed_stops trace_old trace_new (durable_state_of program old.session)
+          (durable_state_of out.program out.next) (items trace_old) (items trace_old ++ out.items) standing
           (subst (λ (l : List Item). IsContinuation trace_old trace_new (StandsFor (durable_state_of program old.session) l)) (sym more) hands.stops);
       leaves = tt;
       untouched = tt;

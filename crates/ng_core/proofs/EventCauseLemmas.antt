@@ -1,5 +1,6 @@
 -- Why an event isn't answered, from why the calls that it makes fail.
-use Rattle.std.proofs.Common.{◌≡◌, ◌≤◌, ◌⊎◌, ◌↔◌, inl, inr, ℕ, ℤ, Bool, true, false, not, if◌then◌else◌, ◌||◌, List, length, Option, Some, None, Result, Ok, Err, refl, sym, ◌∙◌, ap, subst, IsSomeAnd}
+use Rattle.std.proofs.Common.{◌≡◌, ◌≤◌, ◌⊎◌, ◌↔◌, inl, inr, ℕ, ℤ, Bool, true, false, not, if◌then◌else◌, ◌||◌, List}
+use Rattle.std.proofs.Common.{length, Option, Some, None, Result, Ok, Err, refl, sym, ◌∙◌, ap, subst, IsSomeAnd}
 use Rattle.std.specs.Option.{is_some, option_map}
 use Rattle.std.specs.Prelude.{IsErrOf}
 use Rattle.ng_num.specs.declared.fault.Fault.{Fault}
@@ -15,18 +16,34 @@ use Rattle.ng_journal.specs.Storing.{Ledger, Storing, Commit, Open, Load, UsesUp
 use Rattle.ng_num.specs.declared.point.Point.{Point}
 use Rattle.ng_canon.specs.declared.geometry.Geometry.{Geometry}
 use Rattle.ng_session.specs.Entries.{done_of, done_again, after_load, after_reference, after_abandon, after_tool}
-use Rattle.ng_session.specs.Session.{CurrentBlockModel, SessionModel, Transition, end, begin, begin_by, load, load_unless, load_refusal, reference, reference_unless, reference_refusal, abandon, abandon_unless, abandon_refusal, tool, tool_unless, tool_refusal, refuses, resume, resume_half, resume_from, resume_by, is_at_rest, IsBetweenLines, opening_of, opening_reply, entry_on, committed}
+use Rattle.ng_session.specs.Session.{CurrentBlockModel, SessionModel, Transition, end, begin, begin_by, load}
+use Rattle.ng_session.specs.Session.{load_unless, load_refusal, reference, reference_unless, reference_refusal}
+use Rattle.ng_session.specs.Session.{abandon, abandon_unless, abandon_refusal, tool, tool_unless, tool_refusal}
+use Rattle.ng_session.specs.Session.{refuses, resume, resume_half, resume_from, resume_by, is_at_rest}
+use Rattle.ng_session.specs.Session.{IsBetweenLines, opening_of, opening_reply, entry_on, committed}
 use Rattle.ng_session.specs.Stages.{Stage}
 use Rattle.ng_session.specs.Stages as stage
 use Rattle.ng_core.specs.Causes.{UsesUpCounter, IsCausedBy, stored_for, with_entry}
 use Rattle.ng_core.proofs.TickLemmas.{IsDue, opening}
 
 -- a cause stays one for an equal outcome, and if memory and the device are needed in more cases
-pub hindered_as : {m n d e : Type 0} (ledger : Ledger) (told wanted : List ℕ → Transition) → (m → n) → (d → e) → ((program : List ℕ) → told program ≡ wanted program)
+pub hindered_as : {m n d e : Type 0} (ledger : Ledger) (told wanted : List ℕ → Transition) → (m → n) → (d → e)
+    → ((program : List ℕ) → told program ≡ wanted program)
     → (fault : Fault) → IsCausedBy m d ledger told fault → IsCausedBy n e ledger wanted fault
 hindered_as ledger told wanted f g same fault (inl short) = inl (short.0, f short.1)
-hindered_as ledger told wanted f g same fault (inr (inl used)) = inr (inl (used.0, λ program. subst (λ (o : Transition). UsesUpCounter ledger o) (same program) (used.1 program)))
-hindered_as ledger told wanted f g same fault (inr (inr lost)) = inr (inr (lost.0, g lost.1, λ program used. lost.2 program (subst (λ (o : Transition). UsesUpCounter ledger o) (sym (same program)) used)))
+hindered_as ledger told wanted f g same fault (inr (inl used)) =
+    inr (inl (
+      used.0,
+      λ program. subst (λ (o : Transition). UsesUpCounter ledger o) (same program)
+          (used.1 program),
+    ))
+hindered_as ledger told wanted f g same fault (inr (inr lost)) =
+    inr (inr (
+      lost.0,
+      g lost.1,
+      λ program used.
+          lost.2 program (subst (λ (o : Transition). UsesUpCounter ledger o) (sym (same program)) used),
+    ))
 
 -- ---- a call of the journal that stores
 
@@ -52,7 +69,8 @@ pub hindered_opening : (T : Type 0) (e : Fault) (q : Geometry) (s : SessionModel
     → (let answered : Result T Fault = Err e in IsErrOf answered CountersUsed ↔ UsesUp ledger (Open half))
     → IsCausedBy ⊥ (Unit {0}) ledger (λ program. opening half program q s) e
 hindered_opening T e q s ledger half which iff =
-    hindered_storing T e ledger (λ program. opening half program q s) (Open half) which iff (λ program. stored_opening (opening half program q s) half.index half.opened)
+    hindered_storing T e ledger (λ program. opening half program q s) (Open half) which iff
+    (λ program. stored_opening (opening half program q s) half.index half.opened)
 
 -- the entry of the current block, or of its approach
 entry_commits : (x : StoredModel) (c : CurrentBlockModel) (at : Stage) → with_entry x (entry_on c at) ≡ Commit x
@@ -60,19 +78,23 @@ entry_commits x c (stage.ToApproach a) = refl
 entry_commits x c (stage.OnApproach a) = refl
 entry_commits x c stage.OnBlock = refl
 
-pub stored_end : (q : Geometry) (P : List ℕ) (s : SessionModel) (saved : StoredModel) (due : IsDue s saved) → stored_for (end q P s s.current) (end q P s s.current).reply ≡ Some (Commit saved)
+pub stored_end : (q : Geometry) (P : List ℕ) (s : SessionModel) (saved : StoredModel) (due : IsDue s saved)
+    → stored_for (end q P s s.current) (end q P s s.current).reply ≡ Some (Commit saved)
 stored_end q P s saved due =
     ap (λ (o : Option CurrentBlockModel). stored_for (end q P s o) (end q P s o).reply) due.current
-    ∙ ap (λ (x : Storing). Some x) (entry_commits (committed s due.block).stored due.block due.block.stage) ∙ ap (λ (x : StoredModel). Some (Commit x)) (sym due.after)
+    ∙ ap (λ (x : Storing). Some x) (entry_commits (committed s due.block).stored due.block due.block.stage)
+    ∙ ap (λ (x : StoredModel). Some (Commit x)) (sym due.after)
 
-pub hindered_entry : (T : Type 0) (e : Fault) (q : Geometry) (s : SessionModel) (ledger : Ledger) (saved : StoredModel) (due : IsDue s saved) → (e ≡ CountersUsed) ⊎ (e ≡ DeviceFailed)
+pub hindered_entry : (T : Type 0) (e : Fault) (q : Geometry) (s : SessionModel) (ledger : Ledger)
+    (saved : StoredModel) (due : IsDue s saved) → (e ≡ CountersUsed) ⊎ (e ≡ DeviceFailed)
     → (let answered : Result T Fault = Err e in IsErrOf answered CountersUsed ↔ UsesUp ledger (Commit saved))
     → IsCausedBy ⊥ (Unit {0}) ledger (λ program. end q program s s.current) e
 hindered_entry T e q s ledger saved due which iff =
     hindered_storing T e ledger (λ program. end q program s s.current) (Commit saved) which iff (λ program. stored_end q program s saved due)
 
 -- the entry of a program
-pub hindered_load : (T : Type 0) (e : Fault) (room : ℕ) (s : SessionModel) (saved : StoredModel) (text : List ℕ) (ledger : Ledger) → load_refusal s text ≡ None → length text ≤ room → saved ≡ after_load s.stored (length text)
+pub hindered_load : (T : Type 0) (e : Fault) (room : ℕ) (s : SessionModel) (saved : StoredModel) (text : List ℕ)
+    (ledger : Ledger) → load_refusal s text ≡ None → length text ≤ room → saved ≡ after_load s.stored (length text)
     → (e ≡ CountersUsed) ⊎ (e ≡ DeviceFailed)
     → (let answered : Result T Fault = Err e in IsErrOf answered CountersUsed ↔ ((length text ≤ room) × UsesUp ledger (Load saved)))
     → IsCausedBy (load_refusal s text ≡ None) (load_refusal s text ≡ None) ledger (λ program. load program s text) e
@@ -80,23 +102,33 @@ hindered_load T e room s saved text ledger free small is which iff =
     hindered_as ledger (λ program. load program s text) (λ program. load program s text) (λ none. absurd none) (λ u. free) (λ program. refl) e
     (hindered_storing T e ledger (λ program. load program s text) (Load saved) which
     (λ used. (iff.0 used).1, λ u. iff.1 (small, u))
-    (λ program. ap (λ (o : Option Fault). stored_for (load_unless program s text o) (load_unless program s text o).reply) free ∙ ap (λ (x : StoredModel). Some (Load x)) (sym is)))
+    (λ program. ap (λ (o : Option Fault). stored_for (load_unless program s text o)
+    (load_unless program s text o).reply) free ∙ ap (λ (x : StoredModel). Some (Load x)) (sym is)))
 
 -- a reference, a half-done block that is given up, or a tool's length
 pub stored_reference : (q : Geometry) (P : List ℕ) (s : SessionModel) (point : Point) → reference_refusal q s point ≡ None
     → stored_for (reference q P s point) (reference q P s point).reply ≡ Some (Commit (after_reference s.stored point))
 stored_reference q P s point free = ap (λ (o : Option Fault). stored_for (reference_unless P s point o) (reference_unless P s point o).reply) free
 
-pub stored_abandon : (P : List ℕ) (s : SessionModel) → abandon_refusal s ≡ None → stored_for (abandon P s) (abandon P s).reply ≡ Some (Commit (after_abandon s.stored))
+pub stored_abandon : (P : List ℕ) (s : SessionModel) → abandon_refusal s ≡ None
+    → stored_for (abandon P s) (abandon P s).reply ≡ Some (Commit (after_abandon s.stored))
 stored_abandon P s free = ap (λ (o : Option Fault). stored_for (abandon_unless P s o) (abandon_unless P s o).reply) free
 
-pub stored_tool : (P : List ℕ) (s : SessionModel) (slot : ℕ) (nm : ℤ) → tool_refusal s slot nm ≡ None → stored_for (tool P s slot nm) (tool P s slot nm).reply ≡ Some (Commit (after_tool s.stored slot nm))
+pub stored_tool : (P : List ℕ) (s : SessionModel) (slot : ℕ) (nm : ℤ) → tool_refusal s slot nm ≡ None
+    → stored_for (tool P s slot nm) (tool P s slot nm).reply ≡ Some (Commit (after_tool s.stored slot nm))
 stored_tool P s slot nm free = ap (λ (o : Option Fault). stored_for (tool_unless P s slot nm o) (tool_unless P s slot nm o).reply) free
 
 -- an entry past the greatest count isn't stored
-pub hindered_count : (ledger : Ledger) (told : List ℕ → Transition) (x : StoredModel) (device : Type 0) → UsesUp ledger (Commit x) → ((program : List ℕ) → stored_for (told program) (told program).reply ≡ Some (Commit x))
+pub hindered_count : (ledger : Ledger) (told : List ℕ → Transition) (x : StoredModel) (device : Type 0)
+    → UsesUp ledger (Commit x)
+    → ((program : List ℕ) → stored_for (told program) (told program).reply ≡ Some (Commit x))
     → IsCausedBy ⊥ device ledger told CountersUsed
-hindered_count ledger told x device used stores = inr (inl (refl, λ program. subst (λ (o : Option Storing). IsSomeAnd o (UsesUp ledger)) (sym (stores program)) used))
+hindered_count ledger told x device used stores =
+    inr (inl (
+      refl,
+      λ program. subst (λ (o : Option Storing). IsSomeAnd o (UsesUp ledger)) (sym (stores program))
+          used,
+    ))
 
 -- ---- a session that is busy
 
@@ -118,20 +150,24 @@ some_half (Some c) half is = refl
 
 -- ---- a line that is begun uses up no counter
 
-unused_by : (P : List ℕ) (s : SessionModel) (line : ProgramLineModel) (done : Result Done Fault) (ledger : Ledger) → UsesUpCounter ledger (begin_by P s line done) → ⊥
+unused_by : (P : List ℕ) (s : SessionModel) (line : ProgramLineModel) (done : Result Done Fault) (ledger : Ledger)
+    → UsesUpCounter ledger (begin_by P s line done) → ⊥
 unused_by P s line (Ok done) ledger used = used
 unused_by P s line (Err fault) ledger used = used
 
-pub unused_begin : (q : Geometry) (P : List ℕ) (s : SessionModel) (line : Option ProgramLineModel) (ledger : Ledger) → UsesUpCounter ledger (begin q P s line) → ⊥
+pub unused_begin : (q : Geometry) (P : List ℕ) (s : SessionModel) (line : Option ProgramLineModel) (ledger : Ledger)
+    → UsesUpCounter ledger (begin q P s line) → ⊥
 unused_begin q P s None ledger used = used
 unused_begin q P s (Some line) ledger used = unused_by P s line (done_of q P s.stored source.Program line.text s.block_delete) ledger used
 
 -- nor does a half-done block that goes on use one up
-unused_again : (P : List ℕ) (s : SessionModel) (half : HalfModel) (from : Point) (done : Result Done Fault) (ledger : Ledger) → UsesUpCounter ledger (resume_by P s half from done) → ⊥
+unused_again : (P : List ℕ) (s : SessionModel) (half : HalfModel) (from : Point) (done : Result Done Fault)
+    (ledger : Ledger) → UsesUpCounter ledger (resume_by P s half from done) → ⊥
 unused_again P s half from (Ok done) ledger used = used
 unused_again P s half from (Err fault) ledger used = used
 
-unused_from : (q : Geometry) (P : List ℕ) (s : SessionModel) (half : HalfModel) (from : Option Point) (ledger : Ledger) → UsesUpCounter ledger (resume_from q P s half from) → ⊥
+unused_from : (q : Geometry) (P : List ℕ) (s : SessionModel) (half : HalfModel) (from : Option Point)
+    (ledger : Ledger) → UsesUpCounter ledger (resume_from q P s half from) → ⊥
 unused_from q P s half None ledger used = used
 unused_from q P s half (Some from) ledger used = unused_again P s half from (done_again q s.stored half.text) ledger used
 

@@ -1,5 +1,7 @@
 -- Events that are answered in turn, and what that leaves.
-use Rattle.std.proofs.Common.{◌≡◌, ◌<◌, ◌≤◌, ◌+◌, ◌%◌, ◌^◌, ⊎_elim, ℕ, Bool, true, false, List, [], ◌∷◌, ◌++◌, length, take, get_or, Result, Ok, Err, IfErr, refl, sym, ◌∙◌, ap, subst, append_assoc, append-nil}
+use Rattle.std.proofs.Common.{◌≡◌, ◌<◌, ◌≤◌, ◌+◌, ◌%◌, ◌^◌, ⊎_elim, ℕ, Bool, true, false, List, [], ◌∷◌, ◌++◌}
+use Rattle.std.proofs.Common.{length, take, get_or, Result, Ok, Err, IfErr, refl, sym, ◌∙◌, ap, subst, append_assoc}
+use Rattle.std.proofs.Common.{append-nil}
 use Rattle.std.proofs.lemmas.List.{take_more, take_all}
 use Rattle.ng_num.specs.declared.fault.Fault.{Fault}
 use Rattle.ng_num.specs.declared.fault.Fault.TheVariants.{DeviceFailed, CountersUsed, OutOfMemory}
@@ -39,11 +41,13 @@ turns_joined_at seen (event ∷ events) more (r ∷ replies) others old mid new 
     ((p.0, (p.1.0, rest.0)), ap (λ (l : List ℕ). moment (seen p.0.journal.rig).trace ∷ l) rest.1)
 
 pub turns_joined : {A R : Type 0} (seen : R → Device) (events more : List (Event A)) (replies others : List Reply) (old mid new : ControllerModel R)
-    → AreAnsweredEvents seen events replies old mid → AreAnsweredEvents seen more others mid new → AreAnsweredEvents seen (events ++ more) (replies ++ others) old new
+    → AreAnsweredEvents seen events replies old mid → AreAnsweredEvents seen more others mid new
+    → AreAnsweredEvents seen (events ++ more) (replies ++ others) old new
 turns_joined seen events more replies others old mid new p q = (turns_joined_at seen events more replies others old mid new p q).0
 
 -- the event at this place
-pub turns_more : {A R : Type 0} (seen : R → Device) (events : List (Event A)) (n : ℕ) (event : Event A) (done : List Reply) (r : Reply) (old now next : ControllerModel R)
+pub turns_more : {A R : Type 0} (seen : R → Device) (events : List (Event A)) (n : ℕ) (event : Event A)
+    (done : List Reply) (r : Reply) (old now next : ControllerModel R)
     → n < length events → event ≡ get_or events n event → AreAnsweredEvents seen (take n events) done old now → IsAnsweredEvent seen event r now next
     → AreAnsweredEvents seen (take (n + 1) events) (done ++ r ∷ []) old next
 turns_more {A} seen events n event done r old now next within is p t =
@@ -62,7 +66,8 @@ turns_all {A} seen events n done old now all t = subst (λ (l : List (Event A)).
 turned : {A R : Type 0} (seen : R → Device) (all events : List (Event A)) (done replies : List Reply) (moments : List ℕ) (old now new : ControllerModel R)
     → (t : AreAnsweredEvents seen events replies now new)
     → IfHonest (seen old.journal.rig) (seen now.journal.rig) (GoesFrom seen all events done moments old now)
-    → IfHonest (seen old.journal.rig) (seen new.journal.rig) (GoesFrom seen all [] (done ++ replies) (moments ++ answered_at seen events replies now new t) old new)
+    → IfHonest (seen old.journal.rig) (seen new.journal.rig)
+    (GoesFrom seen all [] (done ++ replies) (moments ++ answered_at seen events replies now new t) old new)
 turned {A} {R} seen all [] done [] moments old now new t p =
     subst (λ (l : List Reply). IfHonest (seen old.journal.rig) (seen new.journal.rig) (GoesFrom seen all [] l (moments ++ []) old new)) (sym (append-nil done))
     (subst (λ (l : List ℕ). IfHonest (seen old.journal.rig) (seen new.journal.rig) (GoesFrom seen all [] done l old new)) (sym (append-nil moments))
@@ -72,15 +77,19 @@ turned seen all (event ∷ events) done [] moments old now new t p = absurd t
 turned seen all (event ∷ events) done (r ∷ replies) moments old now new t p =
     let at = moment (seen t.0.journal.rig).trace in
     let later = answered_at seen events replies t.0 new t.1.1 in
-    subst (λ (l : List Reply). IfHonest (seen old.journal.rig) (seen new.journal.rig) (GoesFrom seen all [] l (moments ++ at ∷ later) old new)) (append_assoc done (r ∷ []) replies)
-    (subst (λ (l : List ℕ). IfHonest (seen old.journal.rig) (seen new.journal.rig) (GoesFrom seen all [] ((done ++ r ∷ []) ++ replies) l old new)) (append_assoc moments (at ∷ []) later)
+    subst (λ (l : List Reply). IfHonest (seen old.journal.rig) (seen new.journal.rig)
+    (GoesFrom seen all [] l (moments ++ at ∷ later) old new)) (append_assoc done (r ∷ []) replies)
+    (subst (λ (l : List ℕ). IfHonest (seen old.journal.rig) (seen new.journal.rig)
+    (GoesFrom seen all [] ((done ++ r ∷ []) ++ replies) l old new)) (append_assoc moments (at ∷ []) later)
     (turned seen all events (done ++ r ∷ []) replies (moments ++ at ∷ []) old t.0 new t.1.1
     (goes_next seen all event events done moments r now.journal.broken old now t.0 refl t.1.0.serves t.1.0.refuses p)))
 
 -- they have a history, whatever program is stored there, with the moments at which they were answered
 pub turns_history : {A R : Type 0} (seen : R → Device) (events : List (Event A)) (replies : List Reply) (old new : ControllerModel R)
     → (t : AreAnsweredEvents seen events replies old new)
-    → IfHonest (seen old.journal.rig) (seen new.journal.rig) ((program : List ℕ) → (old.journal.broken ≡ false → IsAtRestWith (seen old.journal.rig).trace old program) → History seen events replies (answered_at seen events replies old new t) program old new)
+    → IfHonest (seen old.journal.rig) (seen new.journal.rig) ((program : List ℕ)
+    → (old.journal.broken ≡ false → IsAtRestWith (seen old.journal.rig).trace old program)
+    → History seen events replies (answered_at seen events replies old new t) program old new)
 turns_history seen events replies old new t =
     meaning (turned seen events events [] replies [] old old new t (promised (begins seen events old)))
     (λ g program rests. ends seen events replies (answered_at seen events replies old new t) program old new (g program rests))
@@ -94,14 +103,17 @@ turns_ran seen events replies old new t =
 
 -- what they lead to with a device that is known to be honest
 pub turns_lead : {A R : Type 0} (seen : R → Device) (events : List (Event A)) (replies : List Reply) (program : List ℕ) (old new : ControllerModel R)
-    → (seen old.journal.rig).honest → (t : AreAnsweredEvents seen events replies old new) → old.journal.broken ≡ false → IsAtRestWith (seen old.journal.rig).trace old program
-    → PassesAsSession seen events replies (answered_at seen events replies old new t) old.geometry (program_session_of program old) (seen old.journal.rig).trace new
+    → (seen old.journal.rig).honest → (t : AreAnsweredEvents seen events replies old new)
+    → old.journal.broken ≡ false → IsAtRestWith (seen old.journal.rig).trace old program
+    → PassesAsSession seen events replies (answered_at seen events replies old new t) old.geometry
+    (program_session_of program old) (seen old.journal.rig).trace new
 turns_lead seen events replies program old new h t whole rests = (turns_ran seen events replies old new t).holds h program whole rests
 
 pub turns_pass : {A R : Type 0} (seen : R → Device) (events : List (Event A)) (replies : List Reply) (old new : ControllerModel R)
     → (t : AreAnsweredEvents seen events replies old new) → old.journal.broken ≡ false
     → IfHonest (seen old.journal.rig) (seen new.journal.rig) ((program : List ℕ) → IsAtRestWith (seen old.journal.rig).trace old program
-    → PassesAsSession seen events replies (answered_at seen events replies old new t) old.geometry (program_session_of program old) (seen old.journal.rig).trace new)
+    → PassesAsSession seen events replies (answered_at seen events replies old new t) old.geometry
+    (program_session_of program old) (seen old.journal.rig).trace new)
 turns_pass seen events replies old new t whole =
     meaning (turns_ran seen events replies old new t) (λ ran program rests. ran program whole rests)
 
@@ -126,22 +138,31 @@ fails_none : (broken : Bool) (n : ℕ) → CountsOneFailure broken broken n n
 fails_none true n = (refl, refl)
 fails_none false n = refl
 
-fails_by : {A R : Type 0} (c : ControllerModel R) (event : Event A) (answer : Result Reply Fault) (broken : Bool) (first now next : ℕ) → IfErr answer (HasRefusalCause c event) → IsBrokenBy answer broken → CountsFailure answer now next → now ≡ first → CountsOneFailure false broken first next
+fails_by : {A R : Type 0} (c : ControllerModel R) (event : Event A) (answer : Result Reply Fault) (broken : Bool)
+    (first now next : ℕ) → IfErr answer (HasRefusalCause c event) → IsBrokenBy answer broken
+    → CountsFailure answer now next → now ≡ first → CountsOneFailure false broken first next
 fails_by c event (Ok v) broken first now next hindered by told same = subst (λ (b : Bool). CountsOneFailure false b first next) (sym by) (told ∙ same)
 fails_by c event (Err fault) broken first now next hindered by told same =
-    let Goal : Fault → Type 0 = λ f. IsBrokenBy {T = Reply} (Err f) broken → CountsFailure {T = Reply} (Err f) now next → CountsOneFailure false broken first next in
+    let Goal : Fault → Type 0 = λ f. IsBrokenBy {T = Reply} (Err f) broken
+    → CountsFailure {T = Reply} (Err f) now next → CountsOneFailure false broken first next in
     let short : Goal OutOfMemory = λ b t. subst (λ (x : Bool). CountsOneFailure false x first next) (sym b) (t ∙ same) in
     let used : Goal CountersUsed = λ b t. subst (λ (x : Bool). CountsOneFailure false x first next) (sym b) (t ∙ same) in
-    let lost : Goal DeviceFailed = λ b t. subst (λ (x : Bool). CountsOneFailure false x first next) (sym b) (subst (λ (m : ℕ). next ≡ (m + 1) % 2 ^ 64) same t) in
-    let goal : Goal fault = ⊎_elim (λ e. subst Goal (sym e.0) short) (λ o. ⊎_elim (λ e. subst Goal (sym e.0) used) (λ e. subst Goal (sym e.0) lost) o) hindered in
+    let lost : Goal DeviceFailed = λ b t. subst (λ (x : Bool). CountsOneFailure false x first next) (sym b)
+    (subst (λ (m : ℕ). next ≡ (m + 1) % 2 ^ 64) same t) in
+    let goal : Goal fault = ⊎_elim (λ e. subst Goal (sym e.0) short)
+    (λ o. ⊎_elim (λ e. subst Goal (sym e.0) used) (λ e. subst Goal (sym e.0) lost) o) hindered in
     goal by told
 
 -- after an event of a whole controller
 fails_whole : {A R : Type 0} (seen : R → Device) (event : Event A) (r : Reply) (first : Bool) (n : ℕ) (now next : ControllerModel R)
-    → CountsOneFailure first false n (seen now.journal.rig).failed → (answer : Result Reply Fault) → IfErr answer (HasRefusalCause now event) → IsBrokenBy answer next.journal.broken → CountsFailure answer (seen now.journal.rig).failed (seen next.journal.rig).failed
+    → CountsOneFailure first false n (seen now.journal.rig).failed → (answer : Result Reply Fault)
+    → IfErr answer (HasRefusalCause now event) → IsBrokenBy answer next.journal.broken
+    → CountsFailure answer (seen now.journal.rig).failed (seen next.journal.rig).failed
     → CountsOneFailure first next.journal.broken n (seen next.journal.rig).failed
 fails_whole seen event r true n now next before answer hindered by told = absurd (let z : false ≡ true = before.0 in cc)
-fails_whole seen event r false n now next before answer hindered by told = fails_by now event answer next.journal.broken n (seen now.journal.rig).failed (seen next.journal.rig).failed hindered by told before
+fails_whole seen event r false n now next before answer hindered by told =
+    fails_by now event answer next.journal.broken n (seen now.journal.rig).failed (seen next.journal.rig).failed
+    hindered by told before
 
 fails_after : {A R : Type 0} (seen : R → Device) (event : Event A) (r : Reply) (first b : Bool) (n : ℕ) (now next : ControllerModel R)
     → now.journal.broken ≡ b
@@ -150,7 +171,9 @@ fails_after : {A R : Type 0} (seen : R → Device) (event : Event A) (r : Reply)
     → CountsOneFailure first now.journal.broken n (seen now.journal.rig).failed → CountsOneFailure first next.journal.broken n (seen next.journal.rig).failed
 fails_after seen event r first false n now next is serves broken before =
     let s = serves is in
-    fails_whole seen event r first n now next (subst (λ (x : Bool). CountsOneFailure first x n (seen now.journal.rig).failed) is before) s.answer s.carried.hindered s.carried.broken s.carried.failures
+    fails_whole seen event r first n now next
+    (subst (λ (x : Bool). CountsOneFailure first x n (seen now.journal.rig).failed) is before) s.answer
+    s.carried.hindered s.carried.broken s.carried.failures
 fails_after {A} {R} seen event r first true n now next is serves broken before =
     subst (λ (c : ControllerModel R). CountsOneFailure first c.journal.broken n (seen c.journal.rig).failed) (sym (broken is).0) before
 
@@ -167,12 +190,14 @@ fails_from : {A R : Type 0} (seen : R → Device) (events : List (Event A)) (rep
     → CountsOneFailure old.journal.broken now.journal.broken (seen old.journal.rig).failed (seen now.journal.rig).failed
     → CountsOneFailure old.journal.broken new.journal.broken (seen old.journal.rig).failed (seen new.journal.rig).failed
 fails_from {A} {R} seen [] [] old now new t before =
-    subst (λ (c : ControllerModel R). CountsOneFailure old.journal.broken c.journal.broken (seen old.journal.rig).failed (seen c.journal.rig).failed) (sym t) before
+    subst (λ (c : ControllerModel R). CountsOneFailure old.journal.broken c.journal.broken
+    (seen old.journal.rig).failed (seen c.journal.rig).failed) (sym t) before
 fails_from seen [] (r ∷ replies) old now new t before = absurd t
 fails_from seen (event ∷ events) [] old now new t before = absurd t
 fails_from seen (event ∷ events) (r ∷ replies) old now new t before =
     fails_from seen events replies old t.0 new t.1.1 (fails_next seen event r old now t.0 t.1.0.serves t.1.0.refuses before)
 
 pub turns_fail : {A R : Type 0} (seen : R → Device) (events : List (Event A)) (replies : List Reply) (old new : ControllerModel R)
-    → AreAnsweredEvents seen events replies old new → CountsOneFailure old.journal.broken new.journal.broken (seen old.journal.rig).failed (seen new.journal.rig).failed
+    → AreAnsweredEvents seen events replies old new → CountsOneFailure old.journal.broken new.journal.broken
+    (seen old.journal.rig).failed (seen new.journal.rig).failed
 turns_fail seen events replies old new t = fails_from seen events replies old old new t (fails_none old.journal.broken (seen old.journal.rig).failed)

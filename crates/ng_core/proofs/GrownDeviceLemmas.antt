@@ -10,7 +10,8 @@ use Rattle.ng_layout.specs.Fields.{number_at}
 use Rattle.ng_layout.specs.Header.{header_in, program_room}
 use Rattle.ng_layout.specs.Log.{LogPosition, ReplayState, run}
 use Rattle.ng_layout.specs.Sectors.{program_text}
-use Rattle.ng_layout.specs.Stands.{is_large, newer, in_force, stretch, snapshot, standing, durable_state_under, stands, stands_beside, beside_header, beside_format, epoch_in_force, IsWritten}
+use Rattle.ng_layout.specs.Stands.{is_large, newer, in_force, stretch, snapshot, standing, durable_state_under}
+use Rattle.ng_layout.specs.Stands.{stands, stands_beside, beside_header, beside_format, epoch_in_force, IsWritten}
 use Rattle.ng_layout.specs.Stored.{DurableState}
 use Rattle.ng_layout.proofs.ImageLemmas.{force-within, log-long, stretch-same, under}
 use Rattle.ng_journal.proofs.FoundStateLemmas.{none_found}

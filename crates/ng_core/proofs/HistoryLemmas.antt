@@ -14,7 +14,8 @@ use Rattle.ng_core.specs.Events.{IsCarriedOut, reply_to, broken_answer}
 
 -- why an event isn't answered
 abbrev pub HasRefusalCause : {A R : Type 0} → ControllerModel R → Event A → Fault → Type 0
-HasRefusalCause c event fault = IsCausedBy (TakesMemory c.geometry c.session event) (AsksDevice c.geometry c.session event) (ledger_of c.journal) (λ program. transition_of c program event) fault
+HasRefusalCause c event fault = IsCausedBy (TakesMemory c.geometry c.session event)
+    (AsksDevice c.geometry c.session event) (ledger_of c.journal) (λ program. transition_of c program event) fault
 
 -- the program that the device has after an event: that of its outcome, if it was answered
 abbrev pub program_after : Result Reply Fault → Transition → List ℕ → List ℕ
@@ -22,7 +23,8 @@ program_after (Ok r) out program = out.program
 program_after (Err fault) out program = program
 
 -- A whole controller carried an event out, or was kept from it. The controller is broken then if the device failed.
-pub record OnSpecIfHonest {A R : Type 0} (seen : R → Device) (answer : Result Reply Fault) (event : Event A) (program : List ℕ) (old new : ControllerModel R) : Type 0 where
+pub record OnSpecIfHonest {A R : Type 0} (seen : R → Device) (answer : Result Reply Fault) (event : Event A)
+    (program : List ℕ) (old new : ControllerModel R) : Type 0 where
   pub acts : IsCarriedOut answer (transition_of old program event) program old new (seen old.journal.rig).trace (seen new.journal.rig).trace
   pub hindered : IfErr answer (HasRefusalCause old event)
   pub broken : IsBrokenBy answer new.journal.broken
@@ -34,7 +36,8 @@ OnSpecAnyState seen true answer event program old new = (answer ≡ broken_answe
 OnSpecAnyState seen false answer event program old new = OnSpecIfHonest seen answer event program old new
 
 -- an event with its reply, and the moment at which it was answered
-pub record HonestTurn {A R : Type 0} (seen : R → Device) (event : Event A) (r : Reply) (at : ℕ) (answer : Result Reply Fault) (program : List ℕ) (old new : ControllerModel R) : Type 0 where
+pub record HonestTurn {A R : Type 0} (seen : R → Device) (event : Event A) (r : Reply) (at : ℕ)
+    (answer : Result Reply Fault) (program : List ℕ) (old new : ControllerModel R) : Type 0 where
   pub told_is : r ≡ reply_to answer
   pub moment_is : at ≡ moment (seen new.journal.rig).trace
   pub stepping : OnSpecAnyState seen old.journal.broken answer event program old new

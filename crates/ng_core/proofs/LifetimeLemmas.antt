@@ -1,5 +1,7 @@
 -- The lifetime of a device, session by session.
-use Rattle.std.proofs.Common.{◌≡◌, inl, inr, ⊎_elim, ℕ, ℤ, suc, Bool, true, false, Option, None, Some, List, [], ◌∷◌, ◌++◌, take, length, Result, Ok, Err, refl, sym, ◌∙◌, ap, subst, append_assoc, arith}
+use Rattle.std.proofs.Common.{◌≡◌, inl, inr, ⊎_elim, ℕ, ℤ, suc, Bool, true, false, Option, None, Some, List, []}
+use Rattle.std.proofs.Common.{◌∷◌, ◌++◌, take, length, Result, Ok, Err, refl, sym, ◌∙◌, ap, subst, append_assoc}
+use Rattle.std.proofs.Common.{arith}
 use Rattle.std.specs.Prelude.{pos}
 use Rattle.std.proofs.lemmas.List.{append-nil, append_cancel_left}
 use Rattle.ng_num.specs.declared.fault.Fault.{Fault}
@@ -31,7 +33,9 @@ use Rattle.ng_core.specs.Runs.{tried_events}
 use Rattle.ng_core.specs.Power.{PowerOnResult, PowerOnSpec, PowerOnSpecIfHonest, power_on_rig}
 use Rattle.ng_core.specs.Headline.{IsAccounted, IsPast, IsPoweredOn, Accounts}
 use Rattle.ng_core.specs.Lives.{CommittedSession, state_after_session, items_of_session}
-use Rattle.ng_core.specs.Lifetime.{grown_of, GivenEvents, DeviceSession, EndsSession, IsFoundAs, IsDeviceSession, IsLifetime, cut_within, cut_after, KeepsToEntries, state_found, LifetimeIsKept, KeepsFromFormat, KeepsFromImage}
+use Rattle.ng_core.specs.Lifetime.{grown_of, GivenEvents, DeviceSession, EndsSession, IsFoundAs, IsDeviceSession}
+use Rattle.ng_core.specs.Lifetime.{IsLifetime, cut_within, cut_after, KeepsToEntries, state_found, LifetimeIsKept}
+use Rattle.ng_core.specs.Lifetime.{KeepsFromFormat, KeepsFromImage}
 use Rattle.ng_core.proofs.AccountLemmas.{accounts}
 use Rattle.ng_core.proofs.GrownDeviceLemmas.{grown_stands}
 use Rattle.ng_core.proofs.LivesLemmas.{IsLived, lived_within, lived_since}

@@ -28,15 +28,20 @@ use Rattle.ng_core.proofs.QuietEventLemmas.{still_begin}
 -- the contracts of `first_kind` and `program_line`
 abbrev pub Finding : {R E : Type 0} → (R → Device) → Result LineKind E → LinesBefore → ℕ → JournalModel R → JournalModel R → Type 0
 Finding seen result known place old new =
-    IfHonest (seen old.rig) (seen new.rig) ((standing : DurableState) → IsDurablyAt (seen old.rig).trace old standing → IsTrueOf standing.program known → FirstKindSpec result new standing place (seen old.rig).trace (seen new.rig).trace)
+    IfHonest (seen old.rig) (seen new.rig) ((standing : DurableState)
+    → IsDurablyAt (seen old.rig).trace old standing → IsTrueOf standing.program known
+    → FirstKindSpec result new standing place (seen old.rig).trace (seen new.rig).trace)
 
 abbrev pub Reading : {R E : Type 0} → (R → Device) → Result (Option ProgramLineModel) E → ℕ → JournalModel R → JournalModel R → Type 0
 Reading seen result place old new =
-    IfHonest (seen old.rig) (seen new.rig) ((standing : DurableState) → IsDurablyAt (seen old.rig).trace old standing → ProgramLineSpec result new standing place (seen old.rig).trace (seen new.rig).trace)
+    IfHonest (seen old.rig) (seen new.rig) ((standing : DurableState)
+    → IsDurablyAt (seen old.rig).trace old standing
+    → ProgramLineSpec result new standing place (seen old.rig).trace (seen new.rig).trace)
 
 -- the kind is known
 pub finds_known : {R : Type 0} (seen : R → Device) (known : LinesBefore) (kind : LineKind) (place : ℕ) (journal : JournalModel R)
-    → ((program : List ℕ) → IsTrueOf program known → kind ≡ first_kind (lines_before program place)) → Finding {E = Fault} seen (Ok kind) known place journal journal
+    → ((program : List ℕ) → IsTrueOf program known → kind ≡ first_kind (lines_before program place))
+    → Finding {E = Fault} seen (Ok kind) known place journal journal
 finds_known seen known kind place journal is = record {
   keeps = λ h. h;
   back = λ h. h;
@@ -45,12 +50,15 @@ finds_known seen known kind place journal is = record {
 
 -- the kind is read
 pub finds_asked : {R E : Type 0} (seen : R → Device) (result : Result LineKind E) (known : LinesBefore) (place : ℕ) (old new : JournalModel R)
-    → IfHonest (seen old.rig) (seen new.rig) ((standing : DurableState) → IsDurablyAt (seen old.rig).trace old standing → FirstKindSpec result new standing place (seen old.rig).trace (seen new.rig).trace)
+    → IfHonest (seen old.rig) (seen new.rig) ((standing : DurableState)
+    → IsDurablyAt (seen old.rig).trace old standing
+    → FirstKindSpec result new standing place (seen old.rig).trace (seen new.rig).trace)
     → Finding {E = E} seen result known place old new
 finds_asked seen result known place old new p = meaning p (λ f standing rests true_of. f standing rests)
 
 -- both reads succeeded, and nothing is changed
-pub record FindsBoth {R : Type 0} (first : LineKind) (line : Option ProgramLineModel) (journal : JournalModel R) (standing : DurableState) (place : ℕ) (old new : Trace) : Type 0 where
+pub record FindsBoth {R : Type 0} (first : LineKind) (line : Option ProgramLineModel) (journal : JournalModel R)
+    (standing : DurableState) (place : ℕ) (old new : Trace) : Type 0 where
   pub same : new ≡ old
   pub at : IsDurablyAt new journal standing
   pub first_is : first ≡ first_kind (lines_before standing.program place)
@@ -58,10 +66,14 @@ pub record FindsBoth {R : Type 0} (first : LineKind) (line : Option ProgramLineM
 
 abbrev pub FindingBoth : {R : Type 0} → (R → Device) → LineKind → Option ProgramLineModel → KnownModel → ℕ → JournalModel R → JournalModel R → Type 0
 FindingBoth seen first line known place old new =
-    IfHonest (seen old.rig) (seen new.rig) ((standing : DurableState) → IsDurablyAt (seen old.rig).trace old standing → IsKnownOf standing.program known → FindsBoth first line new standing place (seen old.rig).trace (seen new.rig).trace)
+    IfHonest (seen old.rig) (seen new.rig) ((standing : DurableState)
+    → IsDurablyAt (seen old.rig).trace old standing → IsKnownOf standing.program known
+    → FindsBoth first line new standing place (seen old.rig).trace (seen new.rig).trace)
 
-pub finding_both : {R E F : Type 0} (seen : R → Device) (first : LineKind) (line : Option ProgramLineModel) (known : KnownModel) (place : ℕ) (old mid new : JournalModel R)
-    → Finding {E = E} seen (Ok first) known.before place old mid → Reading {E = F} seen (Ok line) place mid new → FindingBoth seen first line known place old new
+pub finding_both : {R E F : Type 0} (seen : R → Device) (first : LineKind) (line : Option ProgramLineModel)
+    (known : KnownModel) (place : ℕ) (old mid new : JournalModel R)
+    → Finding {E = E} seen (Ok first) known.before place old mid → Reading {E = F} seen (Ok line) place mid new
+    → FindingBoth seen first line known place old new
 finding_both seen first line known place old mid new p q = record {
   keeps = λ h. q.keeps (p.keeps h);
   back = λ h. p.back (q.back h);
@@ -76,9 +88,11 @@ begins c program = begin c.geometry program c.session (program_line_at program c
 
 pub does_begin : {R : Type 0} (seen : R → Device) (r : Reply) (first : LineKind) (line : Option ProgramLineModel) (place : ℕ) (old new : ControllerModel R)
     → place ≡ old.session.stored.place → FindingBoth seen first line old.lines place old.journal new.journal
-    → ((program : List ℕ) → IsKnownOf program old.lines → line ≡ program_line_at program place → first ≡ first_kind (lines_before program place) → IsKnownOf program new.lines)
+    → ((program : List ℕ) → IsKnownOf program old.lines → line ≡ program_line_at program place
+    → first ≡ first_kind (lines_before program place) → IsKnownOf program new.lines)
     → ((program : List ℕ) → first ≡ first_kind (lines_before program old.session.stored.place) → r ≡ (begin old.geometry program old.session line).reply)
-    → ((program : List ℕ) → first ≡ first_kind (lines_before program old.session.stored.place) → new.session ≡ (begin old.geometry program old.session line).next)
+    → ((program : List ℕ) → first ≡ first_kind (lines_before program old.session.stored.place)
+    → new.session ≡ (begin old.geometry program old.session line).next)
     → IsCarriedOutIfHonest seen (Ok r) (λ program. begin old.geometry program old.session (program_line_at program old.session.stored.place)) old new
 does_begin seen r first line place old new at p known replied next = record {
   keeps = p.keeps;
@@ -100,10 +114,12 @@ pub by_running : {R : Type 0} (out : List ℕ → Transition) (c : ControllerMod
     → is_running c.session.activity ≡ true → by_line out c program line ≡ begin c.geometry program c.session line
 by_running out c program line runs = rw runs refl
 
-pub begun_line : {R : Type 0} (r : Reply) (out : List ℕ → Transition) (first : LineKind) (line : Option ProgramLineModel) (place : ℕ) (old new : ControllerModel R)
+pub begun_line : {R : Type 0} (r : Reply) (out : List ℕ → Transition) (first : LineKind)
+    (line : Option ProgramLineModel) (place : ℕ) (old new : ControllerModel R)
     → is_running old.session.activity ≡ true → place ≡ old.session.stored.place → (place ≡ 0 → first ≡ Blank)
     → ((program : List ℕ) → first ≡ first_kind (lines_before program old.session.stored.place) → r ≡ (begin old.geometry program old.session line).reply)
-    → ((program : List ℕ) → first ≡ first_kind (lines_before program old.session.stored.place) → new.session ≡ (begin old.geometry program old.session line).next)
+    → ((program : List ℕ) → first ≡ first_kind (lines_before program old.session.stored.place)
+    → new.session ≡ (begin old.geometry program old.session line).next)
     → ledger_of new.journal ≡ ledger_of old.journal → IsAnsweredByLine r out old new
 begun_line r out first line place old new runs at beginning replied next ledger =
     let found = has_kind first place beginning in
@@ -116,7 +132,8 @@ begun_line r out first line place old new runs at beginning replied next ledger 
     }
 
 -- there was no memory for the state after the line
-pub does_begin_short : {R : Type 0} (seen : R → Device) (fault : Fault) (first : LineKind) (line : Option ProgramLineModel) (place : ℕ) (out : List ℕ → Transition) (old new : ControllerModel R)
+pub does_begin_short : {R : Type 0} (seen : R → Device) (fault : Fault) (first : LineKind)
+    (line : Option ProgramLineModel) (place : ℕ) (out : List ℕ → Transition) (old new : ControllerModel R)
     → FindingBoth seen first line old.lines place old.journal new.journal → fault ≡ OutOfMemory → new.session ≡ old.session → new.lines ≡ old.lines
     → IsCarriedOutIfHonest seen (Err fault) out old new
 does_begin_short seen fault first line place out old new p is same lines = record {
@@ -124,7 +141,8 @@ does_begin_short seen fault first line place out old new p is same lines = recor
   back = p.back;
   holds = λ h program rests.
       let f = p.holds h (durable_state_of program old.session) rests.0 rests.1 in
-      acts_aside fault (out program) program old new (seen old.journal.rig).trace (seen new.journal.rig).trace (inl is) f.same same f.at (known_as program program old.lines new.lines refl lines rests.1);
+      acts_aside fault (out program) program old new (seen old.journal.rig).trace (seen new.journal.rig).trace
+      (inl is) f.same same f.at (known_as program program old.lines new.lines refl lines rests.1);
 }
 
 -- the device failed in the first read, or in the second
@@ -139,8 +157,10 @@ does_begin_unfound seen fault e place out old new p is same = record {
       acts_unread fault (out program) program old new (seen old.journal.rig).trace (seen new.journal.rig).trace is f.same (ap session_status same);
 }
 
-pub does_begin_unread : {R E F : Type 0} (seen : R → Device) (fault : Fault) (first : LineKind) (e : E) (place : ℕ) (out : List ℕ → Transition) (old new : ControllerModel R) (mid : JournalModel R)
-    → Finding {E = F} seen (Ok first) old.lines.before place old.journal mid → Reading seen (Err e) place mid new.journal → fault ≡ DeviceFailed → new.session ≡ old.session
+pub does_begin_unread : {R E F : Type 0} (seen : R → Device) (fault : Fault) (first : LineKind) (e : E) (place : ℕ)
+    (out : List ℕ → Transition) (old new : ControllerModel R) (mid : JournalModel R)
+    → Finding {E = F} seen (Ok first) old.lines.before place old.journal mid
+    → Reading seen (Err e) place mid new.journal → fault ≡ DeviceFailed → new.session ≡ old.session
     → IsCarriedOutIfHonest seen (Err fault) out old new
 does_begin_unread seen fault first e place out old new mid p q is same = record {
   keeps = λ h. q.keeps (p.keeps h);
@@ -154,10 +174,14 @@ does_begin_unread seen fault first e place out old new mid p q is same = record 
 -- what is known after a line
 known_after_line : (known later : LinesBefore) (place : ℕ) (first : LineKind) (line : ProgramLineModel)
     → ((program : List ℕ) → IsTrueOf program known → IsLineBetween program place first line.text line.next → IsTrueOf program later)
-    → (program : List ℕ) → IsTrueOf program known → Some line ≡ program_line_at program place → first ≡ first_kind (lines_before program place) → IsTrueOf program later
+    → (program : List ℕ) → IsTrueOf program known → Some line ≡ program_line_at program place
+    → first ≡ first_kind (lines_before program place) → IsTrueOf program later
 known_after_line known later place first line goes program true_of at kind = goes program true_of (record { line = sym at; kind = kind })
 
 pub known_after : (known : KnownModel) (later : LinesBefore) (place : ℕ) (first : LineKind) (line : ProgramLineModel)
     → ((program : List ℕ) → IsTrueOf program known.before → IsLineBetween program place first line.text line.next → IsTrueOf program later)
-    → (program : List ℕ) → IsKnownOf program known → Some line ≡ program_line_at program place → first ≡ first_kind (lines_before program place) → IsKnownOf program (let l : KnownModel = record known { before = later } in l)
-known_after known later place first line goes program known_of at kind = (known_after_line known.before later place first line goes program known_of.0 at kind, known_of.1)
+    → (program : List ℕ) → IsKnownOf program known → Some line ≡ program_line_at program place
+    → first ≡ first_kind (lines_before program place)
+    → IsKnownOf program (let l : KnownModel = record known { before = later } in l)
+known_after known later place first line goes program known_of at kind =
+    (known_after_line known.before later place first line goes program known_of.0 at kind, known_of.1)

@@ -18,7 +18,8 @@ already t m less more le = grind (arith, nat_tests)
 
 pub none_by : (t last m : ℕ) (ms : List ℕ) → t < m → IsRising m last ms → answered_by t (m ∷ ms) ≡ 0
 none_by t last m [] lt rising = not_yet t m 0 1 lt
-none_by t last m (s ∷ ms) lt rising = not_yet t m (answered_by t (s ∷ ms)) (suc (answered_by t (s ∷ ms))) lt ∙ none_by t last s ms (omega (arith, lt, rising.0)) rising.1
+none_by t last m (s ∷ ms) lt rising = not_yet t m (answered_by t (s ∷ ms)) (suc (answered_by t (s ∷ ms))) lt
+    ∙ none_by t last s ms (omega (arith, lt, rising.0)) rising.1
 
 pub one_by : (t m : ℕ) (ms : List ℕ) → m ≤ t → answered_by t (m ∷ ms) ≡ suc (answered_by t ms)
 one_by t m ms le = already t m (answered_by t ms) (suc (answered_by t ms)) le
@@ -58,22 +59,33 @@ module _ (image : ℕ → List ℕ) (handed : List Item) where
   since trace first t from until stop = between-since image handed trace first (record { at = t; from = from; until = until; stop = stop })
 
   -- within a call each stop is one of the old trace's or of the call's
-  pub within_call : (old mid : Trace) (P : Image → List Item → Type 0) (t : ℕ) → IsContinuation old mid P → moment old ≤ t → t ≤ moment mid → IsStop (trace_at t mid) image handed
+  pub within_call : (old mid : Trace) (P : Image → List Item → Type 0) (t : ℕ) → IsContinuation old mid P
+      → moment old ≤ t → t ≤ moment mid → IsStop (trace_at t mid) image handed
       → StopSince old (moment old) image handed ⊎ P image handed
   within_call old mid P t a from until stop = a.each (moment old) image handed (omega arith) (since mid (moment old) t from until stop)
 
 -- without a call
 pub no_call : (trace : Trace) (Said : ℕ → Image → List Item → Type 0)
     → ((t : ℕ) (image : ℕ → List ℕ) (handed : List Item) → StopSince trace (moment trace) image handed → Said t image handed) → AtEachStop trace trace Said
-no_call trace Said now = record { was = trace_now trace; each = λ t image handed from until stop. now t image handed (since image handed trace (moment trace) t from until stop) }
+no_call trace Said now = record {
+  was = trace_now trace;
+  each = λ t image handed from until stop.
+      now t image handed (since image handed trace (moment trace) t from until stop);
+}
 
 -- after one call
 pub one_call : (old new : Trace) (P : Image → List Item → Type 0) (Said : ℕ → Image → List Item → Type 0) → IsContinuation old new P
-    → ((t : ℕ) (image : ℕ → List ℕ) (handed : List Item) → StopSince old (moment old) image handed ⊎ P image handed → Said t image handed) → AtEachStop old new Said
-one_call old new P Said a said = record { was = was_then old new P a; each = λ t image handed from until stop. said t image handed (within_call image handed old new P t a from until stop) }
+    → ((t : ℕ) (image : ℕ → List ℕ) (handed : List Item) → StopSince old (moment old) image handed ⊎ P image handed
+    → Said t image handed) → AtEachStop old new Said
+one_call old new P Said a said = record {
+  was = was_then old new P a;
+  each = λ t image handed from until stop.
+      said t image handed (within_call image handed old new P t a from until stop);
+}
 
 -- after one call and then others
-pub more_calls : (old mid new : Trace) (P : Image → List Item → Type 0) (Rest Said : ℕ → Image → List Item → Type 0) → IsContinuation old mid P → AtEachStop mid new Rest
+pub more_calls : (old mid new : Trace) (P : Image → List Item → Type 0) (Rest Said : ℕ → Image → List Item → Type 0)
+    → IsContinuation old mid P → AtEachStop mid new Rest
     → ((t : ℕ) (image : ℕ → List ℕ) (handed : List Item) → t < moment mid → StopSince old (moment old) image handed ⊎ P image handed → Said t image handed)
     → ((t : ℕ) (image : ℕ → List ℕ) (handed : List Item) → moment mid ≤ t → Rest t image handed → Said t image handed)
     → AtEachStop old new Said
@@ -91,4 +103,9 @@ more_calls old mid new P Rest Said a rest early late = record {
 -- for a weaker statement
 pub weaker_said : (old new : Trace) (P Said : ℕ → Image → List Item → Type 0) → AtEachStop old new P
     → ((t : ℕ) (image : ℕ → List ℕ) (handed : List Item) → moment old ≤ t → P t image handed → Said t image handed) → AtEachStop old new Said
-weaker_said old new P Said a imply = record { was = a.was; each = λ t image handed from until stop. imply t image handed from (a.each t image handed from until stop) }
+weaker_said old new P Said a imply =
+    record {
+      was = a.was;
+      each = λ t image handed from until stop.
+          imply t image handed from (a.each t image handed from until stop);
+    }

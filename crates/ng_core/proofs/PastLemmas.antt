@@ -46,7 +46,8 @@ are_run seen events replies moments old new t is = record {
       (adds_to_past seen events replies old new t);
 }
 
-pub powered_on : {R : Type 0} (tools : List ℤ) (seen : R → Device) (c : ControllerModel R) (old : Trace) (x : DurableState) → (c.journal.broken ≡ false) × (c.session ≡ resting c.journal.saved)
+pub powered_on : {R : Type 0} (tools : List ℤ) (seen : R → Device) (c : ControllerModel R) (old : Trace)
+    (x : DurableState) → (c.journal.broken ≡ false) × (c.session ≡ resting c.journal.saved)
     → IsControllerRecovered tools c old (seen c.journal.rig).trace → recovered_of (stands_beside tools (reads old)) ≡ Ok x → IsPoweredOn seen x c
 powered_on tools seen c old x begun r is =
     let same : record { saved = c.session.stored; program = r.program } ≡ x = ok_same (sym r.is ∙ is) in
@@ -64,5 +65,10 @@ pub begins_past : {R : Type 0} (A : Type 0) (tools : List ℤ) (seen : R → Dev
     → IfOk result (λ c. (new ≡ (seen c.journal.rig).trace) × (c.journal.broken ≡ false) × (c.session ≡ resting c.journal.saved))
     → PowerOnSpecIfHonest tools result old new → BeginsPast A tools seen result old
 begins_past A tools seen (Ok c) old new begun p = λ written x is.
-    record { began = powered_on tools seen c old x (begun.1, begun.2) (subst (λ (l : Trace). IsControllerRecovered tools c old l) begun.0 (p.rests written)) is; turns = refl; answered = refl }
+    record {
+      began = powered_on tools seen c old x (begun.1, begun.2)
+          (subst (λ (l : Trace). IsControllerRecovered tools c old l) begun.0 (p.rests written)) is;
+      turns = refl;
+      answered = refl;
+    }
 begins_past A tools seen (Err e) old new begun p = λ written. tt

@@ -8,7 +8,9 @@ use Rattle.ng_layout.specs.Stored.{StoredModel}
 use Rattle.ng_layout.specs.declared.half.Source.TheVariants as source
 use Rattle.ng_canon.specs.declared.geometry.Geometry.{Geometry}
 use Rattle.ng_session.specs.Entries.{done_of}
-use Rattle.ng_session.specs.Session.{SessionModel, Transition, is_running, is_idle, accepts_load, refuses_mdi, answers, start, hold, idleness, resume_held, mdi, mdi_by, begin, begin_by, rest, step, IsQuiet, NeedsProgramLine}
+use Rattle.ng_session.specs.Session.{SessionModel, Transition, is_running, is_idle, accepts_load, refuses_mdi}
+use Rattle.ng_session.specs.Session.{answers, start, hold, idleness, resume_held, mdi, mdi_by, begin, begin_by}
+use Rattle.ng_session.specs.Session.{rest, step, IsQuiet, NeedsProgramLine}
 use Rattle.ng_session.specs.declared.event.Event.{Event}
 use Rattle.ng_session.specs.declared.activity.Activity.{Activity}
 use Rattle.ng_session.specs.declared.activity.Activity.TheVariants as activity
@@ -22,7 +24,8 @@ pub record IsStill (program : List ℕ) (stored : StoredModel) (out : Transition
   pub stored_is : out.next.stored ≡ stored
   pub nothing : stored_for out out.reply ≡ None
 
-pub still : {program : List ℕ} {stored : StoredModel} {out : Transition} → out.items ≡ [] → out.program ≡ program → out.next.stored ≡ stored → stored_for out out.reply ≡ None → IsStill program stored out
+pub still : {program : List ℕ} {stored : StoredModel} {out : Transition} → out.items ≡ [] → out.program ≡ program
+    → out.next.stored ≡ stored → stored_for out out.reply ≡ None → IsStill program stored out
 still items program stored nothing = record { items = items; program_is = program; stored_is = stored; nothing = nothing }
 
 -- nothing is stored for the reply of a session that has nothing to do

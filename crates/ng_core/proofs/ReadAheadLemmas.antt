@@ -1,5 +1,6 @@
 -- Lines that were read ahead: one is begun, more are planned, or all are dropped.
-use Rattle.std.proofs.Common.{◌≡◌, inr, ℕ, Bool, true, false, if◌then◌else◌, List, [], ◌∷◌, ◌++◌, Option, None, Some, Result, Ok, Err, refl, sym, ◌∙◌, ap, subst}
+use Rattle.std.proofs.Common.{◌≡◌, inr, ℕ, Bool, true, false, if◌then◌else◌, List, [], ◌∷◌, ◌++◌, Option, None}
+use Rattle.std.proofs.Common.{Some, Result, Ok, Err, refl, sym, ◌∙◌, ap, subst}
 use Rattle.std.specs.Prelude.{IfOk, IsSome}
 use Rattle.ng_num.specs.declared.fault.Fault.{Fault}
 use Rattle.ng_num.specs.declared.fault.Fault.TheVariants.{DeviceFailed}
@@ -27,7 +28,8 @@ use Rattle.ng_core.specs.Model.{ControllerModel, durable_state_of}
 use Rattle.ng_session.specs.Runs.{crash_in, session_of_transition}
 use Rattle.ng_core.specs.Causes.{stored_for}
 use Rattle.ng_core.specs.Needs.{needs, needs_line}
-use Rattle.ng_core.specs.Events.{IsCrashOfEither, program_session_of, CallsFor, IsKeptAfter, CarriesOut, CarriesOutEvent, IsAnsweredBy, IsAnsweredAnyway, IsAnsweredByLine}
+use Rattle.ng_core.specs.Events.{IsCrashOfEither, program_session_of, CallsFor, IsKeptAfter, CarriesOut}
+use Rattle.ng_core.specs.Events.{CarriesOutEvent, IsAnsweredBy, IsAnsweredAnyway, IsAnsweredByLine}
 use Rattle.ng_core.specs.Private.Ahead.{PlansAhead}
 use Rattle.ng_core.proofs.EventCallLemmas.{acts_unread}
 use Rattle.ng_core.proofs.HonestCallLemmas.{calls_none, calls_quiet, quiet_calls, ledger_quiet}
@@ -43,7 +45,8 @@ use Rattle.ng_core.proofs.QuietEventLemmas.{still_begin}
 abbrev pub with_lines : {R : Type 0} → ControllerModel R → KnownModel → ControllerModel R
 with_lines c known = record { journal = c.journal; session = c.session; lines = known; geometry = c.geometry }
 
-answered_from : {R : Type 0} (answer : Result Reply Fault) (out : Transition) (old new : ControllerModel R) (known : KnownModel) → IsAnsweredBy answer out (with_lines old known) new → IsAnsweredBy answer out old new
+answered_from : {R : Type 0} (answer : Result Reply Fault) (out : Transition) (old new : ControllerModel R)
+    (known : KnownModel) → IsAnsweredBy answer out (with_lines old known) new → IsAnsweredBy answer out old new
 answered_from (Ok r) out old new known a = a
 answered_from (Err DeviceFailed) out old new known a = a
 answered_from (Err fault) out old new known a = a
@@ -83,7 +86,8 @@ module _ {R : Type 0} (seen : R → Device) where
 
   -- ---- a line that was read ahead is begun
 
-  still_lines : (program : List ℕ) (old new : KnownModel) (p : PlannedModel) → old.ahead ≡ p ∷ new.ahead → new.before ≡ old.before → IsKnownOf program old → IsKnownOf program new
+  still_lines : (program : List ℕ) (old new : KnownModel) (p : PlannedModel) → old.ahead ≡ p ∷ new.ahead
+      → new.before ≡ old.before → IsKnownOf program old → IsKnownOf program new
   still_lines program old new p front before known =
       let ahead : IsLineOf program p × AreLinesOf program new.ahead = subst (λ (l : List PlannedModel). AreLinesOf program l) front known.1 in
       (subst (λ k. IsTrueOf program k) (sym before) known.0, ahead.1)
@@ -110,27 +114,37 @@ module _ {R : Type 0} (seen : R → Device) where
       let line = first_line program old new p front known in
       (line.kind, sym line.line)
 
-  pub carried_ahead : (told : Reply) (old new : ControllerModel R) → old.journal.broken ≡ false → is_running old.session.activity ≡ true → new.journal ≡ old.journal → new.geometry ≡ old.geometry
+  pub carried_ahead : (told : Reply) (old new : ControllerModel R) → old.journal.broken ≡ false
+      → is_running old.session.activity ≡ true → new.journal ≡ old.journal → new.geometry ≡ old.geometry
       → IsBegunAhead old.geometry told old.session new.session old.lines new.lines
       → CarriesOut seen needs_line (λ program. begin old.geometry program old.session (program_line_at program old.session.stored.place)) (Ok told) old new
   carried_ahead told old new whole runs same geometry b =
       let p = b.planned in
       let line : ProgramLineModel = record { text = p.prepared.block.text; next = p.next } in
       let found : FindingBoth seen p.first (Some line) old.lines p.place old.journal new.journal =
-      subst (λ (j : JournalModel R). FindingBoth seen p.first (Some line) old.lines p.place old.journal j) (sym same) (finding_ahead old.lines new.lines p old.journal b.front) in
+      subst (λ (j : JournalModel R). FindingBoth seen p.first (Some line) old.lines p.place old.journal j)
+      (sym same) (finding_ahead old.lines new.lines p old.journal b.front) in
       record {
-        does = does_begin seen told p.first (Some line) p.place old new b.place found (λ program known at kind. still_lines program old.lines new.lines p b.front b.before known) b.told_is b.next;
+        does = does_begin seen told p.first (Some line) p.place old new b.place found
+            (λ program known at kind. still_lines program old.lines new.lines p b.front b.before known) b.told_is
+            b.next;
         calls = calls_quiet seen told (λ program. begin old.geometry program old.session (program_line_at program old.session.stored.place)) old new
-            (λ program. still_begin old.geometry program old.session (program_line_at program old.session.stored.place)) (λ h. ap (λ (j : JournalModel R). (seen j.rig).trace) same);
+            (λ program. still_begin old.geometry program old.session
+            (program_line_at program old.session.stored.place))
+            (λ h. ap (λ (j : JournalModel R). (seen j.rig).trace) same);
         reads = reads_begin seen told p.first (Some line) p.place old new b.place
             (ahead_in_force old.lines new.lines p old.journal b.front) (keeps_same seen old.journal new.journal same)
             (λ program known at kind. still_lines program old.lines new.lines p b.front b.before known)
             b.told_is b.next;
         comes = λ none. absurd (none tt);
-        line = λ read. begun_line told (λ (program : List ℕ). begin old.geometry program old.session (program_line_at program old.session.stored.place)) p.first (Some line) p.place old new runs b.place b.beginning b.told_is b.next
+        line = λ read. begun_line told
+            (λ (program : List ℕ). begin old.geometry program old.session
+            (program_line_at program old.session.stored.place)) p.first (Some line) p.place old new runs b.place
+            b.beginning b.told_is b.next
             (ap (λ (j : JournalModel R). ledger_of j) same);
         ledger = ledger_quiet seen (λ program. begin old.geometry program old.session (program_line_at program old.session.stored.place)) old new
-            (λ program. still_begin old.geometry program old.session (program_line_at program old.session.stored.place)) (ap (λ (j : JournalModel R). ledger_of j) same);
+            (λ program. still_begin old.geometry program old.session
+            (program_line_at program old.session.stored.place)) (ap (λ (j : JournalModel R). ledger_of j) same);
         hindered = tt;
         broken = ap (λ (j : JournalModel R). j.broken) same ∙ whole;
         geometry = geometry;
@@ -155,11 +169,16 @@ module _ {R : Type 0} (seen : R → Device) where
   }
 
   -- both reads succeeded
-  pub plans_found : (first : LineKind) (line : Option ProgramLineModel) (place : ℕ) (old new : ControllerModel R) → FindingBoth seen first line old.lines place old.journal new.journal
+  pub plans_found : (first : LineKind) (line : Option ProgramLineModel) (place : ℕ) (old new : ControllerModel R)
+      → FindingBoth seen first line old.lines place old.journal new.journal
       → FindingInForce seen first line old.lines place old.journal
-      → ((program : List ℕ) → IsKnownOf program old.lines → line ≡ program_line_at program place → first ≡ first_kind (lines_before program place) → IsKnownOf program new.lines)
-      → ((seen old.journal.rig).honest → (seen new.journal.rig).trace ≡ (seen old.journal.rig).trace) → new.session ≡ old.session → new.geometry ≡ old.geometry → ledger_of new.journal ≡ ledger_of old.journal → new.journal.broken ≡ false
-      → (seen new.journal.rig).sectors ≡ (seen old.journal.rig).sectors → (seen new.journal.rig).failed ≡ (seen old.journal.rig).failed → PlansAhead seen (Ok tt) old new
+      → ((program : List ℕ) → IsKnownOf program old.lines → line ≡ program_line_at program place
+      → first ≡ first_kind (lines_before program place) → IsKnownOf program new.lines)
+      → ((seen old.journal.rig).honest → (seen new.journal.rig).trace ≡ (seen old.journal.rig).trace)
+      → new.session ≡ old.session → new.geometry ≡ old.geometry → ledger_of new.journal ≡ ledger_of old.journal
+      → new.journal.broken ≡ false
+      → (seen new.journal.rig).sectors ≡ (seen old.journal.rig).sectors
+      → (seen new.journal.rig).failed ≡ (seen old.journal.rig).failed → PlansAhead seen (Ok tt) old new
   plans_found first line place old new p finding known unwritten same geometry ledger whole size failures = record {
     reads = λ h program has.
         let found = finding h program has.0 has.1 in
@@ -170,8 +189,11 @@ module _ {R : Type 0} (seen : R → Device) where
       keeps = p.keeps;
       back = p.back;
       holds = λ h program rests.
-          let f = p.holds h (durable_state_of program old.session) rests.0 rests.1 in
-          (subst (λ (s : SessionModel). IsDurablyAt (seen new.journal.rig).trace new.journal (durable_state_of program s)) (sym same) f.at, known program rests.1 f.line_is f.first_is);
+          let f = p.holds h (durable_state_of program old.session) rests.0 rests.1 in (
+            subst (λ (s : SessionModel). IsDurablyAt (seen new.journal.rig).trace new.journal
+                (durable_state_of program s)) (sym same) f.at,
+            known program rests.1 f.line_is f.first_is,
+          );
     };
     session = same;
     ledger = ledger;
@@ -185,8 +207,11 @@ module _ {R : Type 0} (seen : R → Device) where
   -- the device failed
   pub plans_lost : (fault e : Fault) (old new : ControllerModel R) → fault ≡ e
       → IfHonest (seen old.journal.rig) (seen new.journal.rig) ((seen new.journal.rig).trace ≡ (seen old.journal.rig).trace)
-      → e ≡ DeviceFailed → new.session ≡ old.session → new.geometry ≡ old.geometry → ledger_of new.journal ≡ ledger_of old.journal → IsBrokenBy {T = Unit {0}} (Err e) new.journal.broken
-      → (seen new.journal.rig).sectors ≡ (seen old.journal.rig).sectors → CountsFailure {T = Unit {0}} (Err e) (seen old.journal.rig).failed (seen new.journal.rig).failed → PlansAhead seen (Err fault) old new
+      → e ≡ DeviceFailed → new.session ≡ old.session → new.geometry ≡ old.geometry
+      → ledger_of new.journal ≡ ledger_of old.journal → IsBrokenBy {T = Unit {0}} (Err e) new.journal.broken
+      → (seen new.journal.rig).sectors ≡ (seen old.journal.rig).sectors
+      → CountsFailure {T = Unit {0}} (Err e) (seen old.journal.rig).failed (seen new.journal.rig).failed
+      → PlansAhead seen (Err fault) old new
   plans_lost fault e old new is p lost same geometry ledger broken size failures =
       subst (λ (f : Fault). PlansAhead seen (Err f) old new) (sym is) (record {
         does = meaning p (λ still program rests. tt);
@@ -215,18 +240,30 @@ module _ {R : Type 0} (seen : R → Device) where
           let same : (seen new.journal.rig).trace ≡ (seen mid.journal.rig).trace = p.unwritten (c.does.keeps h) in
           record {
             comes = (a.comes.0, p.session ∙ a.comes.1);
-            stops = subst (λ (l : Trace). IsContinuation (seen old.journal.rig).trace l (IsCrashOfEither (crash_in (program_session_of program old) (items (seen old.journal.rig).trace)) (crash_in (session_of_transition (out program)) (items (seen old.journal.rig).trace ++ (out program).items)))) (sym same) a.stops;
+            stops = subst (λ (l : Trace). IsContinuation (seen old.journal.rig).trace l
+                (IsCrashOfEither (crash_in (program_session_of program old) (items (seen old.journal.rig).trace))
+                (crash_in (session_of_transition (out program))
+                (items (seen old.journal.rig).trace ++ (out program).items)))) (sym same) a.stops;
             leaves = (p.does.holds (c.does.keeps h) (out program).program a.leaves.0, ap items same ∙ a.leaves.1);
             untouched = λ nothing. same ∙ a.untouched nothing;
           };
     };
-    calls = λ h program. subst (λ (t : Trace). CallsFor (Ok told) (out program) (seen old.journal.rig).sectors (ledger_of old.journal) (seen old.journal.rig).trace t) (sym (p.unwritten (c.does.keeps h))) (c.calls h program);
+    calls = λ h program. subst (λ (t : Trace). CallsFor (Ok told) (out program) (seen old.journal.rig).sectors
+        (ledger_of old.journal) (seen old.journal.rig).trace t) (sym (p.unwritten (c.does.keeps h)))
+        (c.calls h program);
     reads = λ h program has.
         let a = c.reads h program has in
         ((a.0.0, p.session ∙ a.0.1), p.reads (c.does.keeps h) (out program).program a.1);
     comes = λ none program. let x = c.comes none program in (x.0, p.session ∙ x.1);
-    line = λ read. let l = c.line read in record { program = l.program; line = l.line; comes = (l.comes.0, p.session ∙ l.comes.1); ledger = p.ledger ∙ l.ledger };
-    ledger = λ program. subst (λ (l : Ledger). IsKeptAfter (stored_for (out program) (out program).reply) (seen old.journal.rig).sectors (ledger_of old.journal) l) (sym p.ledger) (c.ledger program);
+    line = λ read. let l = c.line read in record {
+      program = l.program;
+      line = l.line;
+      comes =
+          (l.comes.0, p.session ∙ l.comes.1);
+      ledger = p.ledger ∙ l.ledger;
+    };
+    ledger = λ program. subst (λ (l : Ledger). IsKeptAfter (stored_for (out program) (out program).reply)
+        (seen old.journal.rig).sectors (ledger_of old.journal) l) (sym p.ledger) (c.ledger program);
     hindered = tt;
     broken = p.broken;
     geometry = p.geometry ∙ c.geometry;
@@ -235,11 +272,15 @@ module _ {R : Type 0} (seen : R → Device) where
   }
 
   -- what the status shows is unchanged when a line is begun
-  begun_by_status : (program : List ℕ) (s : SessionModel) (line : ProgramLineModel) (done : Result Done Fault) → reply.Begun ≡ (begin_by program s line done).reply → session_status (begin_by program s line done).next ≡ session_status s
+  begun_by_status : (program : List ℕ) (s : SessionModel) (line : ProgramLineModel) (done : Result Done Fault)
+      → reply.Begun ≡ (begin_by program s line done).reply
+      → session_status (begin_by program s line done).next ≡ session_status s
   begun_by_status program s line (Ok done) told = refl
   begun_by_status program s line (Err fault) told = cc
 
-  begun_status : (q : Geometry) (program : List ℕ) (s : SessionModel) (line : Option ProgramLineModel) → reply.Begun ≡ (begin q program s line).reply → session_status (begin q program s line).next ≡ session_status s
+  begun_status : (q : Geometry) (program : List ℕ) (s : SessionModel) (line : Option ProgramLineModel)
+      → reply.Begun ≡ (begin q program s line).reply → session_status (begin q program s line).next ≡ session_status
+      s
   begun_status q program s None told = cc
   begun_status q program s (Some line) told = begun_by_status program s line (done_of q program s.stored source.Program line.text s.block_delete) told
 
@@ -254,7 +295,8 @@ module _ {R : Type 0} (seen : R → Device) where
       let by = by_running begins old l.program l.line runs in
       let told : reply.Begun ≡ (begin old.geometry l.program old.session l.line).reply = l.comes.0 ∙ ap (λ (o : Transition). o.reply) by in
       let next : mid.session ≡ (begin old.geometry l.program old.session l.line).next = l.comes.1 ∙ ap (λ (o : Transition). o.next) by in
-      let status : session_status new.session ≡ session_status old.session = ap session_status (p.session ∙ next) ∙ begun_status old.geometry l.program old.session l.line told in
+      let status : session_status new.session ≡ session_status old.session = ap session_status (p.session ∙ next)
+      ∙ begun_status old.geometry l.program old.session l.line told in
       let lost : fault ≡ DeviceFailed = is ∙ p.errors in
       record {
         does = record {
@@ -262,16 +304,29 @@ module _ {R : Type 0} (seen : R → Device) where
           back = λ h. c.does.back (p.does.back h);
           holds = λ h program rests.
               let a = c.does.holds h program rests in
-              acts_unread fault (begins program) program old new (seen old.journal.rig).trace (seen new.journal.rig).trace lost (p.unwritten (c.does.keeps h) ∙ a.untouched tt) status;
+              acts_unread fault (begins program) program old new (seen old.journal.rig).trace
+              (seen new.journal.rig).trace lost (p.unwritten (c.does.keeps h) ∙ a.untouched tt) status;
         };
         calls = calls_none seen fault begins old new (λ h. p.unwritten (c.does.keeps h)
-            ∙ quiet_calls reply.Begun [] old.session.stored (begins []) (seen old.journal.rig).sectors (ledger_of old.journal) (seen old.journal.rig).trace (seen mid.journal.rig).trace
+            ∙ quiet_calls reply.Begun [] old.session.stored (begins []) (seen old.journal.rig).sectors
+            (ledger_of old.journal) (seen old.journal.rig).trace (seen mid.journal.rig).trace
             (still_begin old.geometry [] old.session (program_line_at [] old.session.stored.place)) (c.calls h []));
         reads = reads_lost seen fault begins old new lost status;
-        comes = record { status = status; session = λ other. absurd (other lost); ledger = λ other. absurd (other lost); journal = λ other. absurd (other lost) };
+        comes = record {
+          status = status;
+          session = λ other. absurd (other lost);
+          ledger = λ other.
+              absurd (other lost);
+          journal = λ other. absurd (other lost);
+        };
         line = λ read. tt;
         ledger = tt;
-        hindered = inr (inr (lost, tt, λ program used. unused_begin old.geometry program old.session (program_line_at program old.session.stored.place) (ledger_of old.journal) used));
+        hindered = inr (inr (
+          lost,
+          tt,
+          λ program used. unused_begin old.geometry program old.session
+              (program_line_at program old.session.stored.place) (ledger_of old.journal) used,
+        ));
         broken = subst (λ (f : Fault). IsBrokenBy {T = Reply} (Err f) new.journal.broken) (sym is) p.broken;
         geometry = p.geometry ∙ c.geometry;
         size = p.size ∙ c.size;
@@ -291,14 +346,17 @@ pub forgotten_none : {A : Type 0} (e : Event A) (known : KnownModel) → drops_p
 forgotten_none e known drops = ap (λ (b : Bool). (let k : KnownModel = if b then forgotten known else known in k).ahead) drops
 
 module _ {R : Type 0} (seen : R → Device) where
-  pub carried_forgotten : {A : Type 0} (e : Event A) (answer : Result Reply Fault) (old new : ControllerModel R) (known : KnownModel) → known ≡ forgotten_for e old.lines
+  pub carried_forgotten : {A : Type 0} (e : Event A) (answer : Result Reply Fault) (old new : ControllerModel R)
+      (known : KnownModel) → known ≡ forgotten_for e old.lines
       → CarriesOutEvent seen e answer (with_lines old known) new → CarriesOutEvent seen e answer old new
   carried_forgotten e answer old new known is c =
-      carried_from seen (TakesMemory old.geometry old.session e) (AsksDevice old.geometry old.session e) (NeedsProgramLine old.geometry old.session e) (λ program. step old.geometry program old.session e)
+      carried_from seen (TakesMemory old.geometry old.session e) (AsksDevice old.geometry old.session e)
+      (NeedsProgramLine old.geometry old.session e) (λ program. step old.geometry program old.session e)
       answer old new known (λ program of. subst (λ (k : KnownModel). IsKnownOf program k) (sym is) (still_forgotten e old.lines program of)) c
 
 -- the stored state is unchanged when a line that was read ahead is begun
-pub stored_ahead : (geometry : Geometry) (told : Reply) (s t : SessionModel) (known_old known_new : KnownModel) → IsBegunAhead geometry told s t known_old known_new → t.stored ≡ s.stored
+pub stored_ahead : (geometry : Geometry) (told : Reply) (s t : SessionModel) (known_old known_new : KnownModel)
+    → IsBegunAhead geometry told s t known_old known_new → t.stored ≡ s.stored
 stored_ahead geometry told s t known_old known_new b =
     let found = has_kind b.planned.first b.planned.place b.beginning in
     let kind = found.1 ∙ ap (λ (n : ℕ). first_kind (lines_before found.0 n)) b.place in

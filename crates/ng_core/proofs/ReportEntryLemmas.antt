@@ -1,5 +1,6 @@
 -- An entry that is stored as a report.
-use Rattle.std.proofs.Common.{◌≡◌, ◌⊎◌, ℕ, ℤ, ◌+◌, ◌<◌, nat_lt, arith, Bool, true, false, not, ◌&&◌, if◌then◌else◌, Option, None, Some, Result, Ok, Err, refl, sym, ap, subst, ◌∙◌}
+use Rattle.std.proofs.Common.{◌≡◌, ◌⊎◌, ℕ, ℤ, ◌+◌, ◌<◌, nat_lt, arith, Bool, true, false, not, ◌&&◌, if◌then◌else◌}
+use Rattle.std.proofs.Common.{Option, None, Some, Result, Ok, Err, refl, sym, ap, subst, ◌∙◌}
 use Rattle.std.proofs.lemmas.Bool.Decides.{nat_tests}
 use Rattle.std.specs.Option.{is_none}
 use Rattle.ng_num.specs.declared.fault.Fault.TheVariants as fault
@@ -20,18 +21,23 @@ use Rattle.ng_core.specs.Events.{IsCarriedOutIfHonest, TouchesNothing}
 use Rattle.ng_core.proofs.HonestEventLemmas.{does_moved, does_unmoved, Storing}
 use Rattle.ng_core.proofs.TickLemmas.{StoresEntry, kept}
 
-storing : {R T : Type 0} (seen : R → Device) (result : Result T Fault) (saved : StoredModel) (entry : Entry) (next : SessionModel) (old : ControllerModel R) (journal : JournalModel R) → saved ≡ next.stored
+storing : {R T : Type 0} (seen : R → Device) (result : Result T Fault) (saved : StoredModel) (entry : Entry)
+    (next : SessionModel) (old : ControllerModel R) (journal : JournalModel R) → saved ≡ next.stored
     → StoresEntry seen result saved old.journal journal → Storing seen result (λ program. commits program entry next) old journal
 storing seen result saved entry next old journal is p =
     meaning p (λ f program rests.
-    subst (λ (x : StoredModel). CommitSpec result journal (durable_state_of program old.session) (record { saved = x; program = program }) (seen old.journal.rig).trace (seen journal.rig).trace) is
+    subst (λ (x : StoredModel). CommitSpec result journal (durable_state_of program old.session)
+    (record { saved = x; program = program }) (seen old.journal.rig).trace (seen journal.rig).trace) is
     (f (durable_state_of program old.session) rests.0))
 
 pub keeps : {R T : Type 0} (seen : R → Device) (v : T) (r : Reply) (saved : StoredModel) (entry : Entry) (next : SessionModel) (old new : ControllerModel R)
-    → saved ≡ next.stored → r ≡ reply.Done next.stored.entries → new.session ≡ next → StoresEntry seen (Ok v) saved old.journal new.journal → new.lines ≡ old.lines
+    → saved ≡ next.stored → r ≡ reply.Done next.stored.entries → new.session ≡ next
+    → StoresEntry seen (Ok v) saved old.journal new.journal → new.lines ≡ old.lines
     → IsCarriedOutIfHonest seen (Ok r) (λ program. commits program entry next) old new
 keeps seen v r saved entry next old new is replied there p lines =
-    does_moved seen r v (λ program. commits program entry next) old new (storing seen (Ok v) saved entry next old new.journal is p) (kept old.lines new.lines lines) (λ program. replied) (λ program. there) (λ program. refl)
+    does_moved seen r v (λ program. commits program entry next) old new
+    (storing seen (Ok v) saved entry next old new.journal is p) (kept old.lines new.lines lines)
+    (λ program. replied) (λ program. there) (λ program. refl)
     (subst (λ (x : Reply). TouchesNothing x → ⊥) (sym replied) (λ z. z))
 
 pub keeps_none : {R T : Type 0} (seen : R → Device) (fault : Fault) (saved : StoredModel) (entry : Entry) (next : SessionModel) (old new : ControllerModel R)
@@ -39,7 +45,9 @@ pub keeps_none : {R T : Type 0} (seen : R → Device) (fault : Fault) (saved : S
     → StoresEntry {T = T} seen (Err fault) saved old.journal new.journal → new.lines ≡ old.lines
     → IsCarriedOutIfHonest seen (Err fault) (λ program. commits program entry next) old new
 keeps_none {R} {T} seen fault saved entry next old new is same which unchanged p lines =
-    does_unmoved {T = T} seen fault fault (λ program. commits program entry next) old new (storing {T = T} seen (Err fault) saved entry next old new.journal is p) which unchanged lines same (λ program. refl)
+    does_unmoved {T = T} seen fault fault (λ program. commits program entry next) old new
+    (storing {T = T} seen (Err fault) saved entry next old new.journal is p) which unchanged lines same
+    (λ program. refl)
 
 -- ---- a half-done block may be given up
 
@@ -61,7 +69,8 @@ half_of true false h = refl
 half_of false d h = cc
 
 pub no_block : (s : SessionModel) → abandon_refusal s ≡ None → s.current ≡ None
-no_block s free = none_of s.current (first_of (is_none s.current) (not (is_running s.activity)) (not s.held) (rests_of (is_at_rest s) (is_none s.stored.half) free))
+no_block s free = none_of s.current (first_of (is_none s.current) (not (is_running s.activity)) (not s.held)
+    (rests_of (is_at_rest s) (is_none s.stored.half) free))
 
 pub has_half : (s : SessionModel) → abandon_refusal s ≡ None → s.stored.half ≡ None → ⊥
 has_half s free none = let e : true ≡ false = sym (ap is_none none) ∙ half_of (is_at_rest s) (is_none s.stored.half) free in cc
@@ -73,7 +82,9 @@ rest_of true d h = refl
 rest_of false d h = cc
 
 pub no_block_at_rest : (s : SessionModel) → accepts_load s ≡ true → s.current ≡ None
-no_block_at_rest s free = none_of s.current (first_of (is_none s.current) (not (is_running s.activity)) (not s.held) (rest_of (is_at_rest s) (is_none s.stored.half) free))
+no_block_at_rest s free =
+    none_of s.current (first_of (is_none s.current) (not (is_running s.activity)) (not s.held)
+    (rest_of (is_at_rest s) (is_none s.stored.half) free))
 
 pub has_room : (n : ℕ) → not (nat_lt n greatest_count) ≡ false → n < greatest_count
 has_room n room = grind (arith, nat_tests)

@@ -1,5 +1,6 @@
 -- A half-done block goes on, from the contract of the read before it.
-use Rattle.std.proofs.Common.{◌≡◌, ◌≤◌, inl, ℕ, ◌&&◌, Bool, true, false, not, if◌then◌else◌, List, Option, Some, None, Result, Ok, Err, refl, sym, ◌∙◌, ap, subst}
+use Rattle.std.proofs.Common.{◌≡◌, ◌≤◌, inl, ℕ, ◌&&◌, Bool, true, false, not, if◌then◌else◌, List, Option, Some}
+use Rattle.std.proofs.Common.{None, Result, Ok, Err, refl, sym, ◌∙◌, ap, subst}
 use Rattle.std.specs.Prelude.{IfSome}
 use Rattle.std.specs.Option.{is_none}
 use Rattle.std.specs.Str.Lines.{lines}
@@ -18,7 +19,9 @@ use Rattle.ng_journal.specs.Journal.{JournalModel, IsDurablyAt, HoldsProgram}
 use Rattle.ng_journal.specs.Storing.{ledger_of}
 use Rattle.ng_canon.specs.declared.geometry.Geometry.{Geometry}
 use Rattle.ng_session.specs.Entries.{done_again}
-use Rattle.ng_session.specs.Session.{SessionModel, Transition, refuses, resume, resume_half, resume_from, resume_by, resume_refusal, waiting_refusal, is_at_rest, is_running, session_status, next_place_after, IsProgramsLine}
+use Rattle.ng_session.specs.Session.{SessionModel, Transition, refuses, resume, resume_half, resume_from, resume_by}
+use Rattle.ng_session.specs.Session.{resume_refusal, waiting_refusal, is_at_rest, is_running, session_status}
+use Rattle.ng_session.specs.Session.{next_place_after, IsProgramsLine}
 use Rattle.ng_session.specs.declared.reply.Reply.{Reply}
 use Rattle.ng_session.specs.declared.reply.Reply.TheVariants as reply
 use Rattle.ng_session.proofs.RefusalLemmas.{refused_again}
@@ -36,14 +39,17 @@ use Rattle.ng_core.proofs.TickChoiceLemmas.{with_session}
 use Rattle.ng_core.proofs.AnyDeviceLemmas.{comes_by, comes_to}
 use Rattle.ng_core.proofs.InForce.{KeepsProgram, ReadingInForce, reads_on, reads_still}
 
-next_by : (program : List ℕ) (half : Option HalfModel) (place next : ℕ) → IsProgramsLine half → next ≡ next_line_start program place → IfSome half (λ h. next ≡ next_place_after program place h.source)
+next_by : (program : List ℕ) (half : Option HalfModel) (place next : ℕ) → IsProgramsLine half
+    → next ≡ next_line_start program place → IfSome half (λ h. next ≡ next_place_after program place h.source)
 next_by program None place next line is = absurd line
 next_by program (Some half) place next line is = is ∙ sym (ap (λ (x : Source). next_place_after program place x) line)
 
 -- what finding the next line leaves
 abbrev pub FindingNext : {R E : Type 0} → (R → Device) → Result ℕ E → SessionModel → JournalModel R → JournalModel R → Type 0
 FindingNext seen result s old new =
-    IfHonest (seen old.rig) (seen new.rig) ((standing : DurableState) → IsDurablyAt (seen old.rig).trace old standing → NextLineSpec result new standing s (seen old.rig).trace (seen new.rig).trace)
+    IfHonest (seen old.rig) (seen new.rig) ((standing : DurableState)
+    → IsDurablyAt (seen old.rig).trace old standing → NextLineSpec result new standing s (seen old.rig).trace
+    (seen new.rig).trace)
 
 -- the block is a line of the program, and that is read
 pub finds_next : {R E F : Type 0} (seen : R → Device) (line : Option ProgramLineModel) (next : ℕ) (s : SessionModel) (old new : JournalModel R)
@@ -95,7 +101,8 @@ pub does_not_resume : {R : Type 0} (seen : R → Device) (fault : Fault) (old ne
 does_not_resume seen fault old new is journal lines same =
     does_on seen (Ok (reply.Refused fault)) (λ program. refuses program fault old.session) (λ program. resume old.geometry program old.session) old old new refl
     (λ program. sym (refused_again old.geometry program old.session fault is))
-    (does_still seen (reply.Refused fault) (λ program. refuses program fault old.session) old new (λ program. still refl refl refl refl) journal lines (λ program. refl) (λ program. same))
+    (does_still seen (reply.Refused fault) (λ program. refuses program fault old.session) old new
+    (λ program. still refl refl refl refl) journal lines (λ program. refl) (λ program. same))
 
 pub reads_not_resumed : {R : Type 0} (seen : R → Device) (fault : Fault) (old new : ControllerModel R)
     → Some fault ≡ resume_refusal old.geometry old.session → new.journal ≡ old.journal → new.lines ≡ old.lines
@@ -108,10 +115,12 @@ reads_not_resumed seen fault old new is journal lines same =
     (reads_still seen (reply.Refused fault) (λ program. refuses program fault old.session) old new
     (λ program. still refl refl refl refl) journal lines (λ program. refl) (λ program. same))
 
-pub comes_not_resumed : {R : Type 0} (reads : Type 0) (fault : Fault) (old new : ControllerModel R) → Some fault ≡ resume_refusal old.geometry old.session → new.session ≡ old.session
+pub comes_not_resumed : {R : Type 0} (reads : Type 0) (fault : Fault) (old new : ControllerModel R)
+    → Some fault ≡ resume_refusal old.geometry old.session → new.session ≡ old.session
     → IsAnsweredAnyway reads (Ok (reply.Refused fault)) (λ program. resume old.geometry program old.session) old new
 comes_not_resumed reads fault old new is same =
-    comes_to reads reads (Ok (reply.Refused fault)) (λ program. refuses program fault old.session) (λ program. resume old.geometry program old.session) old new (λ p. p)
+    comes_to reads reads (Ok (reply.Refused fault)) (λ program. refuses program fault old.session)
+    (λ program. resume old.geometry program old.session) old new (λ p. p)
     (λ program. sym (refused_again old.geometry program old.session fault is))
     (comes_by reads (reply.Refused fault) (λ program. refuses program fault old.session) old new (λ program. refl) (λ program. same))
 
@@ -119,7 +128,8 @@ comes_not_resumed reads fault old new is same =
 
 -- the reply of the session, and the session after it
 abbrev pub GoesOn : {R : Type 0} → Reply → SessionModel → ControllerModel R → SessionModel → ℕ → Type 0
-GoesOn r next old s place = (program : List ℕ) → IsNextLineAt program s place → (r ≡ (resume old.geometry program s).reply) × (next ≡ (resume old.geometry program s).next)
+GoesOn r next old s place = (program : List ℕ) → IsNextLineAt program s place
+    → (r ≡ (resume old.geometry program s).reply) × (next ≡ (resume old.geometry program s).next)
 
 does_go : {R E : Type 0} (seen : R → Device) (r : Reply) (place : ℕ) (old new : ControllerModel R)
     → FindingNext {E = E} seen (Ok place) old.session old.journal new.journal → new.lines ≡ old.lines → GoesOn r new.session old old.session place
@@ -131,7 +141,8 @@ does_go seen r place old new p lines goes = record {
       let f = p.holds h (durable_state_of program old.session) rests.0 in
       let quiet = still_resume old.geometry program old.session in
       let out : Transition = resume old.geometry program old.session in
-      acts_read r out program old new (seen old.journal.rig).trace (seen new.journal.rig).trace f.same f.at (known_as program out.program old.lines new.lines quiet.program_is lines rests.1)
+      acts_read r out program old new (seen old.journal.rig).trace (seen new.journal.rig).trace f.same f.at
+      (known_as program out.program old.lines new.lines quiet.program_is lines rests.1)
       (goes program f.next).0 (goes program f.next).1 quiet.items quiet.program_is quiet.stored_is;
 }
 
@@ -160,10 +171,15 @@ reads_resume seen r place old new s same finding keeps lines goes = λ h program
     )
 
 pub comes_resume : {R : Type 0} (r : Reply) (place : ℕ) (old new : ControllerModel R) (s : SessionModel)
-    → s ≡ old.session → None ≡ resume_refusal old.geometry old.session → ((IsProgramsLine s.stored.half → ⊥) → (program : List ℕ) → IsNextLineAt program s place) → GoesOn r new.session old s place
-    → IsAnsweredAnyway ((resume_refusal old.geometry old.session ≡ None) × IsProgramsLine old.session.stored.half) (Ok r) (λ program. resume old.geometry program old.session) old new
+    → s ≡ old.session → None ≡ resume_refusal old.geometry old.session
+    → ((IsProgramsLine s.stored.half → ⊥) → (program : List ℕ) → IsNextLineAt program s place)
+    → GoesOn r new.session old s place
+    → IsAnsweredAnyway ((resume_refusal old.geometry old.session ≡ None) × IsProgramsLine old.session.stored.half)
+    (Ok r) (λ program. resume old.geometry program old.session) old new
 comes_resume r place old new s same free next goes =
-    subst (λ (x : SessionModel). IsAnsweredAnyway ((resume_refusal old.geometry x ≡ None) × IsProgramsLine x.stored.half) (Ok r) (λ program. resume old.geometry program x) (with_session old x) new) same
+    subst (λ (x : SessionModel). IsAnsweredAnyway ((resume_refusal old.geometry x ≡ None)
+    × IsProgramsLine x.stored.half) (Ok r) (λ program. resume old.geometry program x) (with_session old x) new)
+    same
     (λ read program. goes program (next (λ line. read (ap (λ (x : SessionModel). resume_refusal old.geometry x) same ∙ sym free, line)) program))
 
 -- it isn't refused, so the program doesn't run
@@ -197,12 +213,14 @@ resumed_line r place old new s same free line beyond goes ledger =
     record {
       program = found.0;
       line = None;
-      comes = subst (λ (o : Transition). IsAnsweredBy (Ok r) o old new) (sym (by_stopped out old found.0 None (stopped old.geometry old.session free))) (there found.0 next);
+      comes = subst (λ (o : Transition). IsAnsweredBy (Ok r) o old new)
+          (sym (by_stopped out old found.0 None (stopped old.geometry old.session free))) (there found.0 next);
       ledger = ledger;
     }
 
 -- there was no memory for the states after the block and after its approach
-pub does_resume_short : {R E : Type 0} (seen : R → Device) (fault : Fault) (place : ℕ) (s : SessionModel) (out : List ℕ → Transition) (old new : ControllerModel R)
+pub does_resume_short : {R E : Type 0} (seen : R → Device) (fault : Fault) (place : ℕ) (s : SessionModel)
+    (out : List ℕ → Transition) (old new : ControllerModel R)
     → FindingNext {E = E} seen (Ok place) s old.journal new.journal → fault ≡ OutOfMemory → new.session ≡ old.session → new.lines ≡ old.lines
     → IsCarriedOutIfHonest seen (Err fault) out old new
 does_resume_short seen fault place s out old new p is same lines = record {
@@ -210,7 +228,8 @@ does_resume_short seen fault place s out old new p is same lines = record {
   back = p.back;
   holds = λ h program rests.
       let f = p.holds h (durable_state_of program old.session) rests.0 in
-      acts_aside fault (out program) program old new (seen old.journal.rig).trace (seen new.journal.rig).trace (inl is) f.same same f.at (known_as program program old.lines new.lines refl lines rests.1);
+      acts_aside fault (out program) program old new (seen old.journal.rig).trace (seen new.journal.rig).trace
+      (inl is) f.same same f.at (known_as program program old.lines new.lines refl lines rests.1);
 }
 
 -- the device failed in the read

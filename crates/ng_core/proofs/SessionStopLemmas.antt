@@ -23,8 +23,10 @@ use Rattle.ng_core.proofs.MomentLemmas.{one_call, weaker_said}
 
 -- ---- within power on
 
-left_within : (geometry : Geometry) (tools : List ℤ) (x : DurableState) (old : Trace) (image : Image) (handed : List Item) → stands_beside tools (reads old) ≡ Ok x → IsWritten (reads old)
-    → IsEitherBeside tools (stands_beside tools (reads old)) (recovered_of (stands_beside tools (reads old))) (items old) image handed → LeavesSession geometry tools (reads old) (items old) [] [] [] 0 image handed
+left_within : (geometry : Geometry) (tools : List ℤ) (x : DurableState) (old : Trace) (image : Image)
+    (handed : List Item) → stands_beside tools (reads old) ≡ Ok x → IsWritten (reads old)
+    → IsEitherBeside tools (stands_beside tools (reads old)) (recovered_of (stands_beside tools (reads old)))
+    (items old) image handed → LeavesSession geometry tools (reads old) (items old) [] [] [] 0 image handed
 left_within geometry tools x old image handed state written p = record {
   items = [];
   handed_is = p.handed_is ∙ sym (append-nil (items old));
@@ -56,12 +58,16 @@ within_power_on seen geometry tools x result old new p state written =
     let left = λ (image : Image) (handed : List Item). left_within geometry tools x old image handed state written in (
       one_call old new _ _ stops (λ t image handed either. ⊎_elim (λ since. inl (stop_now old image handed since)) (λ e. inr (left image handed e)) either),
       λ synced. one_call old new _ _ stops
-          (λ t image handed either. left image handed (⊎_elim (λ since. left_synced tools old image handed synced written (stop_now old image handed since)) (λ e. e) either)),
+          (λ t image handed either.
+          left image handed (⊎_elim
+          (λ since. left_synced tools old image handed synced written (stop_now old image handed since))
+          (λ e. e) either)),
     )
 
 -- ---- after it
 
-left_after : (geometry : Geometry) (tools : List ℤ) (lines : List (List ℕ)) (x : DurableState) (first : Image) (before : List Item) (executed begun : List Entry) (acknowledged : ℕ) (image : Image) (handed : List Item)
+left_after : (geometry : Geometry) (tools : List ℤ) (lines : List (List ℕ)) (x : DurableState) (first : Image)
+    (before : List Item) (executed begun : List Entry) (acknowledged : ℕ) (image : Image) (handed : List Item)
     → stands_beside tools first ≡ Ok x → IsWritten first → IsAccounted geometry lines (recovered x) before executed begun acknowledged image handed
     → LeavesSession geometry tools first before lines executed begun acknowledged image handed
 left_after geometry tools lines x first before executed begun acknowledged image handed state written p =
@@ -94,7 +100,9 @@ after_power_on A seen tools image x events replies moments first now p state wri
     let n = answered_by t moments in
     let tried = tried_events (take (suc n) events) p.passes.answers in
     let scene = session_at_power_on (recovered x) in
-    left_after first.geometry tools (lines_given (take (suc n) events)) x image (items (seen first.journal.rig).trace) (entries_of first.geometry scene tried) (under_way first.geometry scene tried) (dones (take n replies)) left handed state written a)
+    left_after first.geometry tools (lines_given (take (suc n) events)) x image
+    (items (seen first.journal.rig).trace) (entries_of first.geometry scene tried)
+    (under_way first.geometry scene tried) (dones (take n replies)) left handed state written a)
 
 -- ---- power on again
 
@@ -108,21 +116,29 @@ record IsSound (tools : List ℤ) (image : Image) : Type 0 where
   state : stands_beside tools image ≡ Ok standing
   written : IsWritten image
 
-sound : (tools : List ℤ) (standing : DurableState) (given : List Item) (image : Image) (handed : List Item) → StandsBeside tools standing given image handed → IsSound tools image
+sound : (tools : List ℤ) (standing : DurableState) (given : List Item) (image : Image) (handed : List Item)
+    → StandsBeside tools standing given image handed → IsSound tools image
 sound tools standing given image handed p = record { standing = standing; state = p.state; written = p.written }
 
 -- a session leaves such an image
 left_sound : (geometry : Geometry) (tools : List ℤ) (image : Image) (s : CutSession) → IsSession geometry tools image s → IsSound tools s.image
 left_sound geometry tools image s p = elim p.cut [
   | inl within ↦ ⊎_elim (λ q. sound tools p.standing [] s.image s.items q) (λ q. sound tools (recovered p.standing) [] s.image s.items q) within.stands_for
-  | inr after ↦ record { standing = after.left.standing; state = modern-beside tools s.image after.stands_for.modern ∙ after.stands_for.state; written = after.stands_for.written }
+  | inr after ↦ record {
+    standing = after.left.standing;
+    state = modern-beside tools s.image after.stands_for.modern
+        ∙ after.stands_for.state;
+    written = after.stands_for.written;
+  }
 ]
 
 pub anew : {R : Type 0} (A : Type 0) (seen : R → Device) → SessionsAnew A seen
 anew A seen tools image x events replies moments first now p geometry result new state written powers =
     let old = (seen now.journal.rig).trace in
     let stops = after_power_on A seen tools image x events replies moments first now p state written in
-    let leaves : (left : Image) (handed : List Item) → IsStop old left handed → LeavesSessionBy seen tools image x events replies moments first now p (moment old) left handed = λ left handed stop.
+    let leaves : (left : Image) (handed : List Item) → IsStop old left handed
+    → LeavesSessionBy seen tools image x events replies moments first now p (moment old) left handed =
+    λ left handed stop.
     stops.each (moment old) left handed (rising_last (moment (seen first.journal.rig).trace) (moment old) moments p.passes.rising) (omega arith)
     (subst (λ (l : Trace). IsStop l left handed) (sym (trace_now old)) stop) in
     let here = leaves (reads old) (items old) (λ n. may_hold-reads old n, refl) in

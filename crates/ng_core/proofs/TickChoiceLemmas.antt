@@ -12,7 +12,8 @@ use Rattle.ng_rig.proofs.GuaranteeLemmas.{meaning}
 use Rattle.ng_text.specs.Programs.{program_line_at}
 use Rattle.ng_layout.specs.Stored.{HalfModel}
 use Rattle.ng_canon.specs.declared.geometry.Geometry.{Geometry}
-use Rattle.ng_session.specs.Session.{CurrentBlockModel, SessionModel, Transition, tick, end, begin, item_of, handed, opening_of, opening_on, segment_open, is_running}
+use Rattle.ng_session.specs.Session.{CurrentBlockModel, SessionModel, Transition, tick, end, begin, item_of, handed}
+use Rattle.ng_session.specs.Session.{opening_of, opening_on, segment_open, is_running}
 use Rattle.ng_session.specs.declared.reply.Reply.{Reply}
 use Rattle.ng_session.specs.Stages.{Stage}
 use Rattle.ng_session.specs.Stages as stage
@@ -28,18 +29,24 @@ with_session c s = record { journal = c.journal; session = s; lines = c.lines; g
 
 -- the outcome of the item is that of the Tick: the session took the item before, and its status is unchanged
 acts_before : {R : Type 0} (answer : Result Reply Fault) (out : Transition) (program : List ℕ) (old new : ControllerModel R) (trace_old trace_new : Trace)
-    → IfErr answer (λ e. e ≡ DeviceFailed) → IsCarriedOut answer out program (with_session old (handed old.session)) new trace_old trace_new → IsCarriedOut answer out program old new trace_old trace_new
-acts_before (Ok r) out program old new trace_old trace_new errors acts = record { comes = acts.comes; stops = acts.stops; leaves = acts.leaves; untouched = acts.untouched }
+    → IfErr answer (λ e. e ≡ DeviceFailed) → IsCarriedOut answer out program (with_session old (handed old.session))
+    new trace_old trace_new → IsCarriedOut answer out program old new trace_old trace_new
+acts_before (Ok r) out program old new trace_old trace_new errors acts =
+    record { comes = acts.comes; stops = acts.stops; leaves = acts.leaves; untouched = acts.untouched }
 acts_before {R} (Err fault) out program old new trace_old trace_new errors acts =
-    let Goal : Fault → Type 0 = λ f. IsCarriedOut (Err f) out program (with_session old (handed old.session)) new trace_old trace_new → IsCarriedOut (Err f) out program old new trace_old trace_new in
+    let Goal : Fault → Type 0 = λ f. IsCarriedOut (Err f) out program (with_session old (handed old.session)) new
+    trace_old trace_new → IsCarriedOut (Err f) out program old new trace_old trace_new in
     let lost : Goal DeviceFailed = λ z. record { comes = z.comes; stops = z.stops; leaves = z.leaves; untouched = tt } in
     let goal : Goal fault = subst Goal (sym errors) lost in
     goal acts
 
 does_before : {R : Type 0} (seen : R → Device) (answer : Result Reply Fault) (out : List ℕ → Transition) (old new : ControllerModel R)
-    → IfErr answer (λ e. e ≡ DeviceFailed) → IsCarriedOutIfHonest seen answer out (with_session old (handed old.session)) new → IsCarriedOutIfHonest seen answer out old new
+    → IfErr answer (λ e. e ≡ DeviceFailed)
+    → IsCarriedOutIfHonest seen answer out (with_session old (handed old.session)) new
+    → IsCarriedOutIfHonest seen answer out old new
 does_before seen answer out old new errors does =
-    meaning does (λ f program rests. acts_before answer (out program) program old new (seen old.journal.rig).trace (seen new.journal.rig).trace errors (f program rests))
+    meaning does (λ f program rests. acts_before answer (out program) program old new (seen old.journal.rig).trace
+    (seen new.journal.rig).trace errors (f program rests))
 
 pub does_item : {R : Type 0} (seen : R → Device) (answer : Result Reply Fault) (item : Item) (old new : ControllerModel R) (taken : SessionModel)
     → old.session.held ≡ false → Some item ≡ item_of old.session.current → taken ≡ handed old.session → IfErr answer (λ e. e ≡ DeviceFailed)
@@ -74,7 +81,8 @@ segment_opens o half is = subst (λ (x : Option HalfModel). IfSome x (λ h. IsSo
 
 -- ---- no block, and the program runs
 
-pub begins_there : (q : Geometry) (P : List ℕ) (s : SessionModel) → s.current ≡ None → is_running s.activity ≡ true → end q P s s.current ≡ begin q P s (program_line_at P s.stored.place)
+pub begins_there : (q : Geometry) (P : List ℕ) (s : SessionModel) → s.current ≡ None → is_running s.activity ≡ true
+    → end q P s s.current ≡ begin q P s (program_line_at P s.stored.place)
 begins_there q P s none runs = ap (λ (o : Option CurrentBlockModel). end q P s o) none ∙ rw runs refl
 
 -- what holds if there is no value

@@ -21,7 +21,8 @@ AreAnsweredEvents {A} {R} seen (event ∷ events) (r ∷ replies) old new =
     (between : ControllerModel R) × (IsAnsweredEvent seen event r old between × AreAnsweredEvents seen events replies between new)
 
 -- the moments of the device's trace at which they were answered
-abbrev pub answered_at : {A R : Type 0} (seen : R → Device) (events : List (Event A)) (replies : List Reply) (old new : ControllerModel R) → AreAnsweredEvents seen events replies old new → List ℕ
+abbrev pub answered_at : {A R : Type 0} (seen : R → Device) (events : List (Event A)) (replies : List Reply)
+    (old new : ControllerModel R) → AreAnsweredEvents seen events replies old new → List ℕ
 answered_at seen [] replies old new turns = []
 answered_at seen (event ∷ events) [] old new turns = []
 answered_at seen (event ∷ events) (r ∷ replies) old new turns =

@@ -1,5 +1,6 @@
 -- What an event does to a controller and to its device (own).
-use Rattle.std.specs.Prelude.{◌≡◌, ◌≢◌, ◌⊎◌, ℕ, ◌+◌, ◌%◌, ◌^◌, if◌then◌else◌, List, [], ◌∷◌, ◌++◌, Option, Some, None, Result, Ok, Err, IfOk, IfErr, MatchResult}
+use Rattle.std.specs.Prelude.{◌≡◌, ◌≢◌, ◌⊎◌, ℕ, ◌+◌, ◌%◌, ◌^◌, if◌then◌else◌, List, [], ◌∷◌, ◌++◌, Option, Some}
+use Rattle.std.specs.Prelude.{None, Result, Ok, Err, IfOk, IfErr, MatchResult}
 use Rattle.ng_num.specs.declared.fault.Fault.{Fault}
 use Rattle.ng_num.specs.declared.fault.Fault.TheVariants.{DeviceFailed, Broken}
 use Rattle.ng_canon.specs.declared.item.Item.{Item}
@@ -47,7 +48,8 @@ pub record KeepsSession {R : Type 0} (reads : Type 0) (fault : Fault) (old new :
 -- The reply and the session after it, with any device. They depend on the session alone, unless a line is read for it.
 abbrev pub IsAnsweredAnyway : {R : Type 0} → (reads : Type 0) → Result Reply Fault → (List ℕ → Transition) → ControllerModel R → ControllerModel R → Type 0
 IsAnsweredAnyway reads answer out old new =
-    MatchResult answer (λ r. (reads → ⊥) → (program : List ℕ) → (r ≡ (out program).reply) × (new.session ≡ (out program).next)) (λ fault. KeepsSession reads fault old new)
+    MatchResult answer (λ r. (reads → ⊥) → (program : List ℕ) → (r ≡ (out program).reply)
+    × (new.session ≡ (out program).next)) (λ fault. KeepsSession reads fault old new)
 
 -- What an event leads to if a line was read, or no line. A program that runs begins that line, after the lines of this
 -- program before its place. A half-done block goes on as in this program.
@@ -95,9 +97,12 @@ program_session_of program c = record { program = program; session = c.session }
 
 -- An event was carried out: each stop since leaves what was there before it or what is there after it. If nothing is
 -- stored and nothing handed out, the device's trace is unchanged.
-pub record IsCarriedOut {R : Type 0} (answer : Result Reply Fault) (out : Transition) (program : List ℕ) (old new : ControllerModel R) (trace_old trace_new : Trace) : Type 0 where
+pub record IsCarriedOut {R : Type 0} (answer : Result Reply Fault) (out : Transition) (program : List ℕ)
+    (old new : ControllerModel R) (trace_old trace_new : Trace) : Type 0 where
   pub comes : IsAnsweredBy answer out old new
-  pub stops : IsContinuation trace_old trace_new (IsCrashOfEither (crash_in (program_session_of program old) (items trace_old)) (crash_in (session_of_transition out) (items trace_old ++ out.items)))
+  pub stops : IsContinuation trace_old trace_new
+      (IsCrashOfEither (crash_in (program_session_of program old) (items trace_old))
+      (crash_in (session_of_transition out) (items trace_old ++ out.items)))
   pub leaves : LeavesDevice answer out program new trace_old trace_new
   pub untouched : IfOk answer (λ r. TouchesNothing r → trace_new ≡ trace_old)
 
@@ -173,7 +178,8 @@ handing item program s = record { reply = reply.Moved; items = item ∷ []; entr
 -- which program its lines are, and what the journal keeps then. If a line is read for it, it is that line's. An error
 -- has its cause, depending on what the answer needs. The journal is broken, and the device counted a failure, exactly
 -- if the device failed. The device keeps its size.
-pub record CarriesOut {R : Type 0} (seen : R → Device) (needs : Needs) (out : List ℕ → Transition) (answer : Result Reply Fault) (old new : ControllerModel R) : Type 0 where
+pub record CarriesOut {R : Type 0} (seen : R → Device) (needs : Needs) (out : List ℕ → Transition)
+    (answer : Result Reply Fault) (old new : ControllerModel R) : Type 0 where
   pub does : IsCarriedOutIfHonest seen answer out old new
   pub calls : CallsIfHonest seen answer out old new
   pub reads : ReadsProgram seen answer out old new

@@ -113,7 +113,9 @@ EachKeepsToFold geometry x (s ∷ ss) (l ∷ ls) = SessionKeepsToFold geometry x
 -- However often power is cut: the last image stands for the fold's state, and what was handed out in all sessions is
 -- what the fold hands out for each session's entries, with what follows them.
 abbrev pub CutsOfImageHistory : Type 0
-CutsOfImageHistory = (geometry : Geometry) (tools : List ℤ) (image : Image) (x : DurableState) (history : List CutSession) → stands_beside tools image ≡ Ok x → IsWritten image → IsImageHistory geometry tools image history →
+CutsOfImageHistory = (geometry : Geometry) (tools : List ℤ) (image : Image) (x : DurableState)
+    (history : List CutSession) → stands_beside tools image ≡ Ok x → IsWritten image
+    → IsImageHistory geometry tools image history →
     (committed : List (Option CommittedSession)) × EachKeepsToFold geometry x history committed
     × StandsBeside tools (fold_state geometry x committed) (fold_items geometry x committed) (last_image image history) (all_items history)
 
@@ -121,42 +123,62 @@ CutsOfImageHistory = (geometry : Geometry) (tools : List ℤ) (image : Image) (x
 
 -- A stop leaves a session from this image, with these lines given, these entries executed and begun, and this many
 -- acknowledged; these items were handed out before it.
-pub record LeavesSession (geometry : Geometry) (tools : List ℤ) (image : Image) (before : List Item) (lines : List (List ℕ)) (executed begun : List Entry) (acknowledged : ℕ) (left : Image) (handed : List Item) : Type 0 where
+pub record LeavesSession (geometry : Geometry) (tools : List ℤ) (image : Image) (before : List Item)
+    (lines : List (List ℕ)) (executed begun : List Entry) (acknowledged : ℕ) (left : Image) (handed : List Item) :
+    Type 0 where
   pub items : List Item
   pub handed_is : handed ≡ before ++ items
-  pub session : IsSession geometry tools image (record { lines = lines; executed = executed; begun = begun; acknowledged = acknowledged; image = left; items = items })
+  pub session : IsSession geometry tools image
+      (record {
+        lines = lines;
+        executed = executed;
+        begun = begun;
+        acknowledged = acknowledged;
+        image = left;
+        items = items;
+      })
 
 -- Whatever power on returns, there are two cases for each stop since it began. Either the device could have had that
 -- stop at the beginning, with what came before; or it leaves a session from what the device read at the beginning, with
 -- no lines given and nothing executed. If the device was synced at the beginning, as after a cut, the second case
 -- holds.
 abbrev pub SessionsWithinPowerOn : {R : Type 0} → (R → Device) → Type 0
-SessionsWithinPowerOn {R} seen = (geometry : Geometry) (tools : List ℤ) (x : DurableState) (result : PowerOnResult R) (old new : Trace) → PowerOnSpecIfHonest tools result old new → stands_beside tools (reads old) ≡ Ok x → IsWritten (reads old) →
+SessionsWithinPowerOn {R} seen = (geometry : Geometry) (tools : List ℤ) (x : DurableState)
+    (result : PowerOnResult R) (old new : Trace) → PowerOnSpecIfHonest tools result old new
+    → stands_beside tools (reads old) ≡ Ok x → IsWritten (reads old) →
     AtEachStop old new (λ t image handed. IsStop old image handed ⊎ LeavesSession geometry tools (reads old) (items old) [] [] [] 0 image handed)
     × (IsSynced old → AtEachStop old new (λ t. LeavesSession geometry tools (reads old) (items old) [] [] [] 0))
 
 -- A stop at the moment t leaves a session from this image. The entries executed and begun, and the lines, are those of
 -- the events answered by then and of the one under way. As many entries were acknowledged as there were replies of Done
 -- by then.
-abbrev pub LeavesSessionBy : {A R : Type 0} (seen : R → Device) (tools : List ℤ) (image : Image) (x : DurableState) (events : List (Event A)) (replies : List Reply) (moments : List ℕ) (first now : ControllerModel R)
+abbrev pub LeavesSessionBy : {A R : Type 0} (seen : R → Device) (tools : List ℤ) (image : Image) (x : DurableState)
+    (events : List (Event A)) (replies : List Reply) (moments : List ℕ) (first now : ControllerModel R)
     → Accounts seen (recovered x) events replies moments first now → ℕ → Image → List Item → Type 0
 LeavesSessionBy seen tools image x events replies moments first now accounts t =
     let n = answered_by t moments in
     let tried = tried_events (take (suc n) events) accounts.passes.answers in
     let scene = session_at_power_on (recovered x) in
-    LeavesSession first.geometry tools image (items (seen first.journal.rig).trace) (lines_given (take (suc n) events)) (entries_of first.geometry scene tried) (under_way first.geometry scene tried) (dones (take n replies))
+    LeavesSession first.geometry tools image (items (seen first.journal.rig).trace)
+    (lines_given (take (suc n) events)) (entries_of first.geometry scene tried)
+    (under_way first.geometry scene tried) (dones (take n replies))
 
 -- Each stop since power on leaves a session from the image that power on began with.
 abbrev pub SessionsAfterPowerOn : {R : Type 0} → Type 0 → (R → Device) → Type 0
-SessionsAfterPowerOn {R} A seen = (tools : List ℤ) (image : Image) (x : DurableState) (events : List (Event A)) (replies : List Reply) (moments : List ℕ) (first now : ControllerModel R) (accounts : Accounts seen (recovered x) events replies moments first now)
+SessionsAfterPowerOn {R} A seen = (tools : List ℤ) (image : Image) (x : DurableState) (events : List (Event A))
+    (replies : List Reply) (moments : List ℕ) (first now : ControllerModel R)
+    (accounts : Accounts seen (recovered x) events replies moments first now)
     → stands_beside tools image ≡ Ok x → IsWritten image
     → AtEachStop (seen first.journal.rig).trace (seen now.journal.rig).trace (LeavesSessionBy seen tools image x events replies moments first now accounts)
 
 -- Power on again with no cut before it: what the device reads then is what a stop of the session before leaves. Each
 -- stop since leaves that session, or one from what the device reads then.
 abbrev pub SessionsAnew : {R : Type 0} → Type 0 → (R → Device) → Type 0
-SessionsAnew {R} A seen = (tools : List ℤ) (image : Image) (x : DurableState) (events : List (Event A)) (replies : List Reply) (moments : List ℕ) (first now : ControllerModel R) (accounts : Accounts seen (recovered x) events replies moments first now)
-    (geometry : Geometry) (result : PowerOnResult R) (new : Trace) → stands_beside tools image ≡ Ok x → IsWritten image → PowerOnSpecIfHonest tools result (seen now.journal.rig).trace new →
+SessionsAnew {R} A seen = (tools : List ℤ) (image : Image) (x : DurableState) (events : List (Event A))
+    (replies : List Reply) (moments : List ℕ) (first now : ControllerModel R)
+    (accounts : Accounts seen (recovered x) events replies moments first now)
+    (geometry : Geometry) (result : PowerOnResult R) (new : Trace) → stands_beside tools image ≡ Ok x
+    → IsWritten image → PowerOnSpecIfHonest tools result (seen now.journal.rig).trace new →
     let old = (seen now.journal.rig).trace in let Leaves = LeavesSessionBy seen tools image x events replies moments first now accounts (moment old) in
     Leaves (reads old) (items old)
     × AtEachStop old new (λ t left handed. Leaves left handed ⊎ LeavesSession geometry tools (reads old) (items old) [] [] [] 0 left handed)

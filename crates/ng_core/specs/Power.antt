@@ -49,7 +49,9 @@ pub record PowerOnSpecIfHonest {R : Type 0} (tools : List ℤ) (result : PowerOn
 -- What power on returns, with any device: a whole controller at rest with the stored state, or a fault and the device.
 -- A device of format 1 gets the tools of the settings; with format 2 these aren't used.
 pub record PowerOnSpec {R : Type 0} (seen : R → Device) (settings : Settings) (rig : R) (answer : PowerOnResult R) : Type 0 where
-  pub powers : least_size ≤ (seen rig).sectors → (tools : List ℤ) → IsTableOver settings.tools tools (reads (seen rig).trace) → IfHonest (seen rig) (seen (power_on_rig answer)) (PowerOnSpecIfHonest tools answer (seen rig).trace (seen (power_on_rig answer)).trace)
+  pub powers : least_size ≤ (seen rig).sectors → (tools : List ℤ)
+      → IsTableOver settings.tools tools (reads (seen rig).trace) → IfHonest (seen rig) (seen (power_on_rig answer))
+      (PowerOnSpecIfHonest tools answer (seen rig).trace (seen (power_on_rig answer)).trace)
   pub rests : IfOk answer (λ c. (c.journal.broken ≡ false) × (c.session ≡ resting c.journal.saved) × IsStorable c.session.stored)
   pub geometry : IfOk answer (λ c. c.geometry ≡ settings.geometry)
   pub small : (seen rig).sectors < least_size → IsErrAnd answer (λ e. (e.0 ≡ NotFormatted) × (e.1 ≡ rig))

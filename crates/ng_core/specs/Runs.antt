@@ -49,7 +49,8 @@ session_replies [] = []
 session_replies (answer ∷ answers) = session_replies_by answer (session_replies answers)
 
 -- A stop leaves the state after the first n of these events, and what they handed out; n is at least `least`.
-pub record IsCrashAfterSome {A : Type 0} (least : ℕ) (geometry : Geometry) (scene : ProgramSession) (before : List Item) (events : List (Event A)) (image : Image) (handed : List Item) : Type 0 where
+pub record IsCrashAfterSome {A : Type 0} (least : ℕ) (geometry : Geometry) (scene : ProgramSession)
+    (before : List Item) (events : List (Event A)) (image : Image) (handed : List Item) : Type 0 where
   pub count : ℕ
   pub all : least ≤ count
   pub within : count ≤ length events
@@ -58,7 +59,9 @@ pub record IsCrashAfterSome {A : Type 0} (least : ℕ) (geometry : Geometry) (sc
 -- The replies are the session's, to the events that came. Each event was answered at its moment of the device's trace.
 -- A stop leaves the state after those that came of the events answered by then, or after the one under way too. Unless
 -- the device failed, the state and the items handed out now are the session's.
-pub record PassesAsSession {A R : Type 0} (seen : R → Device) (events : List (Event A)) (replies : List Reply) (moments : List ℕ) (geometry : Geometry) (scene : ProgramSession) (trace_old : Trace) (new : ControllerModel R) : Type 0 where
+pub record PassesAsSession {A R : Type 0} (seen : R → Device) (events : List (Event A)) (replies : List Reply)
+    (moments : List ℕ) (geometry : Geometry) (scene : ProgramSession) (trace_old : Trace) (new : ControllerModel R)
+    : Type 0 where
   pub answers : List (Result Reply Fault)
   pub replies_are : replies ≡ map reply_to answers
   pub told_is : session_replies answers ≡ replies_of geometry scene (answered_events events answers)

@@ -1,5 +1,6 @@
 -- The end of a program, and the whole of a run.
-use Rattle.std.proofs.Common.{◌≡◌, ◌≢◌, ℕ, List, [], ◌∷◌, ◌++◌, length, take, Bool, false, ◌==◌, Option, None, Some, Result, Ok, Err, IfSome, refl, sym, ap, ◌∙◌, subst, append_assoc, append-nil}
+use Rattle.std.proofs.Common.{◌≡◌, ◌≢◌, ℕ, List, [], ◌∷◌, ◌++◌, length, take, Bool, false, ◌==◌, Option, None, Some}
+use Rattle.std.proofs.Common.{Result, Ok, Err, IfSome, refl, sym, ap, ◌∙◌, subst, append_assoc, append-nil}
 use Rattle.std.specs.Str.Lines.{lines}
 use Rattle.std.specs.Io.KnownBytes.{Appends, Consumes, IsAtEnd}
 use Rattle.ng_block.specs.Program.{TermsModel}
@@ -30,11 +31,13 @@ rest_of-alone p (b ∷ kept) line h some is = ap (rest_of p []) (append-nil (b �
 pub Consumes-none : (a b : Option (List ℕ)) (n : ℕ) (xs : List ℕ) → n ≡ 0 → Consumes a b (take n xs) → Consumes a b []
 Consumes-none a b n xs e h = subst (λ k. Consumes a b (take k xs)) e h
 
-pub DryRunSpec-onto : (a b c : Option (List ℕ)) (text : List ℕ) (o : Output) (r : Result Ended DryFault) → Appends a b text → DryRunSpec b c o r → DryRunSpec a c (onto text o) r
+pub DryRunSpec-onto : (a b c : Option (List ℕ)) (text : List ℕ) (o : Output) (r : Result Ended DryFault)
+    → Appends a b text → DryRunSpec b c o r → DryRunSpec a c (onto text o) r
 DryRunSpec-onto a b c text o (Ok end) p q = (Appends-trans a b c text o.text p q.0, q.1)
 DryRunSpec-onto a b c text o (Err fault) p q = (text ++ q.0, q.1, ap (λ l. text ++ l) q.2 ∙ sym (append_assoc text q.0 q.1), Appends-trans a b c text q.0 p q.3)
 
-pub run_end : (r0 r1 r2 w0 w1 w2 : Option (List ℕ)) (before : List ℕ) (out g : List ℕ → Output) (r : Result Ended DryFault) → Consumes r0 r1 before → Consumes r1 r2 [] → IsAtEnd r2
+pub run_end : (r0 r1 r2 w0 w1 w2 : Option (List ℕ)) (before : List ℕ) (out g : List ℕ → Output)
+    (r : Result Ended DryFault) → Consumes r0 r1 before → Consumes r1 r2 [] → IsAtEnd r2
     → Goes w0 w1 (λ more. out (before ++ more)) g → DryRunSpec w1 w2 (g []) r → IfSome r0 (λ program. DryRunSpec w0 w2 (out program) r)
 run_end None r1 r2 w0 w1 w2 before out g r p q e run f = tt
 run_end (Some x) None r2 w0 w1 w2 before out g r p q e run f = absurd p
@@ -43,7 +46,8 @@ run_end (Some x) (Some y) (Some z) w0 w1 w2 before out g r p q e run f =
     let all : out x ≡ onto run.text (g []) = ap out (p ∙ ap (λ l. before ++ l) (q ∙ e)) ∙ run.rest [] in
     subst (λ o. DryRunSpec w0 w2 o r) (sym all) (DryRunSpec-onto w0 w1 w2 run.text (g []) r run.appends f)
 
-pub run_breaks : (r0 r1 r2 w0 w1 w2 : Option (List ℕ)) (before bytes : List ℕ) (out g : List ℕ → Output) (fault : DryFault) → Consumes r0 r1 before → Consumes r1 r2 bytes
+pub run_breaks : (r0 r1 r2 w0 w1 w2 : Option (List ℕ)) (before bytes : List ℕ) (out g : List ℕ → Output)
+    (fault : DryFault) → Consumes r0 r1 before → Consumes r1 r2 bytes
     → Goes w0 w1 (λ more. out (before ++ more)) g → Breaks w1 w2 (λ more. g (bytes ++ more)) → IfSome r0 (λ program. DryRunSpec w0 w2 (out program) (Err fault))
 run_breaks None r1 r2 w0 w1 w2 before bytes out g fault p q run b = tt
 run_breaks (Some x) None r2 w0 w1 w2 before bytes out g fault p q run b = absurd p
@@ -52,18 +56,25 @@ run_breaks (Some x) (Some y) (Some z) w0 w1 w2 before bytes out g fault p q run 
     let after = b.rest z in (
       run.text ++ b.text,
       after.0,
-      ap (λ (o : Output). o.text) (ap out p ∙ run.rest y) ∙ ap (λ l. run.text ++ l) (ap (λ l. (g l).text) q ∙ after.1) ∙ sym (append_assoc run.text b.text after.0),
+      ap (λ (o : Output). o.text) (ap out p ∙ run.rest y)
+          ∙ ap (λ l. run.text ++ l) (ap (λ l. (g l).text) q ∙ after.1) ∙ sym (append_assoc run.text b.text after.0),
       Appends-trans w0 w1 w2 run.text b.text run.appends b.appends,
     )
 
-pub run_ends : (r0 r1 r2 w0 w1 w2 : Option (List ℕ)) (before bytes : List ℕ) (out g : List ℕ → Output) (end : Ended) → Consumes r0 r1 before → Consumes r1 r2 bytes
-    → Goes w0 w1 (λ more. out (before ++ more)) g → EndsRun w1 w2 (λ more. g (bytes ++ more)) end → IfSome r0 (λ program. DryRunSpec w0 w2 (out program) (Ok end))
+pub run_ends : (r0 r1 r2 w0 w1 w2 : Option (List ℕ)) (before bytes : List ℕ) (out g : List ℕ → Output) (end : Ended)
+    → Consumes r0 r1 before → Consumes r1 r2 bytes
+    → Goes w0 w1 (λ more. out (before ++ more)) g → EndsRun w1 w2 (λ more. g (bytes ++ more)) end
+    → IfSome r0 (λ program. DryRunSpec w0 w2 (out program) (Ok end))
 run_ends None r1 r2 w0 w1 w2 before bytes out g end p q run b = tt
 run_ends (Some x) None r2 w0 w1 w2 before bytes out g end p q run b = absurd p
 run_ends (Some x) (Some y) None w0 w1 w2 before bytes out g end p q run b = absurd q
 run_ends (Some x) (Some y) (Some z) w0 w1 w2 before bytes out g end p q run b =
-    let all : out x ≡ onto run.text (record { text = b.text; ended = end }) = ap out p ∙ run.rest y ∙ ap (λ l. onto run.text (g l)) q ∙ ap (onto run.text) (b.rest z) in
-    (subst (Appends w0 w2) (ap (λ (o : Output). o.text) (sym all)) (Appends-trans w0 w1 w2 run.text b.text run.appends b.appends), ap (λ (o : Output). o.ended) (sym all))
+    let all : out x ≡ onto run.text (record { text = b.text; ended = end }) = ap out p ∙ run.rest y
+    ∙ ap (λ l. onto run.text (g l)) q ∙ ap (onto run.text) (b.rest z) in (
+      subst (Appends w0 w2) (ap (λ (o : Output). o.text) (sym all))
+          (Appends-trans w0 w1 w2 run.text b.text run.appends b.appends),
+      ap (λ (o : Output). o.ended) (sym all),
+    )
 
 pub run_goes : (w0 w1 w2 : Option (List ℕ)) (before bytes : List ℕ) (out g h : List ℕ → Output)
     → Goes w0 w1 (λ more. out (before ++ more)) g → Goes w1 w2 (λ more. g (bytes ++ more)) h → Goes w0 w2 (λ more. out ((before ++ bytes) ++ more)) h
@@ -80,8 +91,10 @@ run_none None w out fault = tt
 run_none (Some x) w out fault = ([], (out x).text, refl, Appends-nil w)
 
 -- a run that was aborted between two reads
-pub run_stops : (r0 r1 w0 w1 w2 : Option (List ℕ)) (before : List ℕ) (out : List ℕ → Output) (p : DryRunModel) (kept : List ℕ) (fault : DryFault) → Consumes r0 r1 before
-    → Goes w0 w1 (λ more. out (before ++ more)) (λ more. rest_of p kept more) → Wrote w1 w2 p.text → IfSome r0 (λ program. DryRunSpec w0 w2 (out program) (Err fault))
+pub run_stops : (r0 r1 w0 w1 w2 : Option (List ℕ)) (before : List ℕ) (out : List ℕ → Output) (p : DryRunModel)
+    (kept : List ℕ) (fault : DryFault) → Consumes r0 r1 before
+    → Goes w0 w1 (λ more. out (before ++ more)) (λ more. rest_of p kept more) → Wrote w1 w2 p.text
+    → IfSome r0 (λ program. DryRunSpec w0 w2 (out program) (Err fault))
 run_stops r0 r1 w0 w1 w2 before out p kept fault read run wrote =
     run_breaks r0 r1 r1 w0 w1 w2 before [] out (λ more. rest_of p kept more) fault read (Consumes-nil r1) run (record {
       text = wrote.0;
@@ -101,11 +114,17 @@ Goes-begun a terms setup p kept e f = record {
 }
 
 -- the last line was executed, and then the text ended
-pub DryRunSpec-stepped : (a b c : Option (List ℕ)) (f g : List (List ℕ) → Output) (o : Output) (r : Result Ended DryFault) → o ≡ f [] → Goes a b f g → DryRunSpec b c (g []) r → DryRunSpec a c o r
+pub DryRunSpec-stepped : (a b c : Option (List ℕ)) (f g : List (List ℕ) → Output) (o : Output)
+    (r : Result Ended DryFault) → o ≡ f [] → Goes a b f g → DryRunSpec b c (g []) r → DryRunSpec a c o r
 DryRunSpec-stepped a b c f g o r e run h = subst (λ x. DryRunSpec a c x r) (sym (e ∙ run.rest [])) (DryRunSpec-onto a b c run.text (g []) r run.appends h)
 
 pub DryRunSpec-ends : (a b : Option (List ℕ)) (f : List (List ℕ) → Output) (o : Output) (end : Ended) → o ≡ f [] → EndsRun a b f end → DryRunSpec a b o (Ok end)
-DryRunSpec-ends a b f o end e run = let all = e ∙ run.rest [] in (subst (Appends a b) (ap (λ (x : Output). x.text) (sym all)) run.appends, ap (λ (x : Output). x.ended) (sym all))
+DryRunSpec-ends a b f o end e run = let all = e
+    ∙ run.rest [] in (
+      subst (Appends a b) (ap (λ (x : Output). x.text) (sym all)) run.appends,
+      ap (λ (x : Output). x.ended) (sym all),
+    )
 
-pub DryRunSpec-breaks : (a b : Option (List ℕ)) (f : List (List ℕ) → Output) (o : Output) (fault : DryFault) → o ≡ f [] → Breaks a b f → DryRunSpec a b o (Err fault)
+pub DryRunSpec-breaks : (a b : Option (List ℕ)) (f : List (List ℕ) → Output) (o : Output) (fault : DryFault)
+    → o ≡ f [] → Breaks a b f → DryRunSpec a b o (Err fault)
 DryRunSpec-breaks a b f o fault e run = let x = run.rest [] in (run.text, x.0, ap (λ (y : Output). y.text) e ∙ x.1, run.appends)

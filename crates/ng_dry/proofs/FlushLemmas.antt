@@ -1,5 +1,6 @@
 -- Text that waits and is written piece by piece.
-use Rattle.std.proofs.Common.{◌≡◌, ℕ, List, [], ◌++◌, Option, Result, Ok, Err, subst, refl, sym, ap, ◌∙◌, append_assoc, append-nil, take, drop, take-append-drop}
+use Rattle.std.proofs.Common.{◌≡◌, ℕ, List, [], ◌++◌, Option, Result, Ok, Err, subst, refl, sym, ap, ◌∙◌}
+use Rattle.std.proofs.Common.{append_assoc, append-nil, take, drop, take-append-drop}
 use Rattle.std.specs.Io.KnownBytes.{Appends}
 use Rattle.ng_dry.specs.Flush.{FlushSpec}
 use Rattle.ng_dry.specs.declared.ending.DryFault.{DryFault}
@@ -17,7 +18,8 @@ pub FlushSpec-all : {T : Type 0} (a b : Option (List ℕ)) (waiting left : List 
 FlushSpec-all a b waiting left x e w = (waiting, w, sym (append-nil waiting) ∙ ap (λ l. waiting ++ l) (sym e))
 
 -- a beginning is written
-pub FlushSpec-broken : (T : Type 0) (a b : Option (List ℕ)) (waiting left : List ℕ) (n : ℕ) (fault : DryFault) → Appends a b (take n waiting) → FlushSpec {T = T} a b waiting left (Err fault)
+pub FlushSpec-broken : (T : Type 0) (a b : Option (List ℕ)) (waiting left : List ℕ) (n : ℕ) (fault : DryFault)
+    → Appends a b (take n waiting) → FlushSpec {T = T} a b waiting left (Err fault)
 FlushSpec-broken T a b waiting left n fault w = (take n waiting, drop n waiting, w, sym (take-append-drop n waiting))
 
 -- a piece printed after what waits
@@ -27,17 +29,20 @@ pub FlushSpec-piece : {T : Type 0} (a b c : Option (List ℕ)) (all here piece r
 FlushSpec-piece a b c all here piece rest left (Ok x) p q = (
   p.0 ++ q.0,
   Appends-trans a b c p.0 q.0 p.1 q.1,
-  p.2 ∙ ap (λ l. p.0 ++ l) (sym (append_assoc here piece rest) ∙ ap (λ l. l ++ rest) q.2 ∙ append_assoc q.0 left rest) ∙ sym (append_assoc p.0 q.0 (left ++ rest)),
+  p.2 ∙ ap (λ l. p.0 ++ l) (sym (append_assoc here piece rest) ∙ ap (λ l. l ++ rest) q.2
+      ∙ append_assoc q.0 left rest) ∙ sym (append_assoc p.0 q.0 (left ++ rest)),
 )
 FlushSpec-piece a b c all here piece rest left (Err fault) p q = (
   p.0 ++ q.0,
   q.1 ++ rest,
   Appends-trans a b c p.0 q.0 p.1 q.2,
-  p.2 ∙ ap (λ l. p.0 ++ l) (sym (append_assoc here piece rest) ∙ ap (λ l. l ++ rest) q.3 ∙ append_assoc q.0 q.1 rest) ∙ sym (append_assoc p.0 q.0 (q.1 ++ rest)),
+  p.2 ∙ ap (λ l. p.0 ++ l) (sym (append_assoc here piece rest) ∙ ap (λ l. l ++ rest) q.3
+      ∙ append_assoc q.0 q.1 rest) ∙ sym (append_assoc p.0 q.0 (q.1 ++ rest)),
 )
 
 -- what waited, written in another way
-pub FlushSpec-from : {T : Type 0} (a b : Option (List ℕ)) (waiting before left : List ℕ) (r : Result T DryFault) → before ≡ waiting → FlushSpec a b waiting left r → FlushSpec a b before left r
+pub FlushSpec-from : {T : Type 0} (a b : Option (List ℕ)) (waiting before left : List ℕ) (r : Result T DryFault)
+    → before ≡ waiting → FlushSpec a b waiting left r → FlushSpec a b before left r
 FlushSpec-from a b waiting before left r e w = subst (λ l. FlushSpec a b l left r) (sym e) w
 
 -- a piece printed after what was printed before

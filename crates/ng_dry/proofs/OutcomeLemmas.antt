@@ -12,12 +12,15 @@ use Rattle.ng_dry.specs.declared.ending.Ended.TheVariants as ended
 use Rattle.ng_dry.specs.Private.Parts.{outcome_by}
 
 -- what follows a line is used only at its next state
-after_line-same : (number : ℕ) (r : Result Done Fault) (f g : StateModel → Output) → ((s : StateModel) → f s ≡ g s) → after_line number r f ≡ after_line number r g
+after_line-same : (number : ℕ) (r : Result Done Fault) (f g : StateModel → Output) → ((s : StateModel) → f s ≡ g s)
+    → after_line number r f ≡ after_line number r g
 after_line-same number (Err fault) f g same = refl
 after_line-same number (Ok done) f g same =
-    ap (λ (o : Output). cond (is_end done.stop) (record { text = commands_text done.commands; ended = ended.Done }) (onto (commands_text done.commands) o)) (same done.setup)
+    ap (λ (o : Output). cond (is_end done.stop) (record { text = commands_text done.commands; ended = ended.Done })
+    (onto (commands_text done.commands) o)) (same done.setup)
 
-pub outcome_is : (terms : TermsModel) (before : List (List ℕ)) (setup : StateModel) (ls : List (List ℕ)) → outcome terms before setup ls ≡ outcome_by terms (first_kind before) setup (length before + 1) ls
+pub outcome_is : (terms : TermsModel) (before : List (List ℕ)) (setup : StateModel) (ls : List (List ℕ))
+    → outcome terms before setup ls ≡ outcome_by terms (first_kind before) setup (length before + 1) ls
 outcome_is terms before setup [] = refl
 outcome_is terms before setup (l ∷ ls) =
     let number : length (before ++ l ∷ []) + 1 ≡ length before + 1 + 1 = simp length-append (omega arith) in

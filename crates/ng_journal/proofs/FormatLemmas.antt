@@ -1,5 +1,7 @@
 -- A format: sectors are written one after another. And the state once the header of the first epoch is synced.
-use Rattle.std.proofs.Common.{◌≡◌, ◌≢◌, ◌⊎◌, inl, inr, ℕ, ◌+◌, ◌-◌, ◌%◌, ◌<◌, ◌==◌, ◌&&◌, nat_lt, Bool, false, if◌then◌else◌, List, [], ℤ, pos, set, replicate, Option, Some, None, Result, Ok, Err, length, refl, sym, ◌∙◌, ap, subst, arith}
+use Rattle.std.proofs.Common.{◌≡◌, ◌≢◌, ◌⊎◌, inl, inr, ℕ, ◌+◌, ◌-◌, ◌%◌, ◌<◌, ◌==◌, ◌&&◌, nat_lt, Bool, false}
+use Rattle.std.proofs.Common.{if◌then◌else◌, List, [], ℤ, pos, set, replicate, Option, Some, None, Result, Ok, Err}
+use Rattle.std.proofs.Common.{length, refl, sym, ◌∙◌, ap, subst, arith}
 use Rattle.std.proofs.lemmas.Bool.{cases_eq}
 use Rattle.std.proofs.lemmas.List.{length-replicate}
 use Rattle.std.proofs.Math.ListN.{length-set}
@@ -30,17 +32,21 @@ use Rattle.ng_log.specs.AtEnd.{no_records, EndsIn, IsAtEnd}
 use Rattle.ng_journal.specs.AtRest.{IsLaidOut}
 use Rattle.ng_journal.specs.Formatting.{IsEmpty, first_header}
 use Rattle.ng_journal.specs.Private.Overwrites.{OverwritesTo, Overwrites}
-use Rattle.ng_journal.proofs.WrittenSectorLemmas.{there, elsewhere, WritesFirst, first_headers, first_log, first_area, first_tools, empty_lengths, first_sync, first_write, laid_out}
+use Rattle.ng_journal.proofs.WrittenSectorLemmas.{there, elsewhere, WritesFirst, first_headers, first_log}
+use Rattle.ng_journal.proofs.WrittenSectorLemmas.{first_area, first_tools, empty_lengths, first_sync, first_write}
+use Rattle.ng_journal.proofs.WrittenSectorLemmas.{laid_out}
 
 -- what a read of another sector returns after a write that may have failed
-untouched : {T E : Type 0} (result : Result T E) (m n : ℕ) (bytes : List ℕ) (old new : Trace) → m ≢ n → WriteSpec result n bytes old new → reads new m ≡ reads old m
+untouched : {T E : Type 0} (result : Result T E) (m n : ℕ) (bytes : List ℕ) (old new : Trace) → m ≢ n
+    → WriteSpec result n bytes old new → reads new m ≡ reads old m
 untouched (Ok _) m n bytes old new other is = ap (λ (l : Trace). reads l m) is ∙ elsewhere m n bytes old other
 untouched (Err _) m n bytes old new other (inl is) = ap (λ (l : Trace). reads l m) is
 untouched (Err _) m n bytes old new other (inr (inl is)) = ap (λ (l : Trace). reads l m) is ∙ elsewhere m n bytes old other
 untouched (Err _) m n bytes old new other (inr (inr is)) = ap (λ (l : Trace). reads l m) is
 
 -- One more sector of a stretch is right.
-module _ (n at first size : ℕ) (IsRight : ℕ → List ℕ → Type 0) (bytes : List ℕ) (old mid : Trace) (lt : n < size) (at_is : at ≡ first + n) (right : IsRight n bytes) (w : OverwritesTo n first size IsRight old mid) where
+module _ (n at first size : ℕ) (IsRight : ℕ → List ℕ → Type 0) (bytes : List ℕ) (old mid : Trace) (lt : n < size)
+    (at_is : at ≡ first + n) (right : IsRight n bytes) (w : OverwritesTo n first size IsRight old mid) where
   abbrev May : ℕ → List ℕ → Type 0
   May m c = BelongsIn first size IsRight m c
 
@@ -64,7 +70,8 @@ module _ (n at first size : ℕ) (IsRight : ℕ → List ℕ → Type 0) (bytes 
       })
 
   -- or its write failed
-  pub not_written : {T E F : Type 0} (e : E) (result : Result T F) (new : Trace) → WriteSpec result at bytes mid new → Overwrites {T = T} (Err e) first size IsRight old new
+  pub not_written : {T E F : Type 0} (e : E) (result : Result T F) (new : Trace) → WriteSpec result at bytes mid new
+      → Overwrites {T = T} (Err e) first size IsRight old new
   not_written e result new is = record {
     writes = only_more May old mid new w.writes (only_write May result at bytes mid new may is);
     outside = λ m out. untouched result m at bytes mid new (beside_it m out) is ∙ w.outside m out;
@@ -72,11 +79,21 @@ module _ (n at first size : ℕ) (IsRight : ℕ → List ℕ → Type 0) (bytes 
   }
 
 -- A sync changes nothing of that.
-pub written_on : (n first size : ℕ) (IsRight : ℕ → List ℕ → Type 0) (old mid new : Trace) → OverwritesTo n first size IsRight old mid → new ≡ Synced mid → OverwritesTo n first size IsRight old new
-written_on n first size IsRight old mid new w is = subst (λ (l : Trace). OverwritesTo n first size IsRight old l) (sym is) (record { writes = only_synced (λ m c. BelongsIn first size IsRight m c) old mid w.writes; outside = w.outside; parts = w.parts })
+pub written_on : (n first size : ℕ) (IsRight : ℕ → List ℕ → Type 0) (old mid new : Trace)
+    → OverwritesTo n first size IsRight old mid → new ≡ Synced mid → OverwritesTo n first size IsRight old new
+written_on n first size IsRight old mid new w is = subst (λ (l : Trace). OverwritesTo n first size IsRight old l)
+    (sym is) (record {
+      writes = only_synced (λ m c. BelongsIn first size IsRight m c) old mid w.writes;
+      outside =
+          w.outside;
+      parts = w.parts;
+    })
 
-pub not_synced : {T E : Type 0} (e : E) (n first size : ℕ) (IsRight : ℕ → List ℕ → Type 0) (old mid new : Trace) → OverwritesTo n first size IsRight old mid → new ≡ mid → Overwrites {T = T} (Err e) first size IsRight old new
-not_synced {T = T} {E = E} e n first size IsRight old mid new w same = subst (λ (l : Trace). Overwrites {T = T} {E = E} (Err e) first size IsRight old l) (sym same) (record { writes = w.writes; outside = w.outside; parts = tt })
+pub not_synced : {T E : Type 0} (e : E) (n first size : ℕ) (IsRight : ℕ → List ℕ → Type 0) (old mid new : Trace)
+    → OverwritesTo n first size IsRight old mid → new ≡ mid → Overwrites {T = T} (Err e) first size IsRight old new
+not_synced {T = T} {E = E} e n first size IsRight old mid new w same =
+    subst (λ (l : Trace). Overwrites {T = T} {E = E} (Err e) first size IsRight old l) (sym same)
+    (record { writes = w.writes; outside = w.outside; parts = tt })
 
 -- A sector that begins with zeros is neither a header nor a part.
 no_mark : (bytes : List ℕ) → number_at 8 0 bytes ≡ 0 → is_marked bytes ≡ false
@@ -117,12 +134,17 @@ made_written : (image : Image) (saved : StoredModel) → IsMade image saved → 
 made_written image saved m = record { past = λ n lt. let e = m.log n lt in omega (arith, e) }
 
 -- it stands for what was written, and its log is empty
-made_ends : (image : Image) (saved : StoredModel) → IsMade image saved → saved.length ≡ 0 → saved.tools ≡ [] → length saved.setup.params ≡ 5399 → saved.room ≡ program_room (is_large image) → EndsIn image first_header (record { saved = saved; program = [] }) no_records
+made_ends : (image : Image) (saved : StoredModel) → IsMade image saved → saved.length ≡ 0 → saved.tools ≡ []
+    → length saved.setup.params ≡ 5399 → saved.room ≡ program_room (is_large image)
+    → EndsIn image first_header (record { saved = saved; program = [] }) no_records
 made_ends image saved m long none table limit =
     let row = stretch (snapshot_first 1) snapshot_size image in
-    let parts : (j : ℕ) → j < snapshot_size → HoldsPart saved j (row j) = λ j lt. subst (HoldsPart saved j) (sym (stretch-at (snapshot_first 1) snapshot_size image j lt)) (m.parts j lt) in
+    let parts : (j : ℕ) → j < snapshot_size → HoldsPart saved j (row j) = λ j lt.
+    subst (HoldsPart saved j) (sym (stretch-at (snapshot_first 1) snapshot_size image j lt)) (m.parts j lt) in
     let area = stretch (tools_first 1) tools_size image in
-    let snap = snapshot-new Two saved row area table parts (tools_none (row 0) area ((parts 0 (omega arith)).slots refl ∙ ap length none) ∙ ap (λ (l : List ℤ). Some l) (sym none)) in
+    let snap = snapshot-new Two saved row area table parts
+    (tools_none (row 0) area ((parts 0 (omega arith)).slots refl ∙ ap length none)
+    ∙ ap (λ (l : List ℤ). Some l) (sym none)) in
     record {
       force = made_force image saved m;
       format = refl;
@@ -147,32 +169,44 @@ pub record Steps (saved : StoredModel) (old a b c d : Trace) : Type 0 where
   pub tools : (j : ℕ) → j < tools_size → IsEmpty j (reads d (tools_first 1 + j))
   pub last : reads d 5805 ≡ reads old 5805
 
-pub steps : {T U V W E F G H : Type 0} (t : T) (u : U) (v : V) (w : W) (saved : StoredModel) (old a b c d : Trace) (first at : ℕ) → saved.tools ≡ [] → first ≡ snapshot_first 1 → at ≡ tools_first 1
-    → Overwrites {E = E} (Ok t) 0 2 IsEmpty old a → Overwrites {E = F} (Ok u) log_first shortest_log IsEmpty a b → Overwrites {E = G} (Ok v) first snapshot_size (HoldsPart saved) b c → Overwrites {E = H} (Ok w) at tools_size IsEmpty c d → Steps saved old a b c d
+pub steps : {T U V W E F G H : Type 0} (t : T) (u : U) (v : V) (w : W) (saved : StoredModel) (old a b c d : Trace)
+    (first at : ℕ) → saved.tools ≡ [] → first ≡ snapshot_first 1 → at ≡ tools_first 1
+    → Overwrites {E = E} (Ok t) 0 2 IsEmpty old a → Overwrites {E = F} (Ok u) log_first shortest_log IsEmpty a b
+    → Overwrites {E = G} (Ok v) first snapshot_size (HoldsPart saved) b c
+    → Overwrites {E = H} (Ok w) at tools_size IsEmpty c d → Steps saved old a b c d
 steps {E = E} {F = F} {G = G} {H = H} t u v w saved old a b c d first at none is at_is headers log area tool_area =
     let t_is : Result _ E = Ok t in
     let u_is : Result _ F = Ok u in
     let v_is : Result _ G = Ok v in
     let w_is : Result _ H = Ok w in
-    let lengths : Overwrites {E = H} (Ok w) (tools_first 1) tools_size IsEmpty c d = subst (λ (n : ℕ). Overwrites {E = H} (Ok w) n tools_size IsEmpty c d) at_is tool_area in
-    let here : Overwrites {E = G} (Ok v) (snapshot_first 1) snapshot_size (HoldsPart saved) b c = subst (λ (n : ℕ). Overwrites {E = G} (Ok v) n snapshot_size (HoldsPart saved) b c) is area in
+    let lengths : Overwrites {E = H} (Ok w) (tools_first 1) tools_size IsEmpty c d =
+    subst (λ (n : ℕ). Overwrites {E = H} (Ok w) n tools_size IsEmpty c d) at_is tool_area in
+    let here : Overwrites {E = G} (Ok v) (snapshot_first 1) snapshot_size (HoldsPart saved) b c =
+    subst (λ (n : ℕ). Overwrites {E = G} (Ok v) n snapshot_size (HoldsPart saved) b c) is area in
     record {
-      writes = first_tools w_is at saved old c d none at_is (first_area v_is first saved old b c is (first_log u_is saved old a b (first_headers t_is saved old a headers) log) area) tool_area;
-      other = lengths.outside 0 (λ m. omega (arith, m.from)) ∙ here.outside 0 (λ m. omega (arith, m.from)) ∙ log.outside 0 (λ m. omega (arith, m.from)) ∙ headers.parts 0 (omega arith);
+      writes = first_tools w_is at saved old c d none at_is
+          (first_area v_is first saved old b c is
+          (first_log u_is saved old a b (first_headers t_is saved old a headers) log) area) tool_area;
+      other = lengths.outside 0 (λ m. omega (arith, m.from)) ∙ here.outside 0 (λ m. omega (arith, m.from))
+          ∙ log.outside 0 (λ m. omega (arith, m.from)) ∙ headers.parts 0 (omega arith);
       parts = λ j lt. subst (HoldsPart saved j) (sym (lengths.outside (snapshot_first 1 + j) (λ x. omega (arith, x.from)))) (here.parts j lt);
       tools = lengths.parts;
-      last = lengths.outside 5805 (λ m. omega (arith, m.to)) ∙ here.outside 5805 (λ m. omega (arith, m.to)) ∙ log.outside 5805 (λ m. omega (arith, m.to)) ∙ headers.outside 5805 (λ m. omega (arith, m.to));
+      last = lengths.outside 5805 (λ m. omega (arith, m.to)) ∙ here.outside 5805 (λ m. omega (arith, m.to))
+          ∙ log.outside 5805 (λ m. omega (arith, m.to)) ∙ headers.outside 5805 (λ m. omega (arith, m.to));
       log = λ m lt. lengths.outside (log_first + m) (λ x. omega (arith, x.from)) ∙ here.outside (log_first + m) (λ x. omega (arith, x.to)) ∙ log.parts m lt;
     }
 
 -- the device is as large as before
-as_large : (saved : StoredModel) (old a b e c : Trace) (bytes : List ℕ) → Steps saved old a b e c → is_large (reads (Wrote 1 bytes (Synced c))) ≡ is_large (reads old)
+as_large : (saved : StoredModel) (old a b e c : Trace) (bytes : List ℕ) → Steps saved old a b e c
+    → is_large (reads (Wrote 1 bytes (Synced c))) ≡ is_large (reads old)
 as_large saved old a b e c bytes s = ap (λ (l : List ℕ). nat_lt 0 (length l)) (elsewhere 5805 1 bytes (Synced c) (λ e. omega (arith, e)) ∙ s.last)
 
 first_valid : (large : Bool) → IsValidHeader large first_header
 first_valid large = record { counted = omega arith; few = omega arith; area = omega arith; length = omega arith }
 
-made : (saved : StoredModel) (old a b e c : Trace) (bytes : List ℕ) → Steps saved old a b e c → ((large : Bool) → IsValidHeader large first_header → header_in large 1 bytes ≡ Some first_header) → IsMade (reads (Wrote 1 bytes (Synced c))) saved
+made : (saved : StoredModel) (old a b e c : Trace) (bytes : List ℕ) → Steps saved old a b e c
+    → ((large : Bool) → IsValidHeader large first_header → header_in large 1 bytes ≡ Some first_header)
+    → IsMade (reads (Wrote 1 bytes (Synced c))) saved
 made saved old a b e c bytes s is = record {
   other = ap (number_at 8 0) (elsewhere 0 1 bytes (Synced c) (λ e. omega (arith, e)) ∙ s.other) ∙ number-zeros 8 0 512;
   header = let large = is_large (reads (Wrote 1 bytes (Synced c))) in ap (header_in large 1) (there 1 bytes (Synced c)) ∙ is large (first_valid large);
@@ -181,7 +215,8 @@ made saved old a b e c bytes s is = record {
 }
 
 -- the remaining zeros
-made_zeros : (saved : StoredModel) (old a b e c : Trace) (bytes : List ℕ) → Steps saved old a b e c → (n : ℕ) → (n ≡ 0) ⊎ IsAmong log_first shortest_log n → IsEmpty n (reads (Wrote 1 bytes (Synced c)) n)
+made_zeros : (saved : StoredModel) (old a b e c : Trace) (bytes : List ℕ) → Steps saved old a b e c → (n : ℕ)
+    → (n ≡ 0) ⊎ IsAmong log_first shortest_log n → IsEmpty n (reads (Wrote 1 bytes (Synced c)) n)
 made_zeros saved old a b e c bytes s n (inl first) = elsewhere n 1 bytes (Synced c) (λ e. omega arith) ∙ ap (reads c) first ∙ s.other
 made_zeros saved old a b e c bytes s n (inr log) =
     let from = log.from in
@@ -201,9 +236,14 @@ pub record Begins {T E : Type 0} (result : Result T E) (saved : StoredModel) (ol
   pub zeros : OnOk result ((n : ℕ) → (n ≡ 0) ⊎ IsAmong log_first shortest_log n → IsEmpty n (reads new n))
 
 -- and after the last sync
-pub finished : {T E : Type 0} (result : Result T E) (saved : StoredModel) (old a b x c synced wrote last : Trace) (bytes : List ℕ) → Steps saved old a b x c → saved.length ≡ 0 → saved.tools ≡ [] → length saved.setup.params ≡ 5399 → saved.room ≡ program_room (is_large (reads old)) → ((large : Bool) → IsValidHeader large first_header → header_in large 1 bytes ≡ Some first_header) → HoldsHeader first_header bytes → synced ≡ Synced c → wrote ≡ Wrote 1 bytes synced → SyncSpec result wrote last
+pub finished : {T E : Type 0} (result : Result T E) (saved : StoredModel) (old a b x c synced wrote last : Trace)
+    (bytes : List ℕ) → Steps saved old a b x c → saved.length ≡ 0 → saved.tools ≡ []
+    → length saved.setup.params ≡ 5399 → saved.room ≡ program_room (is_large (reads old))
+    → ((large : Bool) → IsValidHeader large first_header → header_in large 1 bytes ≡ Some first_header)
+    → HoldsHeader first_header bytes → synced ≡ Synced c → wrote ≡ Wrote 1 bytes synced → SyncSpec result wrote last
     → Begins result saved old last
-finished {T = T} {E = E} result saved old a b x c synced wrote last bytes s long none table limit header holds is is_written done = go result (subst (λ (l : Trace). SyncSpec result l last) whole done)
+finished {T = T} {E = E} result saved old a b x c synced wrote last bytes s long none table limit header holds is
+    is_written done = go result (subst (λ (l : Trace). SyncSpec result l last) whole done)
   where
     whole : wrote ≡ Wrote 1 bytes (Synced c)
     whole = is_written ∙ ap (λ (l : Trace). Wrote 1 bytes l) is
@@ -225,6 +265,9 @@ finished {T = T} {E = E} result saved old a b x c synced wrote last bytes s long
             synced = is_synced (Wrote 1 bytes (Synced c));
             image = made_ends image saved m long none table (limit ∙ ap program_room (sym (as_large saved old a b x c bytes s)));
           });
-          laid = subst (λ (l : Trace). IsLaidOut first_header saved (reads l)) (sym same) (laid_out first_header saved bytes c s.parts (λ two j lt. empty_lengths saved j (reads c (tools_first 1 + j)) none (s.tools j lt)) holds);
-          zeros = subst (λ (l : Trace). (n : ℕ) → (n ≡ 0) ⊎ IsAmong log_first shortest_log n → IsEmpty n (reads l n)) (sym same) (made_zeros saved old a b x c bytes s);
+          laid = subst (λ (l : Trace). IsLaidOut first_header saved (reads l)) (sym same)
+              (laid_out first_header saved bytes c s.parts
+              (λ two j lt. empty_lengths saved j (reads c (tools_first 1 + j)) none (s.tools j lt)) holds);
+          zeros = subst (λ (l : Trace). (n : ℕ) → (n ≡ 0) ⊎ IsAmong log_first shortest_log n
+              → IsEmpty n (reads l n)) (sym same) (made_zeros saved old a b x c bytes s);
         }

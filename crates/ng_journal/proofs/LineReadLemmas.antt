@@ -1,5 +1,8 @@
 -- The line of a program at a place, from the sectors that hold it.
-use Rattle.std.proofs.Common.{◌≡◌, ◌⊎◌, inl, inr, ℕ, zero, suc, ◌+◌, ◌-◌, ◌*◌, ◌/◌, ◌%◌, ◌<◌, ◌≤◌, ◌==◌, min, max, Bool, true, false, List, [], ◌∷◌, ◌++◌, length, take, drop, get_or, slice_index, Option, Some, None, Result, Ok, Err, if◌then◌else◌, refl, sym, ◌∙◌, ap, subst, arith, length-append, length-drop}
+use Rattle.std.proofs.Common.{◌≡◌, ◌⊎◌, inl, inr, ℕ, zero, suc, ◌+◌, ◌-◌, ◌*◌, ◌/◌, ◌%◌, ◌<◌, ◌≤◌, ◌==◌, min, max}
+use Rattle.std.proofs.Common.{Bool, true, false, List, [], ◌∷◌, ◌++◌, length, take, drop, get_or, slice_index}
+use Rattle.std.proofs.Common.{Option, Some, None, Result, Ok, Err, if◌then◌else◌, refl, sym, ◌∙◌, ap, subst, arith}
+use Rattle.std.proofs.Common.{length-append, length-drop}
 use Rattle.std.specs.Prelude.{IsOk, OnOk, ◌↔◌}
 use Rattle.std.proofs.lemmas.Bool.Decides.{nat_tests}
 use Rattle.std.proofs.Math.Seq.{take-append_seam}
@@ -28,7 +31,8 @@ take_over (x ∷ xs) ys room (suc n) is = ap (λ (l : List ℕ). x ∷ l) (take_
 
 pub take_min : (ys : List ℕ) (room : ℕ) → take (min (length ys) room) ys ≡ take room ys
 take_min ys room = elim (le_cases (length ys) room) [
-  | inl short ↦ let e : min (length ys) room ≡ length ys = omega arith in ap (λ (k : ℕ). take k ys) e ∙ take_all (length ys) ys (omega arith) ∙ sym (take_all room ys short)
+  | inl short ↦ let e : min (length ys) room ≡ length ys = omega arith in ap (λ (k : ℕ). take k ys) e
+      ∙ take_all (length ys) ys (omega arith) ∙ sym (take_all room ys short)
   | inr long ↦ let e : min (length ys) room ≡ room = omega arith in ap (λ (k : ℕ). take k ys) e
 ]
   where
@@ -40,14 +44,17 @@ on_ok (Ok v) ok p = p
 on_ok (Err e) ok p = absurd (cc)
 
 -- bytes kept as far as there is room
-pub kept_more : {T E : Type 0} (r : Result T E) (xs ys new : List ℕ) (room m : ℕ) → room + length xs ≡ 257 → m ≡ min (length ys) room → (IsOk r ↔ (length xs + length (take m ys) ≤ 257)) → OnOk r (new ≡ xs ++ take m ys) → new ≡ take 257 (xs ++ ys)
+pub kept_more : {T E : Type 0} (r : Result T E) (xs ys new : List ℕ) (room m : ℕ) → room + length xs ≡ 257
+    → m ≡ min (length ys) room → (IsOk r ↔ (length xs + length (take m ys) ≤ 257)) → OnOk r (new ≡ xs ++ take m ys)
+    → new ≡ take 257 (xs ++ ys)
 kept_more r xs ys new room m is m_is fits ok =
     let short : length (take m ys) ≡ m = length-take-le m ys (omega arith) in
     let e = on_ok r (fits.1 (omega arith)) ok in
     e ∙ ap (λ (k : ℕ). xs ++ take k ys) m_is ∙ ap (λ (l : List ℕ). xs ++ l) (take_min ys room) ∙ sym (take_over xs ys room 257 (omega arith))
 
 pub same_lists : (n : ℕ) (xs ys : List ℕ) → length xs ≡ n → length ys ≡ n → ((k : ℕ) → k < n → get_or xs k 0 ≡ get_or ys k 0) → xs ≡ ys
-same_lists n xs ys long_xs long_ys each = fill_by_all (λ k. get_or ys k 0) xs n 0 long_xs each ∙ sym (fill_by_all (λ k. get_or ys k 0) ys n 0 long_ys (λ k lt. refl))
+same_lists n xs ys long_xs long_ys each = fill_by_all (λ k. get_or ys k 0) xs n 0 long_xs each
+    ∙ sym (fill_by_all (λ k. get_or ys k 0) ys n 0 long_ys (λ k lt. refl))
 
 pub length-text : (n : ℕ) (row : ℕ → List ℕ) → length (program_text n row) ≡ n
 unfolding program_text
@@ -58,12 +65,19 @@ unfolding program_text
 text-at n row i lt = get_or-map-range_with_len (λ i. get_or (row (i / 512)) (i % 512) 0) 0 n i i 0 lt (omega arith)
 
 -- a part of a sector is the same part of the text
-part_same : (row : ℕ → List ℕ) (sector : List ℕ) (size place n from to skipped : ℕ) → length sector ≡ 512 → sector ≡ row n → from ≤ to → to ≤ 512 → 512 * n + to ≤ size → place + skipped ≡ 512 * n + from
+part_same : (row : ℕ → List ℕ) (sector : List ℕ) (size place n from to skipped : ℕ) → length sector ≡ 512
+    → sector ≡ row n → from ≤ to → to ≤ 512 → 512 * n + to ≤ size → place + skipped ≡ 512 * n + from
     → take (to - from) (drop from sector) ≡ take (to - from) (drop skipped (drop place (program_text size row)))
 part_same row sector size place n from to skipped full is ordered within inside placed =
     same_lists (to - from) _ _
     (length-take-le (to - from) (drop from sector) (omega (arith, length-drop from sector)))
-    (length-take-le (to - from) (drop skipped (drop place (program_text size row))) (omega (arith, length-drop skipped (drop place (program_text size row)), length-drop place (program_text size row), length-text size row)))
+    (length-take-le (to - from) (drop skipped (drop place (program_text size row)))
+    (omega (
+      arith,
+      length-drop skipped (drop place (program_text size row)),
+      length-drop place (program_text size row),
+      length-text size row,
+    )))
     (λ k lt. here k lt ∙ sym (there k lt))
   where
     here : (k : ℕ) → k < to - from → get_or (take (to - from) (drop from sector)) k 0 ≡ get_or (row n) (from + k) 0
@@ -80,10 +94,14 @@ part_same row sector size place n from to skipped full is ordered within inside 
         ∙ text-at size row i (omega arith)
         ∙ (λ j. get_or (row (sector_is j)) (byte_is j) 0)
 
-pub part_is : (row : ℕ → List ℕ) (sector : List ℕ) (size place n from to : ℕ) → length sector ≡ 512 → sector ≡ row n → place ≤ size → place < 512 * n + 512 → 512 * n < size → from ≡ max place (512 * n) - 512 * n → to ≡ min 512 (size - 512 * n) → IsPart (program_text size row) place (512 * n) (take (to - from) (drop from sector))
+pub part_is : (row : ℕ → List ℕ) (sector : List ℕ) (size place n from to : ℕ) → length sector ≡ 512 → sector ≡ row n
+    → place ≤ size → place < 512 * n + 512 → 512 * n < size → from ≡ max place (512 * n) - 512 * n
+    → to ≡ min 512 (size - 512 * n)
+    → IsPart (program_text size row) place (512 * n) (take (to - from) (drop from sector))
 part_is row sector size place n from to full is place_in begins ends from_is to_is =
     let ordered : from ≤ to = omega arith in
-    let long : length (take (to - from) (drop from sector)) ≡ to - from = length-take-le (to - from) (drop from sector) (omega (arith, length-drop from sector)) in
+    let long : length (take (to - from) (drop from sector)) ≡ to - from =
+    length-take-le (to - from) (drop from sector) (omega (arith, length-drop from sector)) in
     let same = part_same row sector size place n from to (512 * n - place) full is ordered (omega arith) (omega arith) (omega arith) in
     record {
       is = same ∙ ap (λ (k : ℕ). take k (drop (512 * n - place) (drop place (program_text size row)))) (sym long);
@@ -95,10 +113,15 @@ newline_at [] rest = refl
 newline_at (b ∷ front) rest = newline_at front rest
 
 -- a part that goes on after its first line
-pub line_taken : (old new front rest : List ℕ) → HasNoNewline front → new ≡ take 257 (old ++ front) → TakesPart old new (front ++ 10 ∷ rest) (Some (length front))
+pub line_taken : (old new front rest : List ℕ) → HasNoNewline front → new ≡ take 257 (old ++ front)
+    → TakesPart old new (front ++ 10 ∷ rest) (Some (length front))
 line_taken old new front rest plain kept =
-    let same = take-append_seam front (10 ∷ rest) in
-    (subst HasNoNewline (sym same) plain, omega (arith, length-append front (10 ∷ rest)), newline_at front rest, kept ∙ ap (λ l. take 257 (old ++ l)) (sym same))
+    let same = take-append_seam front (10 ∷ rest) in (
+      subst HasNoNewline (sym same) plain,
+      omega (arith, length-append front (10 ∷ rest)),
+      newline_at front rest,
+      kept ∙ ap (λ l. take 257 (old ++ l)) (sym same),
+    )
 
 -- Parts taken one after another.
 keep_keep : (n : ℕ) (xs ys : List ℕ) → take n (take n xs ++ ys) ≡ take n (xs ++ ys)
@@ -121,33 +144,43 @@ rest_of text place = drop place text
 within_rest : (text : List ℕ) (place start : ℕ) (part : List ℕ) → IsPart text place start part → start - place + length part ≤ length (rest_of text place)
 within_rest text place start part p = omega (arith, p.whole, length-drop place text)
 
-pub front : (text : List ℕ) (place start n : ℕ) (part : List ℕ) → IsPart text place start part → n ≤ length part → take (start - place + n) (rest_of text place) ≡ take (start - place) (rest_of text place) ++ take n part
+pub front : (text : List ℕ) (place start n : ℕ) (part : List ℕ) → IsPart text place start part → n ≤ length part
+    → take (start - place + n) (rest_of text place) ≡ take (start - place) (rest_of text place) ++ take n part
 front text place start n part p le =
     let m = start - place in
     let rest = rest_of text place in
     take_sum m n rest (omega (arith, within_rest text place start part p))
     ∙ ap (λ (l : List ℕ). take m rest ++ l) (sym (take-take n (length part) (drop m rest) le) ∙ ap (λ (l : List ℕ). take n l) (sym p.is))
 
-kept_front : (text old new : List ℕ) (place start n : ℕ) (part : List ℕ) → IsPart text place start part → n ≤ length part → KeepsLineFront (rest_of text place) (start - place) old → HasNoNewline (take n part) → new ≡ take 257 (old ++ take n part) → KeepsLineFront (rest_of text place) (start - place + n) new
+kept_front : (text old new : List ℕ) (place start n : ℕ) (part : List ℕ) → IsPart text place start part
+    → n ≤ length part → KeepsLineFront (rest_of text place) (start - place) old → HasNoNewline (take n part)
+    → new ≡ take 257 (old ++ take n part) → KeepsLineFront (rest_of text place) (start - place + n) new
 kept_front text old new place start n part p le so_far plain is =
     let m = start - place in
     let rest = rest_of text place in
     let joined = front text place start n part p le in
     record {
       plain = subst HasNoNewline (sym joined) (HasNoNewline-append (take m rest) (take n part) so_far.plain plain);
-      kept_is = is ∙ ap (λ (l : List ℕ). take 257 (l ++ take n part)) so_far.kept_is ∙ keep_keep 257 (take m rest) (take n part) ∙ ap (λ (l : List ℕ). take 257 l) (sym joined);
+      kept_is = is ∙ ap (λ (l : List ℕ). take 257 (l ++ take n part)) so_far.kept_is
+          ∙ keep_keep 257 (take m rest) (take n part) ∙ ap (λ (l : List ℕ). take 257 l) (sym joined);
     }
 
-pub part_kept : (text old new : List ℕ) (place n : ℕ) (part : List ℕ) → IsPart text place (512 * n) part → KeepsLineFront (drop place text) (512 * n - place) old → TakesPart old new part None → KeepsLineFront (drop place text) (512 * (n + 1) - place) new
+pub part_kept : (text old new : List ℕ) (place n : ℕ) (part : List ℕ) → IsPart text place (512 * n) part
+    → KeepsLineFront (drop place text) (512 * n - place) old → TakesPart old new part None
+    → KeepsLineFront (drop place text) (512 * (n + 1) - place) new
 part_kept text old new place n part p so_far taken =
     let rest = rest_of text place in
     let all : take (length part) part ≡ part = take_all (length part) part (omega arith) in
-    let k = kept_front text old new place (512 * n) (length part) part p (omega arith) so_far (subst HasNoNewline (sym all) taken.0) (taken.1 ∙ ap (λ (l : List ℕ). take 257 (old ++ l)) (sym all)) in
+    let k = kept_front text old new place (512 * n) (length part) part p (omega arith) so_far
+    (subst HasNoNewline (sym all) taken.0) (taken.1 ∙ ap (λ (l : List ℕ). take 257 (old ++ l)) (sym all)) in
     let sum : 512 * n - place + length part ≡ min (length rest) (512 * (n + 1) - place) = omega (arith, p.whole, length-drop place text) in
-    let whole : take (512 * n - place + length part) rest ≡ take (512 * (n + 1) - place) rest = ap (λ (x : ℕ). take x rest) sum ∙ take_min rest (512 * (n + 1) - place) in
+    let whole : take (512 * n - place + length part) rest ≡ take (512 * (n + 1) - place) rest =
+    ap (λ (x : ℕ). take x rest) sum ∙ take_min rest (512 * (n + 1) - place) in
     record { plain = subst HasNoNewline whole k.plain; kept_is = k.kept_is ∙ ap (λ (l : List ℕ). take 257 l) whole }
 
-pub end_found : (text old new : List ℕ) (place n i : ℕ) (part : List ℕ) → IsPart text place (512 * n) part → KeepsLineFront (drop place text) (512 * n - place) old → TakesPart old new part (Some i) → IsEnd (drop place text) new (Some (512 * n - place + i))
+pub end_found : (text old new : List ℕ) (place n i : ℕ) (part : List ℕ) → IsPart text place (512 * n) part
+    → KeepsLineFront (drop place text) (512 * n - place) old → TakesPart old new part (Some i)
+    → IsEnd (drop place text) new (Some (512 * n - place + i))
 end_found text old new place n i part p so_far taken =
     let m = 512 * n - place in
     let rest = rest_of text place in (
@@ -178,7 +211,9 @@ strip_long l long = go (slice_index l (length l - 1) == 13)
 whole_rest : (rest kept : List ℕ) (n : ℕ) → IsEnd rest kept (Some n) → rest ≡ take n rest ++ (10 ∷ drop (suc n) rest)
 whole_rest rest kept n e = parted rest n e.1 (let is = e.2 in grind (arith, nat_tests))
 
-found_line : (program kept text : List ℕ) (place n : ℕ) → IsEnd (drop place program) kept (Some n) → take 257 (strip_carriage_return (take n (drop place program))) ≡ text → Some (record { text = text; next = place + n + 1 }) ≡ program_line_at program place
+found_line : (program kept text : List ℕ) (place n : ℕ) → IsEnd (drop place program) kept (Some n)
+    → take 257 (strip_carriage_return (take n (drop place program))) ≡ text
+    → Some (record { text = text; next = place + n + 1 }) ≡ program_line_at program place
 unfolding program_line_at next_line_start
 found_line program kept text place n e is =
     let rest = drop place program in
@@ -191,27 +226,33 @@ found_line program kept text place n e is =
     let next : place + span rest ≡ place + n + 1 = omega (arith, spanned) in
     sym ((λ i. first_line (lines_are i) (next i)) ∙ ap (λ (l : List ℕ). Some (record { text = l; next = place + n + 1 })) is)
 
-pub short_line : (program kept text : List ℕ) (place n : ℕ) → IsEnd (drop place program) kept (Some n) → n ≤ 257 → text ≡ strip_carriage_return kept → Some (record { text = text; next = place + n + 1 }) ≡ program_line_at program place
+pub short_line : (program kept text : List ℕ) (place n : ℕ) → IsEnd (drop place program) kept (Some n) → n ≤ 257
+    → text ≡ strip_carriage_return kept → Some (record { text = text; next = place + n + 1 }) ≡ program_line_at
+    program place
 short_line program kept text place n e short is =
     let raw = take n (drop place program) in
     let long : length raw ≡ n = length-take-le n (drop place program) (let lt = e.1 in omega arith) in
     let kept_is : kept ≡ raw = e.0.kept_is ∙ take_all 257 raw (omega arith) in
     found_line program kept text place n e (strip_short raw (omega arith) ∙ ap strip_carriage_return (sym kept_is) ∙ sym is)
 
-pub long_line : (program kept text : List ℕ) (place n : ℕ) → IsEnd (drop place program) kept (Some n) → 257 < n → text ≡ kept → Some (record { text = text; next = place + n + 1 }) ≡ program_line_at program place
+pub long_line : (program kept text : List ℕ) (place n : ℕ) → IsEnd (drop place program) kept (Some n) → 257 < n
+    → text ≡ kept → Some (record { text = text; next = place + n + 1 }) ≡ program_line_at program place
 long_line program kept text place n e long is =
     let raw = take n (drop place program) in
     let size : length raw ≡ n = length-take-le n (drop place program) (let lt = e.1 in omega arith) in
     found_line program kept text place n e (strip_long raw (omega arith) ∙ sym e.0.kept_is ∙ sym is)
 
-alone : (rest kept : List ℕ) (next : ℕ) → 0 < length rest → KeepsLineFront rest (length rest) kept → first_line (lines rest) next ≡ Some (record { text = kept; next = next })
+alone : (rest kept : List ℕ) (next : ℕ) → 0 < length rest → KeepsLineFront rest (length rest) kept
+    → first_line (lines rest) next ≡ Some (record { text = kept; next = next })
 alone [] kept next some k = absurd (omega arith)
 alone (b ∷ rest) kept next some k =
     let all : take (length (b ∷ rest)) (b ∷ rest) ≡ b ∷ rest = take_all (length (b ∷ rest)) (b ∷ rest) (omega arith) in
     ap (λ (l : List (List ℕ)). first_line l next) (lines-alone b rest (subst HasNoNewline all k.plain))
     ∙ ap (λ (l : List ℕ). Some (record { text = l; next = next })) (sym (k.kept_is ∙ ap (λ (l : List ℕ). take 257 l) all))
 
-pub last_line : (program kept : List ℕ) (place size : ℕ) → length program ≡ size → place < size → IsEnd (drop place program) kept None → Some (record { text = kept; next = size }) ≡ program_line_at program place
+pub last_line : (program kept : List ℕ) (place size : ℕ) → length program ≡ size → place < size
+    → IsEnd (drop place program) kept None → Some (record { text = kept; next = size }) ≡ program_line_at program
+    place
 unfolding program_line_at next_line_start
 last_line program kept place size long lt k =
     let rest = drop place program in
@@ -231,8 +272,11 @@ no_line program place size long end =
     sym (ap (λ (l : List ℕ). first_line (lines l) (place + span l)) none)
 
 -- A sector read of a program area.
-pub sector_at : (area first n : ℕ) (begun now : Trace) (sector : List ℕ) → first ≡ program_first area → n < program_size area → now ≡ begun → sector ≡ reads now (first + n) → sector ≡ stretch (program_first area) (program_size area) (reads begun) n
-sector_at area first n begun now sector at lt same is = is ∙ (λ i. reads (same i) (at i + n)) ∙ sym (stretch-at (program_first area) (program_size area) (reads begun) n lt)
+pub sector_at : (area first n : ℕ) (begun now : Trace) (sector : List ℕ) → first ≡ program_first area
+    → n < program_size area → now ≡ begun → sector ≡ reads now (first + n)
+    → sector ≡ stretch (program_first area) (program_size area) (reads begun) n
+sector_at area first n begun now sector at lt same is = is ∙ (λ i. reads (same i) (at i + n))
+    ∙ sym (stretch-at (program_first area) (program_size area) (reads begun) n lt)
 
 pub end_some : (rest kept : List ℕ) (o : Option ℕ) (n : ℕ) → o ≡ Some n → IsEnd rest kept o → IsEnd rest kept (Some n)
 end_some rest kept o n is e = subst (IsEnd rest kept) is e
@@ -241,5 +285,9 @@ pub end_none : (rest kept : List ℕ) (o : Option ℕ) → o ≡ None → IsEnd 
 end_none rest kept o is e = subst (IsEnd rest kept) is e
 
 -- The program of the durable state is that of the area in force.
-pub line_in_force : {end : LogEnd} (old : Trace) (header : Header) (standing : DurableState) (place : ℕ) (line : Option ProgramLineModel) → IsAtEnd old header standing end → line ≡ program_line_at (program_text header.length (stretch (program_first header.area) (program_size header.area) (reads old))) place → line ≡ program_line_at standing.program place
+pub line_in_force : {end : LogEnd} (old : Trace) (header : Header) (standing : DurableState) (place : ℕ)
+    (line : Option ProgramLineModel) → IsAtEnd old header standing end
+    → line ≡ program_line_at
+    (program_text header.length (stretch (program_first header.area) (program_size header.area) (reads old))) place
+    → line ≡ program_line_at standing.program place
 line_in_force old header standing place line at found = found ∙ ap (λ (l : List ℕ). program_line_at l place) at.image.program

@@ -37,17 +37,29 @@ with_room room saved = record saved { room = room }
 holds_part : (room : ℕ) (saved : StoredModel) (j : ℕ) (bytes : List ℕ) → HoldsPart saved j bytes → HoldsPart (with_room room saved) j bytes
 holds_part room saved j bytes h = record { state = h.state; slots = h.slots; rest = h.rest; values = h.values }
 
-to_areas : (room : ℕ) (header : Header) (saved : StoredModel) (n : ℕ) (bytes : List ℕ) → BelongsToAreas header saved n bytes → BelongsToAreas header (with_room room saved) n bytes
-to_areas room header saved n bytes (inl own) = inl (record { place = own.place; within = own.within; is = own.is; right = holds_part room saved own.place bytes own.right })
+to_areas : (room : ℕ) (header : Header) (saved : StoredModel) (n : ℕ) (bytes : List ℕ)
+    → BelongsToAreas header saved n bytes → BelongsToAreas header (with_room room saved) n bytes
+to_areas room header saved n bytes (inl own) =
+    inl (record {
+      place = own.place;
+      within = own.within;
+      is = own.is;
+      right = holds_part room saved own.place bytes
+          own.right;
+    })
 to_areas room header saved n bytes (inr tools) = inr tools
 
-belongs : (room : ℕ) (header : Header) (saved : StoredModel) (n : ℕ) (bytes : List ℕ) → BelongsTo header saved n bytes → BelongsTo header (with_room room saved) n bytes
+belongs : (room : ℕ) (header : Header) (saved : StoredModel) (n : ℕ) (bytes : List ℕ)
+    → BelongsTo header saved n bytes → BelongsTo header (with_room room saved) n bytes
 belongs room header saved n bytes (inl areas) = inl (to_areas room header saved n bytes areas)
 belongs room header saved n bytes (inr there) = inr there
 
-pub areas_kept : {T E : Type 0} (room : ℕ) (result : Result T E) (next : Header) (saved : StoredModel) (old new : Trace) → WritesAreas result next saved old new → WritesAreas result next (with_room room saved) old new
+pub areas_kept : {T E : Type 0} (room : ℕ) (result : Result T E) (next : Header) (saved : StoredModel)
+    (old new : Trace) → WritesAreas result next saved old new → WritesAreas result next (with_room room saved) old
+    new
 areas_kept {T = T} {E = E} room result next saved old new w = record {
-  writes = only_wider (λ n c. BelongsToAreas next saved n c) (λ n c. BelongsToAreas next (with_room room saved) n c) old new (to_areas room next saved) w.writes;
+  writes = only_wider (λ n c. BelongsToAreas next saved n c) (λ n c. BelongsToAreas next (with_room room saved) n c)
+      old new (to_areas room next saved) w.writes;
   parts = go result w.parts;
   tools = w.tools;
 }
@@ -61,7 +73,9 @@ areas_kept {T = T} {E = E} room result next saved old new w = record {
 
 -- ---- a load
 
-pub load_kept : {T E : Type 0} (room : ℕ) (result : Result T E) (area : ℕ) (header : Header) (saved : StoredModel) (text : List ℕ) (old new : Trace) → StoresLoad result area header (record { saved = saved; program = text }) old new → StoresLoad result area header (record { saved = with_room room saved; program = text }) old new
+pub load_kept : {T E : Type 0} (room : ℕ) (result : Result T E) (area : ℕ) (header : Header) (saved : StoredModel)
+    (text : List ℕ) (old new : Trace) → StoresLoad result area header (record { saved = saved; program = text }) old
+    new → StoresLoad result area header (record { saved = with_room room saved; program = text }) old new
 load_kept {T = T} {E = E} room result area header saved text old new s = record {
   writes = only_wider (λ n c. BelongsToLoad area header was n c) (λ n c. BelongsToLoad area header now n c) old new to_load s.writes;
   text = s.text;
@@ -88,7 +102,9 @@ load_kept {T = T} {E = E} room result area header saved text old new s = record 
 
 -- ---- a record
 
-holds_record_part : (room : ℕ) (l : PartHeader) (saved : StoredModel) (all : List Change) (slot : Option SlotChange) (bytes : List ℕ) → HoldsRecordPart l saved all slot bytes → HoldsRecordPart l (with_room room saved) all slot bytes
+holds_record_part : (room : ℕ) (l : PartHeader) (saved : StoredModel) (all : List Change) (slot : Option SlotChange)
+    (bytes : List ℕ) → HoldsRecordPart l saved all slot bytes → HoldsRecordPart l (with_room room saved) all slot
+    bytes
 holds_record_part room l saved all slot bytes h = record {
   label = h.label;
   state = λ first. let s = h.state first in record { state = s.state; slot = s.slot; tool = s.tool; between = s.between; rest = s.rest };
@@ -124,43 +140,64 @@ module _ (room epoch : ℕ) (end : LogEnd) (saved : StoredModel) (changes : List
 
 -- ---- what stops leave of a record that is written
 
-module _ (old : Trace) (header : Header) (before : DurableState) (end : LogEnd) (saved : StoredModel) (changes : List Change) (slot : Option SlotChange) (at : IsAtEnd old header before end) (next : IsNext (reads old) header before end saved changes slot) where
+module _ (old : Trace) (header : Header) (before : DurableState) (end : LogEnd) (saved : StoredModel)
+    (changes : List Change) (slot : Option SlotChange) (at : IsAtEnd old header before end)
+    (next : IsNext (reads old) header before end saved changes slot) where
   abbrev e : LogRecord
   e = record_at header.epoch end saved changes slot
 
   blend : (image : Image) (handed : List Item) → IsMixOf old (BelongsToRecord e) image handed → IsBlend (reads old) image e
   blend image handed b = record { each = λ n. ⊎_elim (λ may. inl (at.synced.one n (image n) may)) (λ there. inr there) (b.each n) }
 
-  either : (image : Image) (handed : List Item) → IsMixOf old (BelongsToRecord e) image handed → IsEither (Ok before) (Ok (record before { saved = saved })) (items old) image handed
+  either : (image : Image) (handed : List Item) → IsMixOf old (BelongsToRecord e) image handed
+      → IsEither (Ok before) (Ok (record before { saved = saved })) (items old) image handed
   either image handed b = record {
     state = blend-stands (reads old) image header before end saved changes slot next (blend image handed b);
-    modern = record { header = header; force = blend-force (reads old) image header before end saved changes slot next (blend image handed b); format = next.two };
+    modern = record {
+      header = header;
+      force = blend-force (reads old) image header before end saved changes slot
+          next (blend image handed b);
+      format = next.two;
+    };
     written = blend-written (reads old) image header before end saved changes slot next (blend image handed b);
     handed_is = b.handed_is;
   }
 
-  written : {E : Type 0} (result : Result LogEnd E) (new : Trace) → IfOk result (λ after. after ≡ end_after end (length changes)) → WritesRecord result e old new → AppendSpec result header before saved old new
+  written : {E : Type 0} (result : Result LogEnd E) (new : Trace)
+      → IfOk result (λ after. after ≡ end_after end (length changes)) → WritesRecord result e old new
+      → AppendSpec result header before saved old new
   written {E = E} result new is w = record {
     stops = weaker old new (IsMixOf old (BelongsToRecord e)) (IsEither (Ok before) (Ok (record before { saved = saved })) (items old)) w.writes.stops either;
     items_are = w.writes.items_are;
     at = go result is w;
   }
     where
-      go : (result : Result LogEnd E) → IfOk result (λ after. after ≡ end_after end (length changes)) → WritesRecord result e old new → IfOk result (λ after. IsAtEnd new header (record before { saved = saved }) after)
+      go : (result : Result LogEnd E) → IfOk result (λ after. after ≡ end_after end (length changes))
+          → WritesRecord result e old new
+          → IfOk result (λ after. IsAtEnd new header (record before { saved = saved }) after)
       go (Err f) is w = tt
       go (Ok after) is w = record {
         synced = w.synced;
-        image = subst (λ (x : LogEnd). EndsIn (reads new) header (record before { saved = saved }) x) (sym is) (blend-ends (reads old) (reads new) header before end saved changes slot next (blend (reads new) (items new) (reads_blend (BelongsToRecord e) old new w.writes)) w.parts);
+        image = subst (λ (x : LogEnd). EndsIn (reads new) header (record before { saved = saved }) x) (sym is)
+            (blend-ends (reads old) (reads new) header before end saved changes slot next
+            (blend (reads new) (items new) (reads_blend (BelongsToRecord e) old new w.writes)) w.parts);
       }
 
 -- A record of a state stands for that state with the old state's room.
-pub append_kept : {E : Type 0} (result : Result LogEnd E) (header : Header) (end : LogEnd) (table : List ℤ) (slot : Option SlotChange) (before : DurableState) (was stored : StoredModel) (count : ℕ) (old new : Trace) → IsAtEnd old header before end
+pub append_kept : {E : Type 0} (result : Result LogEnd E) (header : Header) (end : LogEnd) (table : List ℤ)
+    (slot : Option SlotChange) (before : DurableState) (was stored : StoredModel) (count : ℕ) (old new : Trace)
+    → IsAtEnd old header before end
     → before.saved.setup.params ≡ was.setup.params → before.saved.tools ≡ was.tools → before.saved.room ≡ was.room
-    → table ≡ was.setup.params → length was.setup.params ≡ 5399 → slot ≡ first_change was.tools stored.tools → IsOneSlotFrom was.tools stored.tools → IsStorable stored → count ≡ length (differences was.setup.params stored.setup.params)
-    → end.sector + parts_for count ≤ log_size_of header → stored.length ≡ header.length → header.format ≡ Two → IfOk result (λ after. after ≡ end_after end count)
+    → table ≡ was.setup.params → length was.setup.params ≡ 5399 → slot ≡ first_change was.tools stored.tools
+    → IsOneSlotFrom was.tools stored.tools → IsStorable stored
+    → count ≡ length (differences was.setup.params stored.setup.params)
+    → end.sector + parts_for count ≤ log_size_of header → stored.length ≡ header.length → header.format ≡ Two
+    → IfOk result (λ after. after ≡ end_after end count)
     → WritesRecord result (record_from header.epoch end table slot stored) old new → AppendSpec result header before (with_room was.room stored) old new
-append_kept {E = E} result header end table slot before was stored count old new at params tools room table_is all slot_is one storable count_is fits long two after_is w =
-    written old header before end saved changes slot at next result new (go result after_is) (record_kept was.room header.epoch end stored changes slot result old new of_was)
+append_kept {E = E} result header end table slot before was stored count old new at params tools room table_is all
+    slot_is one storable count_is fits long two after_is w =
+    written old header before end saved changes slot at next result new (go result after_is)
+    (record_kept was.room header.epoch end stored changes slot result old new of_was)
   where
     saved : StoredModel
     saved = with_room was.room stored

@@ -31,7 +31,11 @@ begins-end image header at two b =
         records = 0;
         reached = λ i. record { at = 0; number = 0; found = b.snapshot_is i };
         room = omega arith;
-        clean = record { none = λ m ge lt is. let low : m < shortest_log = omega arith in b.clean m low (ap (number_at 8 0) (sym (stretch-at log_first (log_size_of header) image m lt)) ∙ is) };
+        clean = record {
+          none = λ m ge lt is. let low : m < shortest_log =
+              omega arith in b.clean m low
+              (ap (number_at 8 0) (sym (stretch-at log_first (log_size_of header) image m lt)) ∙ is);
+        };
       };
       program = b.program;
       long = b.long;

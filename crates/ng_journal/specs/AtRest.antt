@@ -40,7 +40,8 @@ IsOfEpoch header n = IsOfAreas header n ⊎ (n ≡ header.epoch % 2)
 -- These bytes belong in sector n of the areas if this is stored under a header: a part of the snapshot or, in format 2,
 -- of the tool table.
 abbrev pub BelongsToAreas : Header → StoredModel → ℕ → List ℕ → Type 0
-BelongsToAreas header saved n bytes = BelongsIn (snapshot_first header.epoch) snapshot_size (HoldsPart saved) n bytes ⊎ ((header.format ≡ Two) × BelongsIn (tools_first header.epoch) tools_size (HoldsToolPart saved) n bytes)
+BelongsToAreas header saved n bytes = BelongsIn (snapshot_first header.epoch) snapshot_size (HoldsPart saved) n
+    bytes ⊎ ((header.format ≡ Two) × BelongsIn (tools_first header.epoch) tools_size (HoldsToolPart saved) n bytes)
 
 -- These bytes belong in sector n if this is stored under a header: a part of it in its areas, or the header in its
 -- sector.

@@ -80,7 +80,8 @@ pub record StandsFor (standing : DurableState) (given : List Item) (image : Imag
 
 -- Each stop since has the item in addition, and the state is unchanged. After Ok the item is handed out, otherwise it
 -- or nothing.
-pub record JournalHandOutSpec {R T E : Type 0} (result : Result T E) (journal : JournalModel R) (standing : DurableState) (item : Item) (old new : Trace) : Type 0 where
+pub record JournalHandOutSpec {R T E : Type 0} (result : Result T E) (journal : JournalModel R)
+    (standing : DurableState) (item : Item) (old new : Trace) : Type 0 where
   pub stops : IsContinuation old new (StandsFor standing (items old ++ item ∷ []))
   pub items_are : (items new ≡ items old) ⊎ (items new ≡ items old ++ item ∷ [])
   pub given : OnOk result (items new ≡ items old ++ item ∷ [])

@@ -1,5 +1,6 @@
 -- What is put at a position in a sequence of bytes, and what is before and after it.
-use Rattle.std.proofs.Common.{◌≡◌, ℕ, ◌+◌, ◌-◌, ◌^◌, ◌<◌, ◌≤◌, List, ◌++◌, length, take, drop, refl, sym, ◌∙◌, ap, arith, append_assoc, length-append, length-take, length-drop, take-append-drop}
+use Rattle.std.proofs.Common.{◌≡◌, ℕ, ◌+◌, ◌-◌, ◌^◌, ◌<◌, ◌≤◌, List, ◌++◌, length, take, drop, refl, sym, ◌∙◌, ap}
+use Rattle.std.proofs.Common.{arith, append_assoc, length-append, length-take, length-drop, take-append-drop}
 use Rattle.std.proofs.lemmas.List.{take-take, drop_at, drop-drop, drop-append-le, drop-take, length-take-le, take_at}
 use borrow.Rule.Slice.PartMut.{put_mid, mid_of, post_of, take_put, drop_put}
 use Rattle.byteorder.specs.Endian.{little_number, little_bytes}
@@ -8,14 +9,17 @@ use Rattle.std.specs.Int.{w64, cast_signed}
 use Rattle.ng_layout.specs.Fields.{number_at, signed_at, bytes_at, SameBelow, SameFrom, Puts}
 
 -- a number written to a part of a sequence that begins at a position
-module _ (w at x size : ℕ) (xs ys : List ℕ) (sized : length xs ≡ size) (room : at + w ≤ size) (is : ys ≡ little_bytes w x ++ drop w (mid_of at (size - at) xs)) where
+module _ (w at x size : ℕ) (xs ys : List ℕ) (sized : length xs ≡ size) (room : at + w ≤ size)
+    (is : ys ≡ little_bytes w x ++ drop w (mid_of at (size - at) xs)) where
   front : length (take at xs) ≡ at
   front = length-take-le at xs (omega (arith, room, sized))
 
   put-number : x < 256 ^ w → number_at w at (put_mid at (size - at) xs ys) ≡ x
   unfolding number_at
   put-number fits =
-      ap (little_number w) (drop_at (take at xs) (ys ++ post_of at (size - at) xs) at front ∙ ap (λ (l : List ℕ). l ++ post_of at (size - at) xs) is ∙ append_assoc (little_bytes w x) (drop w (mid_of at (size - at) xs)) (post_of at (size - at) xs))
+      ap (little_number w) (drop_at (take at xs) (ys ++ post_of at (size - at) xs) at front
+      ∙ ap (λ (l : List ℕ). l ++ post_of at (size - at) xs) is
+      ∙ append_assoc (little_bytes w x) (drop w (mid_of at (size - at) xs)) (post_of at (size - at) xs))
       ∙ little_number-reads_back w x (drop w (mid_of at (size - at) xs) ++ post_of at (size - at) xs) fits
 
   put-beyond : drop (at + w) (put_mid at (size - at) xs ys) ≡ drop (at + w) xs
@@ -94,7 +98,9 @@ unfolding bytes_at
 bytes-below n o at old new s le =
     let m = at - o in
     let sum : o + m ≡ at = omega arith in
-    let cut : (l : List ℕ) → take n (drop o l) ≡ take n (drop o (take at l)) = λ l. sym (take-take n m (drop o l) (omega arith)) ∙ ap (λ (x : List ℕ). take n x) (sym (drop-take o m l) ∙ ap (λ (k : ℕ). drop o (take k l)) sum) in
+    let cut : (l : List ℕ) → take n (drop o l) ≡ take n (drop o (take at l)) = λ l.
+    sym (take-take n m (drop o l) (omega arith))
+    ∙ ap (λ (x : List ℕ). take n x) (sym (drop-take o m l) ∙ ap (λ (k : ℕ). drop o (take k l)) sum) in
     cut new ∙ ap (λ (l : List ℕ). take n (drop o l)) s.same ∙ sym (cut old)
 
 -- the same for what is from a position on
@@ -109,7 +115,8 @@ unfolding bytes_at
 put-bytes n at xs ys room long =
     let front : length (take at xs) ≡ at = length-take-le at xs (omega arith) in
     record {
-      written = ap (λ (l : List ℕ). take n l) (drop_at (take at xs) (ys ++ post_of at (at + n - at) xs) at front) ∙ take_at ys (post_of at (at + n - at) xs) n long;
+      written = ap (λ (l : List ℕ). take n l) (drop_at (take at xs) (ys ++ post_of at (at + n - at) xs) at front)
+          ∙ take_at ys (post_of at (at + n - at) xs) n long;
       below = record { same = take_put at (at + n - at) xs ys (omega arith) };
       beyond = record { same = drop_put at (at + n) xs ys (omega arith) room (omega arith) };
     }

@@ -1,5 +1,7 @@
 -- What images stand for if they agree on the sectors that matter, and under a new header.
-use Rattle.std.proofs.Common.{◌≡◌, ◌≢◌, ◌⊎◌, inl, inr, ⊎_elim, ℕ, zero, suc, ◌+◌, ◌-◌, ◌%◌, ◌<◌, ◌≤◌, ◌==◌, ◌&&◌, nat_lt, nat_le, Bool, true, false, if◌then◌else◌, List, [], Option, Some, None, ℤ, Result, Ok, Err, lit≤, refl, sym, ◌∙◌, ap, subst, arith}
+use Rattle.std.proofs.Common.{◌≡◌, ◌≢◌, ◌⊎◌, inl, inr, ⊎_elim, ℕ, zero, suc, ◌+◌, ◌-◌, ◌%◌, ◌<◌, ◌≤◌, ◌==◌, ◌&&◌}
+use Rattle.std.proofs.Common.{nat_lt, nat_le, Bool, true, false, if◌then◌else◌, List, [], Option, Some, None, ℤ}
+use Rattle.std.proofs.Common.{Result, Ok, Err, lit≤, refl, sym, ◌∙◌, ap, subst, arith}
 use Rattle.std.proofs.lemmas.Bool.{cases_eq}
 use Rattle.std.proofs.lemmas.Bool.Decides.{nat_tests}
 use Rattle.ng_layout.specs.Fields.{number_at}
@@ -9,12 +11,15 @@ use Rattle.ng_layout.specs.declared.header.Format.{Format}
 use Rattle.ng_layout.specs.declared.header.Format.TheVariants.{One, Two}
 use Rattle.ng_layout.specs.declared.header.Header.{Header}
 use Rattle.ng_layout.specs.Header.{header_at, is_marked, header_by, header_in, longest_in, program_room}
-use Rattle.ng_layout.specs.Areas.{log_size, log_size_of, shortest_log, tools_first, tools_size, log_first, snapshot_first, snapshot_size, program_first, program_size, greatest_area}
+use Rattle.ng_layout.specs.Areas.{log_size, log_size_of, shortest_log, tools_first, tools_size, log_first}
+use Rattle.ng_layout.specs.Areas.{snapshot_first, snapshot_size, program_first, program_size, greatest_area}
 use Rattle.ng_layout.specs.Log.{PartHeader, LogPosition, is_part, parts_stand, parts_for, with_record, next, after_step, run}
 use Rattle.ng_layout.proofs.SpareLemmas.{IsOfOther, IsSpare, SameButSpare, SameButTail}
 use Rattle.ng_layout.specs.Decoding.{and_then}
 use Rattle.ng_layout.specs.Sectors.{program_text}
-use Rattle.ng_layout.specs.Stands.{is_large, stretch, newer, in_force, snapshot, standing, durable_state_under, by_header, stands, stands_beside, beside_header, epoch_in_force, IsModern, IsWritten}
+use Rattle.ng_layout.specs.Stands.{is_large, stretch, newer, in_force, snapshot, standing, durable_state_under}
+use Rattle.ng_layout.specs.Stands.{by_header, stands, stands_beside, beside_header, epoch_in_force, IsModern}
+use Rattle.ng_layout.specs.Stands.{IsWritten}
 use Rattle.ng_layout.specs.Stored.{DurableState}
 use Rattle.ng_num.specs.declared.fault.Fault.{Fault}
 
@@ -33,8 +38,16 @@ choice : {X : Type 0} (b : Bool) (x y : X) → (if b then Some x else None) ≡ 
 choice true x y is = (refl, cc)
 choice false x y is = absurd (cc)
 
-within_parts : (k e a l most longest : ℕ) (marked : Bool) → (marked && (nat_le 1 e && nat_le e greatest_count && nat_le a most && nat_le l longest) && (e % 2 == k)) ≡ true → (1 ≤ e) × (e ≤ greatest_count) × (a ≤ most) × (l ≤ longest) × (e % 2 ≡ k)
-within_parts k e a l most longest marked is = (grind (arith, nat_tests), grind (arith, nat_tests), grind (arith, nat_tests), grind (arith, nat_tests), grind (arith, nat_tests))
+within_parts : (k e a l most longest : ℕ) (marked : Bool)
+    → (marked && (nat_le 1 e && nat_le e greatest_count && nat_le a most && nat_le l longest) && (e % 2 == k))
+    ≡ true → (1 ≤ e) × (e ≤ greatest_count) × (a ≤ most) × (l ≤ longest) × (e % 2 ≡ k)
+within_parts k e a l most longest marked is = (
+  grind (arith, nat_tests),
+  grind (arith, nat_tests),
+  grind (arith, nat_tests),
+  grind (arith, nat_tests),
+  grind (arith, nat_tests),
+)
 
 by-within : (large : Bool) (k : ℕ) (sector : List ℕ) (x h : Header) → header_by large k sector x ≡ Some h → IsWithin large k h
 by-within large k sector x h is =
@@ -56,7 +69,8 @@ pub record IsForce (a b : Option Header) (h : Header) : Type 0 where
   pub first : (x : Header) → a ≡ Some x → x.epoch ≤ h.epoch
   pub second : (x : Header) → b ≡ Some x → x.epoch ≤ h.epoch
 
-newer_cases : (x y h : Header) → (if nat_lt x.epoch y.epoch then Some y else Some x) ≡ Some h → ((y ≡ h) × (x.epoch ≤ y.epoch)) ⊎ ((x ≡ h) × (y.epoch ≤ x.epoch))
+newer_cases : (x y h : Header) → (if nat_lt x.epoch y.epoch then Some y else Some x) ≡ Some h
+    → ((y ≡ h) × (x.epoch ≤ y.epoch)) ⊎ ((x ≡ h) × (y.epoch ≤ x.epoch))
 newer_cases x y h is = elim (cases_lt x.epoch y.epoch) [
   | inl lt ↦ let e : (if nat_lt x.epoch y.epoch then Some y else Some x) ≡ Some y = grind (arith, nat_tests) in inl (inner (sym e ∙ is), omega arith)
   | inr le ↦ let e : (if nat_lt x.epoch y.epoch then Some y else Some x) ≡ Some x = grind (arith, nat_tests) in inr (inner (sym e ∙ is), le)
@@ -72,8 +86,19 @@ pub some-is : {x y : Header} → Some x ≡ Some y → x ≡ y
 some-is p = cc
 
 pub newer-force : (a b : Option Header) (h : Header) → newer a b ≡ Some h → IsForce a b h
-newer-force None b h is = record { one = inr is; first = λ x none. absurd (cc); second = λ x some. let e : x ≡ h = some-is (sym some ∙ is) in omega (arith, ap (λ (y : Header). y.epoch) e) }
-newer-force (Some a) None h is = record { one = inl is; first = λ x some. let e : x ≡ h = some-is (sym some ∙ is) in omega (arith, ap (λ (y : Header). y.epoch) e); second = λ x none. absurd (cc) }
+newer-force None b h is = record {
+  one = inr is;
+  first = λ x none. absurd (cc);
+  second = λ x some. let e : x ≡ h =
+      some-is (sym some ∙ is) in omega (arith, ap (λ (y : Header). y.epoch) e);
+}
+newer-force (Some a) None h is =
+    record {
+      one = inl is;
+      first = λ x some. let e : x ≡ h =
+          some-is (sym some ∙ is) in omega (arith, ap (λ (y : Header). y.epoch) e);
+      second = λ x none. absurd (cc);
+    }
 newer-force (Some a) (Some b) h is = ⊎_elim
     (λ w. record {
       one = inr (ap (λ (y : Header). Some y) w.0);
@@ -89,7 +114,9 @@ newer-force (Some a) (Some b) h is = ⊎_elim
 
 pub force-within : (image : Image) (h : Header) → in_force image ≡ Some h → IsWithin (is_large image) (h.epoch % 2) h
 unfolding in_force
-force-within image h is = ⊎_elim (λ p. again 0 (header-within (is_large image) 0 (image 0) h p)) (λ p. again 1 (header-within (is_large image) 1 (image 1) h p)) (newer-force (header_in (is_large image) 0 (image 0)) (header_in (is_large image) 1 (image 1)) h is).one
+force-within image h is = ⊎_elim (λ p. again 0 (header-within (is_large image) 0 (image 0) h p))
+    (λ p. again 1 (header-within (is_large image) 1 (image 1) h p))
+    (newer-force (header_in (is_large image) 0 (image 0)) (header_in (is_large image) 1 (image 1)) h is).one
   where
     again : (k : ℕ) → IsWithin (is_large image) k h → IsWithin (is_large image) (h.epoch % 2) h
     again k w = record { counted = w.counted; few = w.few; area = w.area; length = w.length; here = refl }
@@ -107,7 +134,9 @@ newest-first None new lower = refl
 newest-first (Some b) new lower = let lt = lower b refl in grind (arith, nat_tests)
 
 -- a newer header is in force
-pub force-next : (image base : Image) (h new : Header) → is_large image ≡ is_large base → in_force base ≡ Some h → new.epoch ≡ h.epoch + 1 → header_in (is_large base) (new.epoch % 2) (image (new.epoch % 2)) ≡ Some new → ((k : ℕ) → k < 2 → k ≢ new.epoch % 2 → image k ≡ base k) → in_force image ≡ Some new
+pub force-next : (image base : Image) (h new : Header) → is_large image ≡ is_large base → in_force base ≡ Some h
+    → new.epoch ≡ h.epoch + 1 → header_in (is_large base) (new.epoch % 2) (image (new.epoch % 2)) ≡ Some new
+    → ((k : ℕ) → k < 2 → k ≢ new.epoch % 2 → image k ≡ base k) → in_force image ≡ Some new
 unfolding in_force
 force-next image base h new large is next_epoch written others =
     let f = newer-force (header_in (is_large base) 0 (base 0)) (header_in (is_large base) 1 (base 1)) h is in
@@ -126,7 +155,9 @@ force-next image base h new large is next_epoch written others =
     ]
 
 -- A range of sectors is the same if its sectors are.
-pub stretch-same : (first size : ℕ) (image base : Image) → ((j : ℕ) → j < size → image (first + j) ≡ base (first + j)) → stretch first size image ≡ stretch first size base
+pub stretch-same : (first size : ℕ) (image base : Image)
+    → ((j : ℕ) → j < size → image (first + j) ≡ base (first + j))
+    → stretch first size image ≡ stretch first size base
 unfolding stretch
 stretch-same first size image base same = λ i n. one n i
   where
@@ -156,7 +187,9 @@ log_long : (h : Header) → log_size_of h ≤ 1024
 log_long h = log-long h.format
 
 -- where the program areas are
-pub area-where : (area j : ℕ) → area ≤ 3 → j < program_size area → ((174 ≤ program_first area + j) × (program_first area + j < 686)) ⊎ ((1710 ≤ program_first area + j) × (program_first area + j < 5806))
+pub area-where : (area j : ℕ) → area ≤ 3 → j < program_size area
+    → ((174 ≤ program_first area + j) × (program_first area + j < 686))
+    ⊎ ((1710 ≤ program_first area + j) × (program_first area + j < 5806))
 area-where zero j most lt = inl (omega arith, omega arith)
 area-where (suc zero) j most lt = inl (omega arith, omega arith)
 area-where (suc (suc zero)) j most lt = inr (omega arith, omega arith)
@@ -193,11 +226,18 @@ pub other-where : (area n : ℕ) → IsOfOther area n → ((174 ≤ n) × (n < 6
 other-where area n other =
     let from = other.among.from in let to = other.among.to in
     let at : n ≡ program_first other.other + (n - program_first other.other) = omega arith in
-    subst (λ (m : ℕ). ((174 ≤ m) × (m < 686)) ⊎ ((1710 ≤ m) × (m < 5806))) (sym at) (area-where other.other (n - program_first other.other) other.most (omega arith))
+    subst (λ (m : ℕ). ((174 ≤ m) × (m < 686)) ⊎ ((1710 ≤ m) × (m < 5806))) (sym at)
+    (area-where other.other (n - program_first other.other) other.most (omega arith))
 
 -- The sectors that matter aren't spare.
 pub header_decides : (h : Header) (n : ℕ) → n < 2 → IsSpare h n → ⊥
-header_decides h n lt spare = elim spare [ inl s ↦ omega (arith, s.from) | inr (inl s) ↦ elim (other-where h.area n s) [ inl w ↦ omega (arith, w.0) | inr w ↦ omega (arith, w.0) ] | inr (inr s) ↦ let from = s.1.from in omega arith ]
+header_decides h n lt spare =
+    elim spare [
+      | inl s ↦ omega (arith, s.from)
+      | inr (inl s) ↦ elim (other-where h.area n s)
+          [ inl w ↦ omega (arith, w.0) | inr w ↦ omega (arith, w.0) ]
+      | inr (inr s) ↦ let from = s.1.from in omega arith
+    ]
 
 pub snapshot_decides : (h : Header) (j : ℕ) → j < snapshot_size → IsSpare h (snapshot_first h.epoch + j) → ⊥
 snapshot_decides h j lt spare = elim spare [
@@ -219,7 +259,11 @@ program_decides h j area lt spare = elim spare [
   | inr (inl s) ↦
       let from = s.among.from in let to = s.among.to in
       areas-apart h.area s.other j (program_first h.area + j - program_first s.other) area s.most (λ e. s.apart (sym e)) lt (omega arith) (omega arith)
-  | inr (inr s) ↦ let from = s.1.from in let to = s.1.to in elim (area-where h.area j area lt) [ inl w ↦ omega (arith, w.1) | inr w ↦ elim (cases_eq ((h.epoch + 1) % 2) 0) [ inl even ↦ omega (arith, w.0) | inr odd ↦ omega (arith, w.0) ] ]
+  | inr (inr s) ↦ let from = s.1.from in let to = s.1.to in elim (area-where h.area j area lt) [
+    | inl w ↦ omega (arith, w.1)
+    | inr w ↦ elim (cases_eq ((h.epoch + 1) % 2) 0)
+        [ inl even ↦ omega (arith, w.0) | inr odd ↦ omega (arith, w.0) ]
+  ]
 ]
 
 pub log_decides : (h : Header) (j : ℕ) → j < log_size_of h → IsSpare h (log_first + j) → ⊥
@@ -233,18 +277,27 @@ pub same-at : (h : Header) (image base : Image) → SameButSpare h image base �
 same-at h image base same n decides = ⊎_elim (λ spare. absurd (decides spare)) (λ e. e) (same.each n)
 
 pub force-frame : (h : Header) (image base : Image) → SameButSpare h image base → in_force image ≡ in_force base
-force-frame h image base same = force-same image base same.large (same-at h image base same 0 (header_decides h 0 (omega arith))) (same-at h image base same 1 (header_decides h 1 (omega arith)))
+force-frame h image base same =
+    force-same image base same.large (same-at h image base same 0 (header_decides h 0 (omega arith)))
+    (same-at h image base same 1 (header_decides h 1 (omega arith)))
 
 pub log-frame : (h : Header) (image base : Image) → SameButSpare h image base → (m : ℕ) → m < log_size_of h → image (log_first + m) ≡ base (log_first + m)
 log-frame h image base same m lt = same-at h image base same (log_first + m) (log_decides h m lt)
 
-pub program-frame : (h : Header) (image base : Image) → h.area ≤ 3 → SameButSpare h image base → (m : ℕ) → m < program_size h.area → image (program_first h.area + m) ≡ base (program_first h.area + m)
+pub program-frame : (h : Header) (image base : Image) → h.area ≤ 3 → SameButSpare h image base → (m : ℕ)
+    → m < program_size h.area → image (program_first h.area + m) ≡ base (program_first h.area + m)
 program-frame h image base area same m lt = same-at h image base same (program_first h.area + m) (program_decides h m area lt)
 
 -- what the header in force determines
-pub under : (image : Image) (h : Header) → in_force image ≡ Some h → stands image ≡ durable_state_under (program_room (is_large image)) h (stretch (snapshot_first h.epoch) snapshot_size image) (stretch (tools_first h.epoch) tools_size image) (stretch (program_first h.area) (program_size h.area) image) (stretch log_first (log_size_of h) image)
+pub under : (image : Image) (h : Header) → in_force image ≡ Some h
+    → stands image ≡ durable_state_under (program_room (is_large image)) h
+    (stretch (snapshot_first h.epoch) snapshot_size image) (stretch (tools_first h.epoch) tools_size image)
+    (stretch (program_first h.area) (program_size h.area) image) (stretch log_first (log_size_of h) image)
 unfolding stands
-under image h is = λ i. by_header (is i) (λ x. durable_state_under (program_room (is_large image)) x (stretch (snapshot_first x.epoch) snapshot_size image) (stretch (tools_first x.epoch) tools_size image) (stretch (program_first x.area) (program_size x.area) image) (stretch log_first (log_size_of x) image))
+under image h is = λ i.
+    by_header (is i) (λ x. durable_state_under (program_room (is_large image)) x
+    (stretch (snapshot_first x.epoch) snapshot_size image) (stretch (tools_first x.epoch) tools_size image)
+    (stretch (program_first x.area) (program_size x.area) image) (stretch log_first (log_size_of x) image))
 
 -- If images agree on all sectors but the spare ones, they stand for the same.
 pub stands-frame : (h : Header) (image base : Image) → in_force base ≡ Some h → SameButSpare h image base → stands image ≡ stands base
@@ -252,9 +305,11 @@ unfolding stands
 stands-frame h image base is same =
     let within = force-within base h is in
     let force = force-frame h image base same ∙ is in
-    let area = stretch-same (snapshot_first h.epoch) snapshot_size image base (λ j lt. same-at h image base same (snapshot_first h.epoch + j) (snapshot_decides h j lt)) in
+    let area = stretch-same (snapshot_first h.epoch) snapshot_size image base
+    (λ j lt. same-at h image base same (snapshot_first h.epoch + j) (snapshot_decides h j lt)) in
     let tools = stretch-same (tools_first h.epoch) tools_size image base (λ j lt. same-at h image base same (tools_first h.epoch + j) (tools_decide h j lt)) in
-    let text = stretch-same (program_first h.area) (program_size h.area) image base (program-frame h image base (omega (arith, within.area, area-most (is_large base))) same) in
+    let text = stretch-same (program_first h.area) (program_size h.area) image base
+    (program-frame h image base (omega (arith, within.area, area-most (is_large base))) same) in
     let log = stretch-same log_first (log_size_of h) image base (log-frame h image base same) in
     under image h force
     ∙ (λ i. durable_state_under (program_room (same.large i)) h (area i) (tools i) (text i) (log i))
@@ -262,7 +317,12 @@ stands-frame h image base is same =
 
 pub written-frame : (h : Header) (image base : Image) → SameButSpare h image base → IsWritten base → IsWritten image
 written-frame h image base same written =
-    record { past = λ m lt. subst (λ (e : ℕ). number_at 8 0 (image (log_first + m)) ≤ e) (sym (ap epoch_in_force (force-frame h image base same))) (subst (λ (s : List ℕ). number_at 8 0 s ≤ epoch_in_force (in_force base)) (sym (log-frame h image base same m (let short = log-short h.format in omega arith))) (written.past m lt)) }
+    record {
+      past = λ m lt. subst (λ (e : ℕ). number_at 8 0 (image (log_first + m)) ≤ e)
+          (sym (ap epoch_in_force (force-frame h image base same)))
+          (subst (λ (s : List ℕ). number_at 8 0 s ≤ epoch_in_force (in_force base))
+          (sym (log-frame h image base same m (let short = log-short h.format in omega arith))) (written.past m lt));
+    }
 
 -- A log whose first part is of another epoch holds no record of this one.
 first_part : (row : Image) (at : ℕ) (l : PartHeader) (n : ℕ) → number_at 8 0 (row (at + 0)) ≢ l.epoch → parts_stand row at l (suc n) ≡ false
@@ -277,12 +337,19 @@ first_part row at l (suc n) other = let e = first_part row at l n other in rw e 
 no_record : (parts p : ℕ) (a b : Bool) (q : LogPosition) → b ≡ false → (if (parts == p) && a && b then Some q else None) ≡ None
 no_record parts p a b q is = grind (arith, nat_tests)
 
-pub no-next : (format : Format) (length : ℕ) (row : Image) (epoch : ℕ) (p : LogPosition) → p.at ≡ 0 → number_at 8 0 (row 0) ≢ epoch → next format length row epoch p ≡ None
+pub no-next : (format : Format) (length : ℕ) (row : Image) (epoch : ℕ) (p : LogPosition) → p.at ≡ 0
+    → number_at 8 0 (row 0) ≢ epoch → next format length row epoch p ≡ None
 unfolding next
 no-next format length row epoch p start other =
     let parts = number_at 2 18 (row p.at) in
     let changes = number_at 2 20 (row p.at) in
-    let q : LogPosition = record { at = p.at + parts; number = p.number + 1; found = and_then p.found (λ before. with_record format length row p.at changes before) } in
+    let q : LogPosition =
+    record {
+      at = p.at + parts;
+      number = p.number + 1;
+      found =
+          and_then p.found (λ before. with_record format length row p.at changes before);
+    } in
     let stand = parts_stand row p.at (record { epoch = epoch; number = p.number; part = 0; parts = parts; changes = changes }) parts in
     elim (cases_eq parts 0) [
       | inl none ↦ no_parts parts changes (nat_le (p.at + parts) (log_size format)) stand q none
@@ -292,17 +359,29 @@ no-next format length row epoch p start other =
     no_parts : (parts changes : ℕ) (a b : Bool) (q : LogPosition) → parts ≡ 0 → (if (parts == parts_for changes) && a && b then Some q else None) ≡ None
     no_parts parts changes a b q is = grind (arith, nat_tests)
 
-    absent : (parts : ℕ) → parts ≢ 0 → parts_stand row p.at (record { epoch = epoch; number = p.number; part = 0; parts = number_at 2 18 (row p.at); changes = number_at 2 20 (row p.at) }) parts ≡ false
+    absent : (parts : ℕ) → parts ≢ 0
+        → parts_stand row p.at
+        (record {
+          epoch = epoch;
+          number = p.number;
+          part = 0;
+          parts = number_at 2 18 (row p.at);
+          changes =
+              number_at 2 20 (row p.at);
+        }) parts ≡ false
     absent zero some = absurd (some refl)
     absent (suc n) some = first_part row p.at _ n (subst (λ (k : ℕ). number_at 8 0 (row (k + 0)) ≢ epoch) (sym start) other)
 
 -- If the log has no record, the image stands for the snapshot and the program.
-one-run : (n : ℕ) (format : Format) (length : ℕ) (log : Image) (epoch : ℕ) (p : LogPosition) → next format length log epoch p ≡ None → run n format length log epoch p ≡ p
+one-run : (n : ℕ) (format : Format) (length : ℕ) (log : Image) (epoch : ℕ) (p : LogPosition)
+    → next format length log epoch p ≡ None → run n format length log epoch p ≡ p
 unfolding run
 one-run zero format length log epoch p none = refl
 one-run (suc n) format length log epoch p none = λ i. after_step (none i) (λ q. run n format length log epoch q) p
 
-pub standing-none : (room : ℕ) (h : Header) (area tools text log : Image) → number_at 8 0 (log 0) ≢ h.epoch → durable_state_under room h area tools text log ≡ standing room (snapshot h.format h.length area tools) (program_text h.length text) h.length
+pub standing-none : (room : ℕ) (h : Header) (area tools text log : Image) → number_at 8 0 (log 0) ≢ h.epoch
+    → durable_state_under room h area tools text log ≡ standing room (snapshot h.format h.length area tools)
+    (program_text h.length text) h.length
 unfolding durable_state_under
 standing-none room h area tools text log other =
     let start : LogPosition = record { at = 0; number = 0; found = snapshot h.format h.length area tools } in
@@ -310,18 +389,29 @@ standing-none room h area tools text log other =
     λ i. standing room (none i).found (program_text h.length text) h.length
 
 -- An image under this header that has no record of its epoch.
-pub stands-snapshot : (image : Image) (h : Header) → in_force image ≡ Some h → number_at 8 0 (image log_first) ≢ h.epoch → stands image ≡ standing (program_room (is_large image)) (snapshot h.format h.length (stretch (snapshot_first h.epoch) snapshot_size image) (stretch (tools_first h.epoch) tools_size image)) (program_text h.length (stretch (program_first h.area) (program_size h.area) image)) h.length
+pub stands-snapshot : (image : Image) (h : Header) → in_force image ≡ Some h
+    → number_at 8 0 (image log_first) ≢ h.epoch → stands image ≡ standing (program_room (is_large image))
+    (snapshot h.format h.length (stretch (snapshot_first h.epoch) snapshot_size image)
+    (stretch (tools_first h.epoch) tools_size image))
+    (program_text h.length (stretch (program_first h.area) (program_size h.area) image)) h.length
 stands-snapshot image h is other =
-    let first : stretch log_first (log_size_of h) image 0 ≡ image (log_first + 0) = stretch-at log_first (log_size_of h) image 0 (let short = log-short h.format in omega arith) in
+    let first : stretch log_first (log_size_of h) image 0 ≡ image (log_first + 0) =
+    stretch-at log_first (log_size_of h) image 0 (let short = log-short h.format in omega arith) in
     under image h is
-    ∙ standing-none (program_room (is_large image)) h (stretch (snapshot_first h.epoch) snapshot_size image) (stretch (tools_first h.epoch) tools_size image) (stretch (program_first h.area) (program_size h.area) image) (stretch log_first (log_size_of h) image) (λ e. other (ap (number_at 8 0) (sym first) ∙ e))
+    ∙ standing-none (program_room (is_large image)) h (stretch (snapshot_first h.epoch) snapshot_size image)
+    (stretch (tools_first h.epoch) tools_size image)
+    (stretch (program_first h.area) (program_size h.area) image) (stretch log_first (log_size_of h) image)
+    (λ e. other (ap (number_at 8 0) (sym first) ∙ e))
 
 -- If an image has no part of an epoch still to come, its log has no record under a newer header.
-pub none-of-new : (base : Image) (h : Header) → in_force base ≡ Some h → IsWritten base → (m : ℕ) → m < shortest_log → number_at 8 0 (base (log_first + m)) ≤ h.epoch
+pub none-of-new : (base : Image) (h : Header) → in_force base ≡ Some h → IsWritten base → (m : ℕ) → m < shortest_log
+    → number_at 8 0 (base (log_first + m)) ≤ h.epoch
 none-of-new base h is written m lt = subst (λ (e : ℕ). number_at 8 0 (base (log_first + m)) ≤ e) (ap epoch_in_force is) (written.past m lt)
 
 -- and it has no part of an epoch after that
-pub written-new : (image base : Image) (h new : Header) → in_force base ≡ Some h → in_force image ≡ Some new → h.epoch ≤ new.epoch → IsWritten base → ((m : ℕ) → m < shortest_log → image (log_first + m) ≡ base (log_first + m)) → IsWritten image
+pub written-new : (image base : Image) (h new : Header) → in_force base ≡ Some h → in_force image ≡ Some new
+    → h.epoch ≤ new.epoch → IsWritten base
+    → ((m : ℕ) → m < shortest_log → image (log_first + m) ≡ base (log_first + m)) → IsWritten image
 written-new image base h new is now later written same = record {
   past = λ m lt.
       let e : number_at 8 0 (image (log_first + m)) ≡ number_at 8 0 (base (log_first + m)) = ap (number_at 8 0) (same m lt) in
@@ -337,10 +427,18 @@ no_tools Two length row area other is = absurd (cc)
 
 module _ (h : Header) (image base : Image) (is : in_force base ≡ Some h) (same : SameButTail h image base) where
   tail-at : (n : ℕ) → (n < 1706) ⊎ (1710 ≤ n) → (IsSpare h n → ⊥) → image n ≡ base n
-  tail-at n lt decides = elim (same.each n) [ inl spare ↦ absurd (decides spare) | inr (inl tail) ↦ absurd (elim lt [ inl below ↦ omega (arith, tail.from, below) | inr above ↦ omega (arith, tail.to, above) ]) | inr (inr e) ↦ e ]
+  tail-at n lt decides =
+      elim (same.each n) [
+        | inl spare ↦ absurd (decides spare)
+        | inr (inl tail) ↦ absurd
+            (elim lt [ inl below ↦ omega (arith, tail.from, below) | inr above ↦ omega (arith, tail.to, above) ])
+        | inr
+            (inr e) ↦ e
+      ]
 
   pub tail-force : in_force image ≡ Some h
-  tail-force = force-same image base same.large (tail-at 0 (inl (omega arith)) (header_decides h 0 (omega arith))) (tail-at 1 (inl (omega arith)) (header_decides h 1 (omega arith))) ∙ is
+  tail-force = force-same image base same.large (tail-at 0 (inl (omega arith)) (header_decides h 0 (omega arith)))
+      (tail-at 1 (inl (omega arith)) (header_decides h 1 (omega arith))) ∙ is
 
   tail-log : (m : ℕ) → m < shortest_log → image (log_first + m) ≡ base (log_first + m)
   tail-log m lt = tail-at (log_first + m) (inl (omega arith)) (log_decides h m (let short = log-short h.format in omega arith))
@@ -351,12 +449,19 @@ module _ (h : Header) (image base : Image) (is : in_force base ≡ Some h) (same
   pub tail-stands : h.format ≡ One → number_at 8 0 (base log_first) ≢ h.epoch → stands image ≡ stands base
   tail-stands one other =
       let most : h.area ≤ 3 = omega (arith, (force-within base h is).area, area-most (is_large base)) in
-      let area = stretch-same (snapshot_first h.epoch) snapshot_size image base (λ j lt. tail-at (snapshot_first h.epoch + j) (inl (omega arith)) (snapshot_decides h j lt)) in
-      let text = stretch-same (program_first h.area) (program_size h.area) image base (λ j lt. tail-at (program_first h.area + j) (elim (area-where h.area j most lt) [ inl w ↦ inl (omega (arith, w.1)) | inr w ↦ inr w.0 ]) (program_decides h j most lt)) in
-      let tools = no_tools h.format h.length (stretch (snapshot_first h.epoch) snapshot_size base) (stretch (tools_first h.epoch) tools_size image) (stretch (tools_first h.epoch) tools_size base) one in
+      let area = stretch-same (snapshot_first h.epoch) snapshot_size image base
+      (λ j lt. tail-at (snapshot_first h.epoch + j) (inl (omega arith)) (snapshot_decides h j lt)) in
+      let text = stretch-same (program_first h.area) (program_size h.area) image base
+      (λ j lt. tail-at (program_first h.area + j)
+      (elim (area-where h.area j most lt) [ inl w ↦ inl (omega (arith, w.1)) | inr w ↦ inr w.0 ])
+      (program_decides h j most lt)) in
+      let tools = no_tools h.format h.length (stretch (snapshot_first h.epoch) snapshot_size base)
+      (stretch (tools_first h.epoch) tools_size image) (stretch (tools_first h.epoch) tools_size base) one in
       let first : image log_first ≡ base log_first = tail-log 0 (omega arith) in
       stands-snapshot image h tail-force (λ e. other (ap (number_at 8 0) (sym first) ∙ e))
-      ∙ (λ i. standing (program_room (same.large i)) (snapshot h.format h.length (area i) (stretch (tools_first h.epoch) tools_size image)) (program_text h.length (text i)) h.length)
+      ∙ (λ i. standing (program_room (same.large i))
+      (snapshot h.format h.length (area i) (stretch (tools_first h.epoch) tools_size image))
+      (program_text h.length (text i)) h.length)
       ∙ (λ i. standing (program_room (is_large base)) (tools i) (program_text h.length (stretch (program_first h.area) (program_size h.area) base)) h.length)
       ∙ sym (stands-snapshot base h is other)
 

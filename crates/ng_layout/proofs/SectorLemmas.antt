@@ -1,7 +1,11 @@
 -- Sectors of values and of a text.
-use Rattle.std.proofs.Common.{◌≡◌, ◌≢◌, ◌⊎◌, inl, inr, ⊎_elim, ℕ, zero, suc, ◌+◌, ◌-◌, ◌*◌, ◌<◌, ◌≤◌, min, List, ◌++◌, ℤ, pos, get_or, slice_index, length, length-append, take, drop, replicate, set, lit≤, refl, sym, ◌∙◌, ap, subst, arith}
+use Rattle.std.proofs.Common.{◌≡◌, ◌≢◌, ◌⊎◌, inl, inr, ⊎_elim, ℕ, zero, suc, ◌+◌, ◌-◌, ◌*◌, ◌<◌, ◌≤◌, min, List}
+use Rattle.std.proofs.Common.{◌++◌, ℤ, pos, get_or, slice_index, length, length-append, take, drop, replicate, set}
+use Rattle.std.proofs.Common.{lit≤, refl, sym, ◌∙◌, ap, subst, arith}
 use Rattle.std.proofs.lemmas.Bool.{cases_eq}
-use Rattle.std.proofs.lemmas.List.{drop-replicate, take-replicate, length-replicate, get_or-set_same, get_or-set_other, get_or-take, get_or-drop, get_or_append_left, get_or-append_right, get_or_past, length-take-le}
+use Rattle.std.proofs.lemmas.List.{drop-replicate, take-replicate, length-replicate, get_or-set_same}
+use Rattle.std.proofs.lemmas.List.{get_or-set_other, get_or-take, get_or-drop, get_or_append_left}
+use Rattle.std.proofs.lemmas.List.{get_or-append_right, get_or_past, length-take-le}
 use Rattle.std.proofs.Common.{length-drop}
 use Rattle.byteorder.specs.Endian.{little_number, little_from}
 use Rattle.ng_num.specs.Range.{IsCount}
@@ -41,7 +45,9 @@ pub record ValuesTo (table : List ℤ) (first k : ℕ) (sector : List ℕ) : Typ
   pub counts : (j : ℕ) → j < k → first + j < 5399 → IsCount (signed_at (8 * j) sector)
   pub rest : SameFrom (8 * k) (replicate 512 0) sector
 
-pub values-more : (table : List ℤ) (first k : ℕ) (old new : List ℕ) (value : ℤ) → ValuesTo table first k old → first + k < 5399 → Puts (signed_at (8 * k)) (8 * k) (8 * k + 8) value old new → value ≡ get_or table (first + k) (pos 0) → IsCount value → ValuesTo table first (k + 1) new
+pub values-more : (table : List ℤ) (first k : ℕ) (old new : List ℕ) (value : ℤ) → ValuesTo table first k old
+    → first + k < 5399 → Puts (signed_at (8 * k)) (8 * k) (8 * k + 8) value old new
+    → value ≡ get_or table (first + k) (pos 0) → IsCount value → ValuesTo table first (k + 1) new
 values-more table first k old new value so_far here put is small = record {
   each = λ j lt within. elim (cases_eq j k) [
     | inl same ↦ subst (λ (x : ℕ). signed_at (8 * x) new ≡ get_or table (first + x) (pos 0)) (sym same) (put.written ∙ is)
@@ -52,7 +58,8 @@ values-more table first k old new value so_far here put is small = record {
     | inl same ↦ subst (λ (x : ℕ). IsCount (signed_at (8 * x) new)) (sym same) (subst IsCount (sym put.written) small)
     | inr other ↦ subst IsCount (sym (signed-below (8 * j) (8 * k) old new put.below (omega arith))) (so_far.counts j (omega arith) within)
   ];
-  rest = from-further (8 * k + 8) (8 * (k + 1)) (replicate 512 0) new (from-more (8 * k) (8 * k + 8) (replicate 512 0) old new so_far.rest put.beyond (omega arith)) (omega arith);
+  rest = from-further (8 * k + 8) (8 * (k + 1)) (replicate 512 0) new
+      (from-more (8 * k) (8 * k + 8) (replicate 512 0) old new so_far.rest put.beyond (omega arith)) (omega arith);
 }
 
 pub values-past : (table : List ℤ) (first k : ℕ) (sector : List ℕ) → ValuesTo table first k sector → 5399 ≤ first + k → ValuesTo table first (k + 1) sector
@@ -69,7 +76,9 @@ values-past table first k sector so_far beyond = record {
 lt_cases : (k n : ℕ) → (k < n) ⊎ (n ≤ k)
 lt_cases k n = grind arith
 
-pub holds_text : (text sector : List ℕ) (first end : ℕ) → first ≤ length text → end ≡ min (length text) (first + 512) → sector ≡ take (end - first) (drop first text) ++ replicate (512 - length (take (end - first) (drop first text))) 0 → HoldsText text first sector
+pub holds_text : (text sector : List ℕ) (first end : ℕ) → first ≤ length text
+    → end ≡ min (length text) (first + 512) → sector ≡ take (end - first) (drop first text) ++ replicate
+    (512 - length (take (end - first) (drop first text))) 0 → HoldsText text first sector
 holds_text text sector first end within is bytes =
     let part = take (end - first) (drop first text) in
     let zeros = replicate (512 - length part) 0 in
@@ -77,8 +86,11 @@ holds_text text sector first end within is bytes =
     record {
       whole = ap length bytes ∙ length-append part zeros ∙ omega (arith, length-replicate {A = ℕ} (512 - length part) 0);
       each = λ k lt. elim (lt_cases k (end - first)) [
-        | inl here ↦ ap (λ (l : List ℕ). slice_index l k) bytes ∙ get_or_append_left part zeros 0 k (omega arith) ∙ get_or-take (end - first) (drop first text) k 0 here ∙ get_or-drop first text k 0
-        | inr past ↦ ap (λ (l : List ℕ). slice_index l k) bytes ∙ get_or-append_right part zeros (end - first) k 0 long past ∙ zero_at (512 - length part) (k - (end - first)) ∙ sym (get_or_past text (first + k) 0 (omega arith))
+        | inl here ↦ ap (λ (l : List ℕ). slice_index l k) bytes ∙ get_or_append_left part zeros 0 k (omega arith)
+            ∙ get_or-take (end - first) (drop first text) k 0 here ∙ get_or-drop first text k 0
+        | inr past ↦ ap (λ (l : List ℕ). slice_index l k) bytes ∙ get_or-append_right part zeros (end - first) k 0
+            long past ∙ zero_at (512 - length part) (k - (end - first))
+            ∙ sym (get_or_past text (first + k) 0 (omega arith))
       ];
     }
 
@@ -113,10 +125,14 @@ zeros_hold n p first v outside = record {
 }
 
 -- and the sector that contains it
-pub one_holds : (n p first : ℕ) (v : ℤ) (sector : List ℕ) → p < n → p < 5399 → first ≤ p → p < first + 64 → IsCount v → Puts (signed_at (8 * (p - first))) (8 * (p - first)) (8 * (p - first) + 8) v (replicate 512 0) sector → HoldsValues (set (replicate n (pos 0)) p v) first sector
+pub one_holds : (n p first : ℕ) (v : ℤ) (sector : List ℕ) → p < n → p < 5399 → first ≤ p → p < first + 64
+    → IsCount v → Puts (signed_at (8 * (p - first))) (8 * (p - first)) (8 * (p - first) + 8) v (replicate 512 0)
+    sector → HoldsValues (set (replicate n (pos 0)) p v) first sector
 one_holds n p first v sector there within from to small put = record {
   each = λ k lt here. elim (cases_eq k place) [
-    | inl same ↦ ap (λ (x : ℕ). signed_at (8 * x) sector) same ∙ put.written ∙ sym (ap (λ (x : ℕ). get_or (set (replicate n (pos 0)) p v) x (pos 0)) (whole k same) ∙ that_value n p v there)
+    | inl same ↦ ap (λ (x : ℕ). signed_at (8 * x) sector) same ∙ put.written
+        ∙ sym (ap (λ (x : ℕ). get_or (set (replicate n (pos 0)) p v) x (pos 0)) (whole k same)
+        ∙ that_value n p v there)
     | inr other ↦ zero_here k other ∙ sym (other_value n p (first + k) v (λ e. other (omega arith)))
   ];
   past = λ k lt beyond. zeros-from (8 * (p - first) + 8) (8 * k) sector put.beyond (omega arith) (omega arith);

@@ -1,5 +1,7 @@
 -- Sequences of sectors that hold a table or a text, read as a whole.
-use Rattle.std.proofs.Common.{◌≡◌, ◌⊎◌, inl, inr, ℕ, zero, suc, ◌+◌, ◌*◌, ◌/◌, ◌%◌, ◌<◌, ◌≤◌, ◌&&◌, nat_le, Bool, true, false, List, [], ◌∷◌, ◌++◌, map, take, length, get_or, ℤ, pos, unsigned_abs, Option, Some, None, if◌then◌else◌, refl, sym, ◌∙◌, ap, subst, arith}
+use Rattle.std.proofs.Common.{◌≡◌, ◌⊎◌, inl, inr, ℕ, zero, suc, ◌+◌, ◌*◌, ◌/◌, ◌%◌, ◌<◌, ◌≤◌, ◌&&◌, nat_le, Bool}
+use Rattle.std.proofs.Common.{true, false, List, [], ◌∷◌, ◌++◌, map, take, length, get_or, ℤ, pos, unsigned_abs}
+use Rattle.std.proofs.Common.{Option, Some, None, if◌then◌else◌, refl, sym, ◌∙◌, ap, subst, arith}
 use Rattle.std.specs.List.{range_with_len, list_all}
 use Rattle.std.proofs.lemmas.Bool.Decides.{nat_tests}
 use Rattle.std.proofs.lemmas.List.FromFn.{fill_by_all}
@@ -50,7 +52,9 @@ all_true test f a (suc n) each =
 one_false : (test : ℤ → Bool) (f : ℕ → ℤ) (a n p : ℕ) → a ≤ p → p < a + n → test (f p) ≡ false → list_all test (map f (range_with_len a n)) ≡ false
 one_false test f a zero p from to is = absurd (omega arith)
 one_false test f a (suc n) p from to is = elim (at_or_after a p from) [
-  | inl here ↦ let e : test (f a) ≡ false = ap (λ (x : ℕ). test (f x)) here ∙ is in ap (λ (b : Bool). b && list_all test (map f (range_with_len (a + 1) n))) e ∙ no_left (list_all test (map f (range_with_len (a + 1) n)))
+  | inl here ↦ let e : test (f a) ≡ false = ap (λ (x : ℕ). test (f x)) here
+      ∙ is in ap (λ (b : Bool). b && list_all test (map f (range_with_len (a + 1) n))) e
+      ∙ no_left (list_all test (map f (range_with_len (a + 1) n)))
   | inr later ↦ let e = one_false test f (a + 1) n p later (omega arith) is in ap (λ (b : Bool). test (f a) && b) e ∙ no_right (test (f a))
 ]
   where
@@ -117,7 +121,8 @@ table-beyond n row lt b =
 -- If sectors hold a table, they read as that table.
 pub values-whole : (table : List ℤ) (row : Row) → length table ≡ 5399 → ((i : ℕ) → i < 85 → HoldsValues table (64 * i) (row (1 + i))) → IsTable table row
 values-whole table row long each = table-whole table row (record {
-  here = λ p lt within. let e = (each (p / 64) (omega arith)).each (p % 64) (omega arith) (omega arith) in ap (λ (x : ℕ). get_or table x (pos 0)) (parts p) ∙ sym e;
+  here = λ p lt within. let e = (each (p / 64) (omega arith)).each (p % 64) (omega arith) (omega arith) in ap
+      (λ (x : ℕ). get_or table x (pos 0)) (parts p) ∙ sym e;
   counts = λ p lt within. (each (p / 64) (omega arith)).counts (p % 64) (omega arith) (omega arith);
   long = long;
 })
@@ -126,7 +131,8 @@ values-whole table row long each = table-whole table row (record {
     parts p = omega arith
 
 -- If sectors hold the parts of a snapshot and of a tool area, they read as that snapshot.
-pub snapshot-new : (format : Format) (saved : StoredModel) (row area : Row) → length saved.setup.params ≡ 5399 → ((part : ℕ) → part < 86 → HoldsPart saved part (row part)) → tools_in format (row 0) area ≡ Some saved.tools
+pub snapshot-new : (format : Format) (saved : StoredModel) (row area : Row) → length saved.setup.params ≡ 5399
+    → ((part : ℕ) → part < 86 → HoldsPart saved part (row part)) → tools_in format (row 0) area ≡ Some saved.tools
     → snapshot format saved.length row area ≡ Some (record { decoded = decoded_state_in saved; params = saved.setup.params; tools = saved.tools })
 unfolding snapshot
 snapshot-new format saved row area long each table_is =
@@ -136,10 +142,12 @@ snapshot-new format saved row area long each table_is =
     λ i. and_then (decoded i) (λ r. and_then (counted i) (λ xs. and_then (table_is i) (λ tools. Some (record { decoded = r; params = xs; tools = tools }))))
 
 -- If a tool area holds a table, it reads as that table.
-module _ (tools : List ℤ) (area : Row) (each : (part : ℕ) → part < 2 → HoldsLengths tools (64 * part) (area part)) (long : All IsToolLength tools) (few : length tools ≤ 128) where
+module _ (tools : List ℤ) (area : Row) (each : (part : ℕ) → part < 2 → HoldsLengths tools (64 * part) (area part))
+    (long : All IsToolLength tools) (few : length tools ≤ 128) where
   one-length : (n : ℕ) → n < length tools → tool_length_of (signed_at (8 * (n % 64)) (area (n / 64))) ≡ Some (get_or tools n (pos 0))
   one-length n lt =
-      let is : signed_at (8 * (n % 64)) (area (n / 64)) ≡ get_or tools (64 * (n / 64) + n % 64) (pos 0) = (each (n / 64) (omega arith)).each (n % 64) (omega arith) (omega arith) in
+      let is : signed_at (8 * (n % 64)) (area (n / 64)) ≡ get_or tools (64 * (n / 64) + n % 64) (pos 0) =
+      (each (n / 64) (omega arith)).each (n % 64) (omega arith) (omega arith) in
       let place : 64 * (n / 64) + n % 64 ≡ n = omega arith in
       ap tool_length_of (is ∙ ap (λ (k : ℕ). get_or tools k (pos 0)) place) ∙ length-back (get_or tools n (pos 0)) (long n (pos 0) lt)
 
@@ -149,7 +157,9 @@ module _ (tools : List ℤ) (area : Row) (each : (part : ℕ) → part < 2 → H
   lengths-to (suc n) le =
       let rest = lengths-to n (omega arith) in
       let one = one-length n (omega arith) in
-      (λ i. and_then (rest i) (λ earlier. and_then (one i) (λ tool. Some (earlier ++ tool ∷ [])))) ∙ ap (λ (l : List ℤ). Some l) (sym (take_more tools n (pos 0) (omega arith)) ∙ ap (λ (k : ℕ). take k tools) (add-one n))
+      (λ i. and_then (rest i) (λ earlier. and_then (one i) (λ tool. Some (earlier ++ tool ∷ []))))
+      ∙ ap (λ (l : List ℤ). Some l) (sym (take_more tools n (pos 0) (omega arith))
+      ∙ ap (λ (k : ℕ). take k tools) (add-one n))
 
   pub lengths-whole : lengths_in area (length tools) ≡ Some tools
   lengths-whole = lengths-to (length tools) (omega arith) ∙ ap (λ (l : List ℤ). Some l) (take_all (length tools) tools (omega arith))
@@ -158,7 +168,11 @@ up-to : (limit n : ℕ) → n ≤ limit → up_to limit n ≡ Some n
 up-to limit n le = grind (arith, nat_tests)
 
 -- the table that a format stores: none in format 1
-pub tools-new : (format : Format) (saved : StoredModel) (first : List ℕ) (area : Row) → number_at 2 456 first ≡ length saved.tools → length saved.tools ≤ 128 → All IsToolLength saved.tools → (format ≡ One → saved.tools ≡ []) → (format ≡ Two → (part : ℕ) → part < 2 → HoldsToolPart saved part (area part)) → tools_in format first area ≡ Some saved.tools
+pub tools-new : (format : Format) (saved : StoredModel) (first : List ℕ) (area : Row)
+    → number_at 2 456 first ≡ length saved.tools → length saved.tools ≤ 128 → All IsToolLength saved.tools
+    → (format ≡ One → saved.tools ≡ [])
+    → (format ≡ Two → (part : ℕ) → part < 2 → HoldsToolPart saved part (area part))
+    → tools_in format first area ≡ Some saved.tools
 tools-new One saved first area slots few long none parts = ap (λ (l : List ℤ). Some l) (sym (none refl))
 tools-new Two saved first area slots few long none parts =
     (λ i. and_then (up_to 128 (slots i)) (λ n. lengths_in area n))

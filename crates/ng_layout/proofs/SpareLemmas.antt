@@ -16,7 +16,8 @@ pub record IsOfOther (area n : ℕ) : Type 0 where
 -- the snapshot area and the program areas that a header doesn't name, and in format 2 the tool area that it doesn't
 -- name
 abbrev pub IsSpare : Header → ℕ → Type 0
-IsSpare h n = IsAmong (snapshot_first (h.epoch + 1)) snapshot_size n ⊎ (IsOfOther h.area n ⊎ ((h.format ≡ Two) × IsAmong (tools_first (h.epoch + 1)) tools_size n))
+IsSpare h n = IsAmong (snapshot_first (h.epoch + 1)) snapshot_size n
+    ⊎ (IsOfOther h.area n ⊎ ((h.format ≡ Two) × IsAmong (tools_first (h.epoch + 1)) tools_size n))
 
 -- the images agree on all other sectors
 pub record SameButSpare (h : Header) (image base : ℕ → List ℕ) : Type 0 where

@@ -7,7 +7,9 @@ use Rattle.ng_canon.specs.declared.plane.Plane.TheVariants.{Xy, Xz, Yz}
 use Rattle.ng_canon.specs.declared.outputs.Spindle.{Spindle}
 use Rattle.ng_canon.specs.declared.outputs.Spindle.TheVariants.{Stopped, Clockwise, Counterclockwise}
 use Rattle.ng_state.specs.declared.modes.Motion.{Motion}
-use Rattle.ng_state.specs.declared.modes.Motion.TheVariants.{Off, Traverse, Feed, ClockwiseArc, CounterclockwiseArc, Drilling, DrillingWithDwell, PeckDrilling, Boring, BoringWithStop, BoringWithDwell}
+use Rattle.ng_state.specs.declared.modes.Motion.TheVariants.{Off, Traverse, Feed, ClockwiseArc, CounterclockwiseArc}
+use Rattle.ng_state.specs.declared.modes.Motion.TheVariants.{Drilling, DrillingWithDwell, PeckDrilling, Boring}
+use Rattle.ng_state.specs.declared.modes.Motion.TheVariants.{BoringWithStop, BoringWithDwell}
 use Rattle.ng_state.specs.declared.modes.Distance.{Distance}
 use Rattle.ng_state.specs.declared.modes.Distance.TheVariants.{Absolute, Incremental}
 use Rattle.ng_state.specs.declared.modes.FeedMode.{FeedMode}
@@ -37,7 +39,9 @@ code_of_format One = 1
 code_of_format Two = 2
 
 abbrev pub motion_of : ℕ → Option Motion
-motion_of code = among ((0, Traverse) ∷ (1, Feed) ∷ (2, ClockwiseArc) ∷ (3, CounterclockwiseArc) ∷ (80, Off) ∷ (81, Drilling) ∷ (82, DrillingWithDwell) ∷ (83, PeckDrilling) ∷ (85, Boring) ∷ (86, BoringWithStop) ∷ (89, BoringWithDwell) ∷ []) code
+motion_of code = among ((0, Traverse) ∷ (1, Feed) ∷ (2, ClockwiseArc) ∷ (3, CounterclockwiseArc) ∷ (80, Off) ∷
+    (81, Drilling) ∷ (82, DrillingWithDwell) ∷ (83, PeckDrilling) ∷ (85, Boring) ∷ (86, BoringWithStop) ∷
+    (89, BoringWithDwell) ∷ []) code
 
 abbrev pub plane_of : ℕ → Option Plane
 plane_of code = among ((17, Xy) ∷ (18, Xz) ∷ (19, Yz) ∷ []) code

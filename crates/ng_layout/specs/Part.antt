@@ -18,12 +18,21 @@ label_of l = record { epoch = l.epoch; number = l.number; part = l.part; parts =
 
 -- the numbers where the label of a part would be, whether the sector is a part or not
 abbrev pub label_at : List ℕ → PartLabel
-label_at sector = record { epoch = number_at 8 0 sector; number = number_at 8 8 sector; part = number_at 2 16 sector; parts = number_at 2 18 sector; changes = number_at 2 20 sector }
+label_at sector = record {
+  epoch = number_at 8 0 sector;
+  number = number_at 8 8 sector;
+  part =
+      number_at 2 16 sector;
+  parts = number_at 2 18 sector;
+  changes = number_at 2 20 sector;
+}
 
 -- the first n changes of a part; None if one of them is out of range
 unfoldable pub changes_in : List ℕ → ℕ → Option (List Change)
 changes_in sector zero = Some []
-changes_in sector (suc n) = and_then (changes_in sector n) (λ earlier. and_then (change_at sector (content_first + change_size * n)) (λ change. Some (earlier ++ change ∷ [])))
+changes_in sector (suc n) =
+    and_then (changes_in sector n) (λ earlier. and_then (change_at sector (content_first + change_size * n))
+    (λ change. Some (earlier ++ change ∷ [])))
 
 -- the changes that part i + 1 of a record has: 48, or as many as are left
 abbrev pub piece : ℕ → List Change → List Change

@@ -1,5 +1,6 @@
 -- What an image of a device stands for (own).
-use Rattle.std.specs.Prelude.{◌≡◌, ℕ, ◌+◌, ◌-◌, Bool, length, ◌<◌, ◌≤◌, nat_lt, nat_le, List, [], ℤ, unsigned_abs, Option, Some, None, is_some, Result, Ok, Err, if◌then◌else◌}
+use Rattle.std.specs.Prelude.{◌≡◌, ℕ, ◌+◌, ◌-◌, Bool, length, ◌<◌, ◌≤◌, nat_lt, nat_le, List, [], ℤ, unsigned_abs}
+use Rattle.std.specs.Prelude.{Option, Some, None, is_some, Result, Ok, Err, if◌then◌else◌}
 use Rattle.std.specs.Option.{option_map}
 use Rattle.std.specs.List.{list_all}
 use Rattle.ng_num.specs.Range.{greatest}
@@ -11,7 +12,8 @@ use Rattle.ng_layout.specs.declared.header.Header.{Header}
 use Rattle.ng_layout.specs.Header.{header_in, program_room}
 use Rattle.ng_layout.specs.Decoding.{and_then, decoded_state_of}
 use Rattle.ng_layout.specs.Sectors.{values, program_text}
-use Rattle.ng_layout.specs.Areas.{large_size, snapshot_size, snapshot_first, tools_size, tools_first, program_size, program_first, log_first, log_size_of, shortest_log}
+use Rattle.ng_layout.specs.Areas.{large_size, snapshot_size, snapshot_first, tools_size, tools_first, program_size}
+use Rattle.ng_layout.specs.Areas.{program_first, log_first, log_size_of, shortest_log}
 use Rattle.ng_layout.specs.Tools.{tools_in}
 use Rattle.ng_layout.specs.declared.header.Format.{Format}
 use Rattle.ng_layout.specs.declared.header.Format.TheVariants.{One, Two}
@@ -47,21 +49,33 @@ all_counts params = if list_all (λ n. nat_le (unsigned_abs n) greatest) params 
 -- what a snapshot and its tool area say
 unfoldable pub snapshot : Format → ℕ → (ℕ → List ℕ) → (ℕ → List ℕ) → Option ReplayState
 snapshot format length row area =
-    and_then (decoded_state_of length (row 0)) (λ decoded. and_then (all_counts (values parameter_count row)) (λ params. and_then (tools_in format (row 0) area) (λ tools.
+    and_then (decoded_state_of length (row 0))
+    (λ decoded. and_then (all_counts (values parameter_count row))
+    (λ params. and_then (tools_in format (row 0) area) (λ tools.
     Some (record { decoded = decoded; params = params; tools = tools }))))
 
 -- the state that was found, with the program and the room for one
 abbrev pub standing : ℕ → Option ReplayState → List ℕ → ℕ → Result DurableState Fault
 standing room None program length = Err Damaged
 standing room (Some f) program length = Ok (record {
-  saved = record { entries = f.decoded.entries; setup = record { params = f.params; modal = f.decoded.modal }; tools = f.tools; place = f.decoded.place; length = length; room = room; half = f.decoded.half };
+  saved = record {
+    entries = f.decoded.entries;
+    setup = record { params = f.params; modal = f.decoded.modal };
+    tools = f.tools;
+    place = f.decoded.place;
+    length = length;
+    room = room;
+    half = f.decoded.half;
+  };
   program = program;
 })
 
 -- what a header, its snapshot, its tool area, its program and the log stand for on a device with this room
 unfoldable pub durable_state_under : ℕ → Header → (ℕ → List ℕ) → (ℕ → List ℕ) → (ℕ → List ℕ) → (ℕ → List ℕ) → Result DurableState Fault
 durable_state_under room h area tools text log =
-    standing room (run (log_size_of h) h.format h.length log h.epoch (record { at = 0; number = 0; found = snapshot h.format h.length area tools })).found (program_text h.length text) h.length
+    standing room (run (log_size_of h) h.format h.length log h.epoch
+    (record { at = 0; number = 0; found = snapshot h.format h.length area tools })).found
+    (program_text h.length text) h.length
 
 abbrev pub by_header : Option Header → (Header → Result DurableState Fault) → Result DurableState Fault
 by_header None f = Err NotFormatted
@@ -69,7 +83,10 @@ by_header (Some h) f = f h
 
 -- what an image stands for by itself; a device of format 1 has no tool table
 unfoldable pub stands : (ℕ → List ℕ) → Result DurableState Fault
-stands image = by_header (in_force image) (λ h. durable_state_under (program_room (is_large image)) h (stretch (snapshot_first h.epoch) snapshot_size image) (stretch (tools_first h.epoch) tools_size image) (stretch (program_first h.area) (program_size h.area) image) (stretch log_first (log_size_of h) image))
+stands image = by_header (in_force image)
+    (λ h. durable_state_under (program_room (is_large image)) h
+    (stretch (snapshot_first h.epoch) snapshot_size image) (stretch (tools_first h.epoch) tools_size image)
+    (stretch (program_first h.area) (program_size h.area) image) (stretch log_first (log_size_of h) image))
 
 -- the epoch in force, 0 if there is none
 abbrev pub epoch_in_force : Option Header → ℕ

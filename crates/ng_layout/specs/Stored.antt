@@ -39,7 +39,16 @@ fresh_stored room = record { entries = 0; setup = fresh_setup; tools = []; place
 
 -- what a state field says, with parameters, tools, the length of a program and the room for one
 abbrev pub with_decoded_state : StoredModel → DecodedStateModel → ℕ → StoredModel
-with_decoded_state s r length = record { entries = r.entries; setup = record { params = s.setup.params; modal = r.modal }; tools = s.tools; place = r.place; length = length; room = s.room; half = r.half }
+with_decoded_state s r length =
+    record {
+      entries = r.entries;
+      setup = record { params = s.setup.params; modal = r.modal };
+      tools = s.tools;
+      place = r.place;
+      length = length;
+      room = s.room;
+      half = r.half;
+    }
 
 -- everything
 pub record DurableState : Type 0 where

@@ -15,7 +15,10 @@ tool_length_of n = if is_tool_length n then Some n else None
 -- the lengths of the first n slots in the sectors of a tool area, 64 in each; None if one is out of range
 unfoldable pub lengths_in : (ℕ → List ℕ) → ℕ → Option (List ℤ)
 lengths_in area zero = Some []
-lengths_in area (suc n) = and_then (lengths_in area n) (λ earlier. and_then (tool_length_of (signed_at (8 * (n % sector_lengths)) (area (n / sector_lengths)))) (λ tool. Some (earlier ++ tool ∷ [])))
+lengths_in area (suc n) =
+    and_then (lengths_in area n)
+    (λ earlier. and_then (tool_length_of (signed_at (8 * (n % sector_lengths)) (area (n / sector_lengths))))
+    (λ tool. Some (earlier ++ tool ∷ [])))
 
 -- the table of a snapshot, from its first sector and its tool area
 abbrev pub tools_in : Format → List ℕ → (ℕ → List ℕ) → Option (List ℤ)

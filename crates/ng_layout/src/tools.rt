@@ -17,7 +17,7 @@ use ng_num::Len;
 use ng_offsets::{SLOTS, SlotChange, Tools};
 
 /// How many tool lengths a sector holds.
-pub const LENGTHS: usize = 64;
+pub(crate) const LENGTHS: usize = 64;
 
 /// How many bytes a length takes.
 const LENGTH: usize = 8;

@@ -67,17 +67,23 @@ module _ (format : Format) (base log : Image) (first : LogPosition) (e : LogReco
   torn : (j : ℕ) → j < size_of e → log (e.at + j) ≡ base (e.at + j) → next format e.saved.length log e.epoch (place_before e before) ≡ None
   torn j lt same =
       let room = m.room in
-      let other : number_at 8 0 (log (e.at + j)) ≢ e.epoch = λ is. m.ends.clean.none (e.at + j) (omega arith) (omega arith) (sym (ap (number_at 8 0) same) ∙ is) in
+      let other : number_at 8 0 (log (e.at + j)) ≢ e.epoch = λ is. m.ends.clean.none (e.at + j) (omega arith)
+      (omega arith) (sym (ap (number_at 8 0) same) ∙ is) in
       let zero_is : e.at + 0 ≡ e.at = omega arith in
       ⊎_elim
-      (λ head. torn-first format e.saved.length log e.epoch (place_before e before) (λ low is. m.ends.clean.none e.at (omega arith) low (sym (ap (number_at 8 0) head) ∙ ap (λ (n : ℕ). number_at 8 0 (log n)) (sym zero_is) ∙ is)))
-      (λ p. torn-next format e.saved.length log e.epoch (place_before e before) (size_of e) j (part-says (label e (e.at - e.at)) (log e.at) p.holds.label.is).parts lt other)
+      (λ head. torn-first format e.saved.length log e.epoch (place_before e before)
+      (λ low is. m.ends.clean.none e.at (omega arith) low (sym (ap (number_at 8 0) head)
+      ∙ ap (λ (n : ℕ). number_at 8 0 (log n)) (sym zero_is) ∙ is)))
+      (λ p. torn-next format e.saved.length log e.epoch (place_before e before) (size_of e) j
+      (part-says (label e (e.at - e.at)) (log e.at) p.holds.label.is).parts lt other)
       (m.each e.at (omega arith))
 
   -- if all parts are there, the record is complete
   module _ (all : (j : ℕ) → j < size_of e → IsPartOf e (e.at + j) (log (e.at + j))) where
     holds : (j : ℕ) → j < size_of e → HoldsRecordPart (label e j) e.saved e.changes e.slot (log (e.at + j))
-    holds j lt = let back : e.at + j - e.at ≡ j = omega arith in subst (λ (k : ℕ). HoldsRecordPart (label e k) e.saved e.changes e.slot (log (e.at + j))) back (all j lt).holds
+    holds j lt = let back : e.at + j - e.at ≡ j =
+        omega arith in subst (λ (k : ℕ). HoldsRecordPart (label e k) e.saved e.changes e.slot (log (e.at + j))) back
+        (all j lt).holds
 
     head : HoldsRecordPart (label e 0) e.saved e.changes e.slot (log e.at)
     head = subst (λ (n : ℕ). HoldsRecordPart (label e 0) e.saved e.changes e.slot (log n)) (add-zero e.at) (holds 0 (omega arith))
@@ -99,7 +105,15 @@ module _ (format : Format) (base log : Image) (first : LogPosition) (e : LogReco
           counted = refl;
           room = m.room;
           stand = parts-all log e.at (label e 0) (size_of e) (λ j lt. (holds j lt).label.is);
-          is = sym (λ i. record { at = e.at + size_of e; number = e.number + 1; found = and_then (decoded i) (λ r. and_then (made i) (λ made_are. and_then (table i) (λ tools. Some (record { decoded = r; params = with_changes before.params made_are; tools = tools })))) });
+          is = sym (λ i. record {
+            at = e.at + size_of e;
+            number = e.number + 1;
+            found =
+                and_then (decoded i) (λ r.
+                and_then (made i) (λ made_are.
+                and_then (table i) (λ tools.
+                Some (record { decoded = r; params = with_changes before.params made_are; tools = tools }))));
+          });
         })
 
     -- the log ends after it
@@ -112,8 +126,16 @@ module _ (format : Format) (base log : Image) (first : LogPosition) (e : LogReco
     }
 
   -- The longest run ends where it did, or after the record.
-  pub mixture-longest : IsLongest format e.saved.length log e.epoch first (place_before e before) ⊎ IsLongest format e.saved.length log e.epoch first (position_after_record e before)
+  pub mixture-longest : IsLongest format e.saved.length log e.epoch first (place_before e before)
+      ⊎ IsLongest format e.saved.length log e.epoch first (position_after_record e before)
   mixture-longest = ⊎_elim
-      (λ all. let ends = mixture-ends all in inr (record { records = ends.records; reached = ends.reached; none = clean-next format e.saved.length log e.epoch (position_after_record e before) ends.clean }))
+      (λ all. let ends = mixture-ends all in inr
+      (record {
+        records = ends.records;
+        reached = ends.reached;
+        none = clean-next format e.saved.length log
+            e.epoch (position_after_record e before) ends.clean;
+      }))
       (λ one. inl (record { records = m.ends.records; reached = reached; none = torn one.0 one.1 one.2 }))
-      (all_or_one (size_of e) (λ j. log (e.at + j) ≡ base (e.at + j)) (λ j. IsPartOf e (e.at + j) (log (e.at + j))) (λ j lt. let room = m.room in m.each (e.at + j) (omega arith)))
+      (all_or_one (size_of e) (λ j. log (e.at + j) ≡ base (e.at + j)) (λ j. IsPartOf e (e.at + j) (log (e.at + j)))
+      (λ j lt. let room = m.room in m.each (e.at + j) (omega arith)))

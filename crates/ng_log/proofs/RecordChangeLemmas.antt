@@ -1,5 +1,7 @@
 -- The changes of a record, part by part.
-use Rattle.std.proofs.Common.{◌≡◌, inl, inr, ℕ, zero, suc, ◌+◌, ◌-◌, ◌*◌, ◌/◌, ◌%◌, ◌<◌, ◌≤◌, min, List, [], ◌∷◌, ◌++◌, length, take, drop, Option, Some, None, refl, sym, ◌∙◌, ap, arith, append_assoc, append-nil, length-take, length-drop}
+use Rattle.std.proofs.Common.{◌≡◌, inl, inr, ℕ, zero, suc, ◌+◌, ◌-◌, ◌*◌, ◌/◌, ◌%◌, ◌<◌, ◌≤◌, min, List, [], ◌∷◌}
+use Rattle.std.proofs.Common.{◌++◌, length, take, drop, Option, Some, None, refl, sym, ◌∙◌, ap, arith, append_assoc}
+use Rattle.std.proofs.Common.{append-nil, length-take, length-drop}
 use Rattle.std.proofs.Math.Seq.{take-add}
 use Rattle.std.proofs.lemmas.Bool.{cases_eq}
 use Rattle.std.proofs.lemmas.List.{take_all}
@@ -17,7 +19,9 @@ Changes = Option (List Change)
 abbrev pub then_more : Changes → Changes → Changes
 then_more earlier later = and_then earlier (λ a. and_then later (λ b. Some (a ++ b)))
 
-one_more : (o s : Changes) (ch : Option Change) → and_then (then_more o s) (λ earlier. and_then ch (λ c. Some (earlier ++ c ∷ []))) ≡ then_more o (and_then s (λ earlier. and_then ch (λ c. Some (earlier ++ c ∷ []))))
+one_more : (o s : Changes) (ch : Option Change)
+    → and_then (then_more o s) (λ earlier. and_then ch (λ c. Some (earlier ++ c ∷ []))) ≡ then_more o
+    (and_then s (λ earlier. and_then ch (λ c. Some (earlier ++ c ∷ []))))
 one_more None s ch = refl
 one_more (Some a) None ch = refl
 one_more (Some a) (Some b) None = refl
@@ -28,7 +32,8 @@ none_more None = refl
 none_more (Some a) = ap (λ (l : List Change). Some l) (sym (append-nil a))
 
 -- the changes in a record's parts before one of them, and those of that part
-pub changes-join : (log : Image) (at i n : ℕ) → n ≤ 48 → changes_of log at (48 * i + n) ≡ then_more (changes_of log at (48 * i)) (changes_in (log (at + 1 + i)) n)
+pub changes-join : (log : Image) (at i n : ℕ) → n ≤ 48
+    → changes_of log at (48 * i + n) ≡ then_more (changes_of log at (48 * i)) (changes_in (log (at + 1 + i)) n)
 unfolding changes_of changes_in
 changes-join log at i zero le = let e : 48 * i + 0 ≡ 48 * i = omega arith in ap (changes_of log at) e ∙ none_more (changes_of log at (48 * i))
 changes-join log at i (suc n) le =
@@ -43,11 +48,14 @@ changes-join log at i (suc n) le =
 
 none-suc : (log : Image) (at n : ℕ) → changes_of log at n ≡ None → changes_of log at (suc n) ≡ None
 unfolding changes_of
-none-suc log at n none = λ k. and_then (none k) (λ earlier. and_then (change_at (log (at + 1 + n / 48)) (32 + 10 * (n % 48))) (λ change. Some (earlier ++ change ∷ [])))
+none-suc log at n none = λ k.
+    and_then (none k) (λ earlier. and_then (change_at (log (at + 1 + n / 48)) (32 + 10 * (n % 48)))
+    (λ change. Some (earlier ++ change ∷ [])))
 
 pub none-later : (log : Image) (at n k : ℕ) → changes_of log at n ≡ None → changes_of log at (n + k) ≡ None
 none-later log at n zero none = let e : n + 0 ≡ n = omega arith in ap (changes_of log at) e ∙ none
-none-later log at n (suc k) none = let e : n + suc k ≡ suc (n + k) = omega arith in ap (changes_of log at) e ∙ none-suc log at (n + k) (none-later log at n k none)
+none-later log at n (suc k) none = let e : n + suc k ≡ suc (n + k) = omega arith in ap (changes_of log at) e
+    ∙ none-suc log at (n + k) (none-later log at n k none)
 
 pub no-changes : (log : Image) (at : ℕ) → changes_of log at 0 ≡ Some []
 unfolding changes_of
@@ -56,7 +64,8 @@ no-changes log at = refl
 piece_long : (i : ℕ) (changes : List Change) → length (piece i changes) ≡ min 48 (length changes - 48 * i)
 piece_long i changes = length-take 48 (drop (48 * i) changes) ∙ ap (λ (n : ℕ). min 48 n) (length-drop (48 * i) changes)
 
-module _ (log : Image) (at : ℕ) (changes : List Change) (each : (i : ℕ) → 48 * i < length changes → changes_in (log (at + 1 + i)) (length (piece i changes)) ≡ Some (piece i changes)) where
+module _ (log : Image) (at : ℕ) (changes : List Change) (each : (i : ℕ) → 48 * i < length changes
+    → changes_in (log (at + 1 + i)) (length (piece i changes)) ≡ Some (piece i changes)) where
   changes_to : (i : ℕ) → 48 * i ≤ length changes → changes_of log at (48 * i) ≡ Some (take (48 * i) changes)
   changes_to zero le = no-changes log at
   changes_to (suc i) le =

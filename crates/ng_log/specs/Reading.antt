@@ -17,5 +17,8 @@ pub record ReadSpec {T E : Type 0} (result : Result T E) (IsRight : Image → T 
 -- The longest run of complete records leads from the old stored state to this end and to the new one; or what is found
 -- with it is damaged.
 abbrev pub IsRunOf : Header → StoredModel → StoredModel → Image → Option LogEnd → Type 0
-IsRunOf header old new image (Some end) = IsLongest header.format header.length (log_of header image) header.epoch (position_of no_records old) (position_of end new) × (new.length ≡ header.length)
-IsRunOf header old new image None = (run (log_size_of header) header.format header.length (log_of header image) header.epoch (position_of no_records old)).found ≡ None
+IsRunOf header old new image (Some end) = IsLongest header.format header.length (log_of header image) header.epoch
+    (position_of no_records old) (position_of end new) × (new.length ≡ header.length)
+IsRunOf header old new image None =
+    (run (log_size_of header) header.format header.length (log_of header image) header.epoch
+    (position_of no_records old)).found ≡ None

@@ -14,7 +14,14 @@ log_of header image = stretch log_first (log_size_of header) image
 
 -- where the log of a header begins, with what its snapshot says
 abbrev pub beginning : Image → Header → LogPosition
-beginning image header = record { at = 0; number = 0; found = snapshot header.format header.length (stretch (snapshot_first header.epoch) snapshot_size image) (stretch (tools_first header.epoch) tools_size image) }
+beginning image header =
+    record {
+      at = 0;
+      number = 0;
+      found = snapshot header.format header.length
+          (stretch (snapshot_first header.epoch) snapshot_size image)
+          (stretch (tools_first header.epoch) tools_size image);
+    }
 
 -- n complete records lead from one position in a log to another
 abbrev pub Reaches : ℕ → Format → ℕ → Image → ℕ → LogPosition → LogPosition → Type 0

@@ -1,5 +1,6 @@
 -- How the current block relates to the fold over what was committed.
-use Rattle.std.proofs.Common.{◌≡◌, ◌⊎◌, ℕ, ◌+◌, min, true, false, List, [], ◌∷◌, ◌++◌, drop, length, Option, None, Some, Ok, refl, sym, ap, subst, ◌∙◌, inl, inr, append_assoc}
+use Rattle.std.proofs.Common.{◌≡◌, ◌⊎◌, ℕ, ◌+◌, min, true, false, List, [], ◌∷◌, ◌++◌, drop, length, Option, None}
+use Rattle.std.proofs.Common.{Some, Ok, refl, sym, ap, subst, ◌∙◌, inl, inr, append_assoc}
 use Rattle.std.proofs.lemmas.List.{append-nil}
 use Rattle.ng_num.specs.declared.point.Point.{Point}
 use Rattle.ng_canon.specs.declared.item.Item.{Item}
@@ -40,7 +41,16 @@ pub record IsMidst (q : Geometry) (p : DurableState) (given : List Item) (x : St
   pub given_is : given ≡ hand_all q before ++ begun
   pub rest : begun ++ c.items ≡ hand segment q
   pub index : c.index ≡ number_after (first_to_do p.saved.half) (before ++ segment ∷ [])
-  pub stands : x ≡ record p.saved { half = Some (record { text = c.text; source = c.source; index = number_after (first_to_do p.saved.half) before; at = None; opened = Some open_part.Segment }) }
+  pub stands : x ≡ record p.saved {
+    half = Some (record {
+      text = c.text;
+      source = c.source;
+      index = number_after (first_to_do p.saved.half)
+          before;
+      at = None;
+      opened = Some open_part.Segment;
+    });
+  }
 
 -- the state after the block is the one that its line leads to
 pub record Leaves (p : DurableState) (c : CurrentBlockModel) (done : Done) : Type 0 where
@@ -92,7 +102,8 @@ Tied q lines p given x activity (Some c) = IsWorked q lines p given x c c.stage
 
 -- ---- an item is handed out
 
-resumed_items : (q : Geometry) (p : DurableState) (c : CurrentBlockModel) (a : Approach) (g : Stage) (its : List Item) → IsResumed q p c a → IsResumed q p (record c { stage = g; items = its }) a
+resumed_items : (q : Geometry) (p : DurableState) (c : CurrentBlockModel) (a : Approach) (g : Stage)
+    (its : List Item) → IsResumed q p c a → IsResumed q p (record c { stage = g; items = its }) a
 resumed_items q p c a g its r = record {
   half = r.half;
   held = r.held;
@@ -123,7 +134,8 @@ item_stage q p given x c done item rest (inr m) = inr (record {
   stands = m.stands;
 })
 
-pub worked_item : (q : Geometry) (lines : List (List ℕ)) (p : DurableState) (given : List Item) (x : StoredModel) (c : CurrentBlockModel) (item : Item) (rest : List Item) (g : Stage)
+pub worked_item : (q : Geometry) (lines : List (List ℕ)) (p : DurableState) (given : List Item) (x : StoredModel)
+    (c : CurrentBlockModel) (item : Item) (rest : List Item) (g : Stage)
     → IsWorked q lines p given x (record c { items = item ∷ rest }) g → IsWorked q lines p (given ++ item ∷ []) x (record c { items = rest }) g
 worked_item q lines p given x c item rest (stage.ToApproach a) w = absurd (let none : item ∷ rest ≡ [] = w.items in cc)
 worked_item q lines p given x c item rest (stage.OnApproach a) w = record {
@@ -148,11 +160,15 @@ number_after-more : (n : ℕ) (ss : List Segment) (s : Segment) → number_after
 number_after-more n [] s = refl
 number_after-more n (t ∷ ss) s = number_after-more (min (n + 1) greatest_index) ss s
 
-segment_stage : (q : Geometry) (p : DurableState) (given : List Item) (x : StoredModel) (c : CurrentBlockModel) (done : Done) (segment : Segment) (left : List Segment)
+segment_stage : (q : Geometry) (p : DurableState) (given : List Item) (x : StoredModel) (c : CurrentBlockModel)
+    (done : Done) (segment : Segment) (left : List Segment)
     → IsFresh p given x (record c { items = []; left = segment ∷ left }) done ⊎ IsMidst q p given x (record c { items = []; left = segment ∷ left }) done
-    → IsMidst q p (given ++ []) (record x { half = Some (half_open c open_part.Segment) }) (record c { index = min (c.index + 1) greatest_index; left = left; items = hand segment q }) done
+    → IsMidst q p (given ++ []) (record x { half = Some (half_open c open_part.Segment) })
+    (record c { index = min (c.index + 1) greatest_index; left = left; items = hand segment q }) done
 segment_stage q p given x c done segment left (inl f) =
-    let stored : record x { half = Some (half_open c open_part.Segment) } ≡ half_at p c c.index = ap (λ (y : StoredModel). let z : StoredModel = record y { half = Some (half_open c open_part.Segment) } in z) f.stands in
+    let stored : record x { half = Some (half_open c open_part.Segment) } ≡ half_at p c c.index =
+    ap (λ (y : StoredModel). let z : StoredModel = record y { half = Some (half_open c open_part.Segment) } in
+    z) f.stands in
     record {
       before = [];
       segment = segment;
@@ -165,21 +181,26 @@ segment_stage q p given x c done segment left (inl f) =
     }
 segment_stage q p given x c done segment left (inr m) =
     let whole : m.begun ≡ hand m.segment q = sym (append-nil m.begun) ∙ m.rest in
-    let stored : record x { half = Some (half_open c open_part.Segment) } ≡ half_at p c c.index = ap (λ (y : StoredModel). let z : StoredModel = record y { half = Some (half_open c open_part.Segment) } in z) m.stands in
+    let stored : record x { half = Some (half_open c open_part.Segment) } ≡ half_at p c c.index =
+    ap (λ (y : StoredModel). let z : StoredModel = record y { half = Some (half_open c open_part.Segment) } in
+    z) m.stands in
     record {
       before = m.before ++ m.segment ∷ [];
       segment = segment;
       begun = [];
       split = m.split ∙ sym (append_assoc m.before (m.segment ∷ []) (segment ∷ left));
-      given_is = append-nil given ∙ m.given_is ∙ ap (λ l. hand_all q m.before ++ l) whole ∙ sym (hand_all-more q m.before m.segment) ∙ sym (append-nil (hand_all q (m.before ++ m.segment ∷ [])));
+      given_is = append-nil given ∙ m.given_is ∙ ap (λ l. hand_all q m.before ++ l) whole
+          ∙ sym (hand_all-more q m.before m.segment) ∙ sym (append-nil (hand_all q (m.before ++ m.segment ∷ [])));
       rest = refl;
       index = ap (λ n. min (n + 1) greatest_index) m.index ∙ sym (number_after-more (first_to_do p.saved.half) (m.before ++ m.segment ∷ []) segment);
       stands = stored ∙ ap (half_at p c) m.index;
     }
 
-pub worked_segment : (q : Geometry) (lines : List (List ℕ)) (p : DurableState) (given : List Item) (x : StoredModel) (c : CurrentBlockModel) (segment : Segment) (left : List Segment)
+pub worked_segment : (q : Geometry) (lines : List (List ℕ)) (p : DurableState) (given : List Item) (x : StoredModel)
+    (c : CurrentBlockModel) (segment : Segment) (left : List Segment)
     → IsOnBlock q lines p given x (record c { items = []; left = segment ∷ left })
-    → IsOnBlock q lines p (given ++ []) (record x { half = Some (half_open c open_part.Segment) }) (record c { index = min (c.index + 1) greatest_index; left = left; items = hand segment q })
+    → IsOnBlock q lines p (given ++ []) (record x { half = Some (half_open c open_part.Segment) })
+    (record c { index = min (c.index + 1) greatest_index; left = left; items = hand segment q })
 worked_segment q lines p given x c segment left w = record {
   done = w.done;
   block = w.block;
@@ -190,26 +211,45 @@ worked_segment q lines p given x c segment left w = record {
 -- nothing is left: all items of the block were handed out
 
 pub all_given : (q : Geometry) (p : DurableState) (given : List Item) (x : StoredModel) (c : CurrentBlockModel) (done : Done)
-    → IsFresh p given x (record c { items = []; left = [] }) done ⊎ IsMidst q p given x (record c { items = []; left = [] }) done → given ≡ hand_all q (still_to_do p done)
+    → IsFresh p given x (record c { items = []; left = [] }) done
+    ⊎ IsMidst q p given x (record c { items = []; left = [] }) done → given ≡ hand_all q (still_to_do p done)
 all_given q p given x c done (inl f) = f.given_is ∙ ap (hand_all q) f.left
 all_given q p given x c done (inr m) =
     let whole : m.begun ≡ hand m.segment q = sym (append-nil m.begun) ∙ m.rest in
     m.given_is ∙ ap (λ l. hand_all q m.before ++ l) whole ∙ sym (hand_all-more q m.before m.segment) ∙ ap (hand_all q) (sym m.split)
 
 -- the state after the block
-leaves_block : (p : DurableState) (x : StoredModel) (c : CurrentBlockModel) (done : Done) → x.entries ≡ p.saved.entries → x.length ≡ p.saved.length → x.tools ≡ p.saved.tools → x.room ≡ p.saved.room → Leaves p c done
+leaves_block : (p : DurableState) (x : StoredModel) (c : CurrentBlockModel) (done : Done)
+    → x.entries ≡ p.saved.entries → x.length ≡ p.saved.length → x.tools ≡ p.saved.tools → x.room ≡ p.saved.room
+    → Leaves p c done
     → after_current_block x c ≡ after_block (next_line_start p.program p.saved.place) p.saved c.source done
-leaves_block p x c done entries length tools room l = λ i. record { entries = entries i + 1; setup = l.setup i; tools = tools i; place = l.place i; length = length i; room = room i; half = None }
+leaves_block p x c done entries length tools room l = λ i.
+    record {
+      entries = entries i + 1;
+      setup = l.setup i;
+      tools = tools i;
+      place = l.place i;
+      length = length i;
+      room = room i;
+      half = None;
+    }
 
-pub after_is_it : (q : Geometry) (p : DurableState) (given : List Item) (x : StoredModel) (c : CurrentBlockModel) (done : Done) → Leaves p c done → IsFresh p given x c done ⊎ IsMidst q p given x c done
+pub after_is_it : (q : Geometry) (p : DurableState) (given : List Item) (x : StoredModel) (c : CurrentBlockModel)
+    (done : Done) → Leaves p c done → IsFresh p given x c done ⊎ IsMidst q p given x c done
     → after_current_block x c ≡ after_block (next_line_start p.program p.saved.place) p.saved c.source done
-after_is_it q p given x c done l (inl f) = leaves_block p x c done (ap (λ (y : StoredModel). y.entries) f.stands) (ap (λ (y : StoredModel). y.length) f.stands) (ap (λ (y : StoredModel). y.tools) f.stands) (ap (λ (y : StoredModel). y.room) f.stands) l
-after_is_it q p given x c done l (inr m) = leaves_block p x c done (ap (λ (y : StoredModel). y.entries) m.stands) (ap (λ (y : StoredModel). y.length) m.stands) (ap (λ (y : StoredModel). y.tools) m.stands) (ap (λ (y : StoredModel). y.room) m.stands) l
+after_is_it q p given x c done l (inl f) = leaves_block p x c done (ap (λ (y : StoredModel). y.entries) f.stands)
+    (ap (λ (y : StoredModel). y.length) f.stands) (ap (λ (y : StoredModel). y.tools) f.stands)
+    (ap (λ (y : StoredModel). y.room) f.stands) l
+after_is_it q p given x c done l (inr m) = leaves_block p x c done (ap (λ (y : StoredModel). y.entries) m.stands)
+    (ap (λ (y : StoredModel). y.length) m.stands) (ap (λ (y : StoredModel). y.tools) m.stands)
+    (ap (λ (y : StoredModel). y.room) m.stands) l
 
 -- ---- the approach
 
-pub worked_way : (q : Geometry) (p : DurableState) (given : List Item) (x : StoredModel) (c : CurrentBlockModel) (a : Approach) → IsBeforeWay q p given x (record c { items = [] }) a
-    → IsOnWay q p (given ++ []) (record x { half = Some (half_open c open_part.Approach) }) (record c { stage = stage.OnApproach a; items = hand_approach q a }) a
+pub worked_way : (q : Geometry) (p : DurableState) (given : List Item) (x : StoredModel) (c : CurrentBlockModel)
+    (a : Approach) → IsBeforeWay q p given x (record c { items = [] }) a
+    → IsOnWay q p (given ++ []) (record x { half = Some (half_open c open_part.Approach) })
+    (record c { stage = stage.OnApproach a; items = hand_approach q a }) a
 worked_way q p given x c a w = record {
   resumed = resumed_items q p (record c { items = [] }) a (stage.OnApproach a) (hand_approach q a) w.resumed;
   stands = ap (λ (y : StoredModel). let z : StoredModel = record y { half = Some (half_open c open_part.Approach) } in z) w.stands;
@@ -226,7 +266,8 @@ way_is q p c a r =
 abbrev stands_reached : DurableState → HalfModel → Point → DurableState
 stands_reached p half point = record p { saved = reached p.saved half point }
 
-pub way_done : (q : Geometry) (p : DurableState) (c : CurrentBlockModel) (a : Approach) (r : IsResumed q p c a) → after q p Approached ≡ stands_reached p r.half a.to.point
+pub way_done : (q : Geometry) (p : DurableState) (c : CurrentBlockModel) (a : Approach) (r : IsResumed q p c a)
+    → after q p Approached ≡ stands_reached p r.half a.to.point
 way_done q p c a r =
     ap (durable_state_reached p) (way_is q p c a r)
     ∙ ap (λ (o : Option HalfModel). let z : DurableState = record p { saved = reached_by p.saved o a.to.point } in z) r.held
@@ -235,13 +276,17 @@ again_same : (q : Geometry) (x y : StoredModel) (text : List ℕ) → x.setup �
 unfolding done_again
 again_same q x y text same tools = rw (same, tools) refl
 
-on_block : (q : Geometry) (lines : List (List ℕ)) (p : DurableState) (c : CurrentBlockModel) (a : Approach) (r : IsResumed q p c a) → IsBlock q lines (stands_reached p r.half a.to.point) c.source c.text c.block_delete r.done
+on_block : (q : Geometry) (lines : List (List ℕ)) (p : DurableState) (c : CurrentBlockModel) (a : Approach)
+    (r : IsResumed q p c a) → IsBlock q lines (stands_reached p r.half a.to.point) c.source c.text c.block_delete
+    r.done
 on_block q lines p c a r = record {
-  does = ap (done_again q (stands_reached p r.half a.to.point).saved) r.text ∙ again_same q (stands_reached p r.half a.to.point).saved p.saved r.half.text refl refl ∙ r.does;
+  does = ap (done_again q (stands_reached p r.half a.to.point).saved) r.text
+      ∙ again_same q (stands_reached p r.half a.to.point).saved p.saved r.half.text refl refl ∙ r.does;
   text_is = (r.source, r.block_delete, (r.text, ap (λ (t : Rattle.ng_cycles.specs.declared.motion_state.MotionState.MotionState). Some t.point) r.to));
 }
 
-pub worked_block : (q : Geometry) (lines : List (List ℕ)) (p : DurableState) (x : StoredModel) (c : CurrentBlockModel) (a : Approach) (given : List Item) (w : IsOnWay q p given x (record c { items = [] }) a)
+pub worked_block : (q : Geometry) (lines : List (List ℕ)) (p : DurableState) (x : StoredModel)
+    (c : CurrentBlockModel) (a : Approach) (given : List Item) (w : IsOnWay q p given x (record c { items = [] }) a)
     → IsOnBlock q lines (after q p Approached) [] (after_current_approach x c a.to.point) (record c { stage = stage.OnBlock; items = [] })
 worked_block q lines p x c a given w =
     let r = w.resumed in
@@ -251,7 +296,8 @@ worked_block q lines p x c a given w =
       entries = p.saved.entries + 1;
       half = Some (record { text = r.text i; source = r.source i; index = r.index i; at = Some a.to.point; opened = None });
     }) in
-    subst (λ (z : DurableState). IsOnBlock q lines z [] (after_current_approach x c a.to.point) (record c { stage = stage.OnBlock; items = [] })) (sym (way_done q p (record c { items = [] }) a r))
+    subst (λ (z : DurableState). IsOnBlock q lines z [] (after_current_approach x c a.to.point)
+    (record c { stage = stage.OnBlock; items = [] })) (sym (way_done q p (record c { items = [] }) a r))
     (record {
       done = r.done;
       block = on_block q lines p (record c { items = [] }) a r;

@@ -1,5 +1,7 @@
 -- A line is refused only for faults of its own: never because memory, a counter of the journal or the device fails.
-use Rattle.std.proofs.Common.{◌≡◌, ℕ, zero, suc, ℤ, pos, negsuc, ◌+ℤ◌, ◌-ℤ◌, ◌*ℤ◌, Bool, true, false, ◌&&◌, if◌then◌else◌, List, [], ◌∷◌, ◌++◌, length, Option, Some, None, Result, Ok, Err, refl, subst}
+use Rattle.std.proofs.Common.{◌≡◌, ℕ, zero, suc, ℤ, pos, negsuc, ◌+ℤ◌, ◌-ℤ◌, ◌*ℤ◌, Bool, true, false, ◌&&◌}
+use Rattle.std.proofs.Common.{if◌then◌else◌, List, [], ◌∷◌, ◌++◌, length, Option, Some, None, Result, Ok, Err, refl}
+use Rattle.std.proofs.Common.{subst}
 use Rattle.std.specs.Prelude.{unsigned_abs, nat_eq, nat_le}
 use Rattle.std.specs.Option.{ok_or, option_and_then}
 use Rattle.std.specs.Result.{result_unwrap_or}
@@ -13,7 +15,9 @@ use Rattle.ng_num.specs.Results.{and_then}
 use Rattle.ng_num.specs.Root.{root_of}
 use Rattle.ng_num.specs.Whole.{fix, fup, round, whole_of}
 use Rattle.ng_num.specs.declared.fault.Fault.{Fault}
-use Rattle.ng_num.specs.declared.fault.Fault.TheVariants.{BadArithmetic, BadIndex, Broken, CountersUsed, DeviceFailed, LineTooLong, NoFeed, OutOfMemory, OutOfRange, OutsideTravel}
+use Rattle.ng_num.specs.declared.fault.Fault.TheVariants.{BadArithmetic, BadIndex, Broken, CountersUsed}
+use Rattle.ng_num.specs.declared.fault.Fault.TheVariants.{DeviceFailed, LineTooLong, NoFeed, OutOfMemory}
+use Rattle.ng_num.specs.declared.fault.Fault.TheVariants.{OutOfRange, OutsideTravel}
 use Rattle.ng_params.specs.Numbers.{index_of}
 use Rattle.ng_canon.specs.declared.geometry.Geometry.{Geometry}
 use Rattle.ng_words.specs.Grammar.{is_too_long, Piece, Tree, word, assignment, comment, number, parameter, bracketed, applied, joined}
@@ -165,7 +169,8 @@ are_value_causes (Err fault) own = (own, tt)
 
 are_values : (pieces : List Piece) (table : List ℤ) → AreOwn (value_causes pieces table)
 are_values [] table = tt
-are_values (p ∷ pieces) table = are_both (value_cause (given table p)) (value_causes pieces table) (are_value_causes (given table p) (own_given table p)) (are_values pieces table)
+are_values (p ∷ pieces) table = are_both (value_cause (given table p)) (value_causes pieces table)
+    (are_value_causes (given table p) (own_given table p)) (are_values pieces table)
 
 -- ---- a line
 
@@ -184,7 +189,31 @@ are_of_cycle (GoesHome between home) = tt
 are_of_cycle (Drills w s) = (refl, (refl, (refl, (refl, (refl, (refl, (refl, (refl, tt))))))))
 
 are_of_words : (ws : List Word) (m : Modes) (slots : ℕ) → AreOwn (faults ws m slots)
-are_of_words ws m slots = (refl, (refl, (refl, (refl, (refl, (refl, (refl, (refl, (refl, (refl, (refl, (refl, (refl, (refl, (refl, (refl, (refl, (refl, (refl, tt)))))))))))))))))))
+are_of_words ws m slots = (
+  refl,
+  (
+    refl,
+    (
+      refl,
+      (
+        refl,
+        (
+          refl,
+          (
+            refl,
+            (
+              refl,
+              (
+                refl,
+                (refl, (refl, (refl, (refl, (refl, (refl, (refl, (refl, (refl, (refl, (refl, tt))))))))))),
+              ),
+            ),
+          ),
+        ),
+      ),
+    ),
+  ),
+)
 
 are_in_turn : (values words arc cycle end : List (Bool × Fault)) (far : Bool) → AreOwn values → AreOwn words → AreOwn arc → AreOwn cycle → AreOwn end
     → AreOwn (values ++ (words ++ ((far, OutOfRange) ∷ (arc ++ (cycle ++ end)))))
@@ -210,9 +239,11 @@ own_causes s tools geometry text =
       ),
     )
 
-own_executed : (s : StateModel) (tools : List ℤ) (geometry : Geometry) (text : List ℕ) (r : Result Done Fault) → executed s tools geometry text ≡ r → RefusesOwn r
+own_executed : (s : StateModel) (tools : List ℤ) (geometry : Geometry) (text : List ℕ) (r : Result Done Fault)
+    → executed s tools geometry text ≡ r → RefusesOwn r
 own_executed s tools geometry text (Ok done) is = tt
-own_executed s tools geometry text (Err fault) is = is_first (causes s tools geometry text) fault (own_causes s tools geometry text) (first_of s tools geometry text fault is)
+own_executed s tools geometry text (Err fault) is = is_first (causes s tools geometry text) fault
+    (own_causes s tools geometry text) (first_of s tools geometry text fault is)
 
 own_line : (s : StateModel) (tools : List ℤ) (geometry : Geometry) (text : List ℕ) → RefusesOwn (executed s tools geometry text)
 own_line s tools geometry text = own_executed s tools geometry text (executed s tools geometry text) refl
@@ -222,17 +253,21 @@ own_deleted s line = own_if (is_too_long line) (Err LineTooLong) _ refl tt
 
 own_unless_deleted : (terms : TermsModel) (s : StateModel) (line : List ℕ) → RefusesOwn (executed_unless_deleted terms s line)
 own_unless_deleted terms s line =
-    own_if (terms.block_delete && is_deletable line) (deleted s line) (executed s terms.tools terms.geometry line) (own_deleted s line) (own_line s terms.tools terms.geometry line)
+    own_if (terms.block_delete && is_deletable line) (deleted s line) (executed s terms.tools terms.geometry line)
+    (own_deleted s line) (own_line s terms.tools terms.geometry line)
 
 own_framed : (flow : Option ProgramFlow) (s : StateModel) (r : Result Done Fault) → RefusesOwn r → RefusesOwn (framed flow s r)
 own_framed None s r own = own
 own_framed (Some flow) s r own = tt
 
 -- a line of a program, a line of the operator, and a half-done block
-pub own_done : (geometry : Geometry) (program : List ℕ) (x : StoredModel) (source : Source) (text : List ℕ) (block_delete : Bool) → RefusesOwn (done_of geometry program x source text block_delete)
+pub own_done : (geometry : Geometry) (program : List ℕ) (x : StoredModel) (source : Source) (text : List ℕ)
+    (block_delete : Bool) → RefusesOwn (done_of geometry program x source text block_delete)
 unfolding done_of
 own_done geometry program x Program text block_delete =
-    own_framed (percent_at (lines_before program x.place) text) x.setup (executed_unless_deleted (terms_of geometry x.tools block_delete) x.setup text) (own_unless_deleted (terms_of geometry x.tools block_delete) x.setup text)
+    own_framed (percent_at (lines_before program x.place) text) x.setup
+    (executed_unless_deleted (terms_of geometry x.tools block_delete) x.setup text)
+    (own_unless_deleted (terms_of geometry x.tools block_delete) x.setup text)
 own_done geometry program x Mdi text block_delete = own_unless_deleted (terms_of geometry x.tools block_delete) x.setup text
 
 pub own_again : (geometry : Geometry) (x : StoredModel) (text : List ℕ) → RefusesOwn (done_again geometry x text)

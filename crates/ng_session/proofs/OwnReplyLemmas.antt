@@ -18,7 +18,12 @@ use Rattle.ng_layout.specs.declared.half.Opened.TheVariants as open_part
 use Rattle.ng_layout.specs.declared.half.Source.TheVariants as source
 use Rattle.ng_canon.specs.declared.geometry.Geometry.{Geometry}
 use Rattle.ng_session.specs.Entries.{done_of, done_again}
-use Rattle.ng_session.specs.Session.{SessionModel, Transition, step, start, hold, resume_held, mdi, mdi_by, refuses_mdi, load, load_unless, load_refusal, reference, reference_unless, reference_refusal, abandon, abandon_unless, abandon_refusal, tool, tool_unless, tool_refusal, resume, resume_half, resume_from, resume_by, tick, begin, begin_by, open_part_of, opening_of, opening_reply, item_of, commit, idleness, accepts_load, is_at_rest, is_idle, is_running, if_some, hand_out}
+use Rattle.ng_session.specs.Session.{SessionModel, Transition, step, start, hold, resume_held, mdi, mdi_by}
+use Rattle.ng_session.specs.Session.{refuses_mdi, load, load_unless, load_refusal, reference, reference_unless}
+use Rattle.ng_session.specs.Session.{reference_refusal, abandon, abandon_unless, abandon_refusal, tool, tool_unless}
+use Rattle.ng_session.specs.Session.{tool_refusal, resume, resume_half, resume_from, resume_by, tick, begin}
+use Rattle.ng_session.specs.Session.{begin_by, open_part_of, opening_of, opening_reply, item_of, commit, idleness}
+use Rattle.ng_session.specs.Session.{accepts_load, is_at_rest, is_idle, is_running, if_some, hand_out}
 use Rattle.ng_session.specs.declared.activity.Activity.{Activity}
 use Rattle.ng_session.specs.declared.activity.Activity.TheVariants as activity
 use Rattle.ng_session.specs.declared.event.Event.{Event}
@@ -61,7 +66,8 @@ own_mdi_by program s text (Err fault) own = own
 own_mdi : (geometry : Geometry) (program : List ℕ) (s : SessionModel) (text : List ℕ) → TellsOwn (mdi geometry program s text).reply
 own_mdi geometry program s text =
     own_if (refuses_mdi s) _ _ refl (own_if (not s.stored.setup.modal.point_known) _ _ refl
-    (own_mdi_by program s text (done_of geometry program s.stored source.Mdi text s.block_delete) (own_done geometry program s.stored source.Mdi text s.block_delete)))
+    (own_mdi_by program s text (done_of geometry program s.stored source.Mdi text s.block_delete)
+    (own_done geometry program s.stored source.Mdi text s.block_delete)))
 
 -- the reason why something is refused, if it is, is the session's own
 abbrev IsOwn : Option Fault → Type 0
@@ -78,7 +84,8 @@ own_load_unless program s text (Some fault) own = own
 
 own_load : (program : List ℕ) (s : SessionModel) (text : List ℕ) → TellsOwn (load program s text).reply
 own_load program s text =
-    own_load_unless program s text (load_refusal s text) (own_unless (not (accepts_load s)) _ _ refl (own_unless (nat_lt s.stored.room (length text)) _ _ refl tt))
+    own_load_unless program s text (load_refusal s text)
+    (own_unless (not (accepts_load s)) _ _ refl (own_unless (nat_lt s.stored.room (length text)) _ _ refl tt))
 
 own_reference_unless : (program : List ℕ) (s : SessionModel) (point : Point) (o : Option Fault) → IsOwn o → TellsOwn (reference_unless program s point o).reply
 own_reference_unless program s point None own = tt
@@ -106,13 +113,16 @@ own_tool program s slot nm =
     own_tool_unless program s slot nm (tool_refusal s slot nm)
     (own_unless (not (accepts_load s)) _ _ refl (own_unless (not (takes_slot s.stored.tools slot)) _ _ refl (own_unless (not (is_tool_length nm)) _ _ refl tt)))
 
-own_resume_by : (program : List ℕ) (s : SessionModel) (half : HalfModel) (from : Point) (r : Result Done Fault) → RefusesOwn r → TellsOwn (resume_by program s half from r).reply
+own_resume_by : (program : List ℕ) (s : SessionModel) (half : HalfModel) (from : Point) (r : Result Done Fault)
+    → RefusesOwn r → TellsOwn (resume_by program s half from r).reply
 own_resume_by program s half from (Ok done) own = tt
 own_resume_by program s half from (Err fault) own = own
 
-own_resume_from : (geometry : Geometry) (program : List ℕ) (s : SessionModel) (half : HalfModel) (at : Option Point) → TellsOwn (resume_from geometry program s half at).reply
+own_resume_from : (geometry : Geometry) (program : List ℕ) (s : SessionModel) (half : HalfModel) (at : Option Point)
+    → TellsOwn (resume_from geometry program s half at).reply
 own_resume_from geometry program s half None = refl
-own_resume_from geometry program s half (Some from) = own_resume_by program s half from (done_again geometry s.stored half.text) (own_again geometry s.stored half.text)
+own_resume_from geometry program s half (Some from) = own_resume_by program s half from
+    (done_again geometry s.stored half.text) (own_again geometry s.stored half.text)
 
 own_resume_half : (geometry : Geometry) (program : List ℕ) (s : SessionModel) (half : Option HalfModel) → TellsOwn (resume_half geometry program s half).reply
 own_resume_half geometry program s None = refl
@@ -138,14 +148,16 @@ own_missing_end Blank = refl
 own_missing_end Percent = refl
 own_missing_end Other = refl
 
-own_begin_by : (program : List ℕ) (s : SessionModel) (line : ProgramLineModel) (r : Result Done Fault) → RefusesOwn r → TellsOwn (begin_by program s line r).reply
+own_begin_by : (program : List ℕ) (s : SessionModel) (line : ProgramLineModel) (r : Result Done Fault)
+    → RefusesOwn r → TellsOwn (begin_by program s line r).reply
 own_begin_by program s line (Ok done) own = tt
 own_begin_by program s line (Err fault) own = own
 
 pub own_begin : (geometry : Geometry) (program : List ℕ) (s : SessionModel) (line : Option ProgramLineModel) → TellsOwn (begin geometry program s line).reply
 own_begin geometry program s None = own_missing_end (first_kind (lines_before program s.stored.place))
 own_begin geometry program s (Some line) =
-    own_begin_by program s line (done_of geometry program s.stored source.Program line.text s.block_delete) (own_done geometry program s.stored source.Program line.text s.block_delete)
+    own_begin_by program s line (done_of geometry program s.stored source.Program line.text s.block_delete)
+    (own_done geometry program s.stored source.Program line.text s.block_delete)
 
 own_tick : (geometry : Geometry) (program : List ℕ) (s : SessionModel) → TellsOwn (tick geometry program s).reply
 own_tick geometry program s =

@@ -1,5 +1,7 @@
 -- Lines planned one after another.
-use Rattle.std.proofs.Common.{◌≡◌, ◌⊎◌, inl, inr, ℕ, ◌-◌, ◌==◌, length, Bor, MatchOption, arith, Bool, true, false, not, ◌||◌, if◌then◌else◌, List, [], ◌∷◌, ◌++◌, Option, None, Some, Result, Ok, refl, sym, ◌∙◌, ap, subst}
+use Rattle.std.proofs.Common.{◌≡◌, ◌⊎◌, inl, inr, ℕ, ◌-◌, ◌==◌, length, Bor, MatchOption, arith, Bool, true, false}
+use Rattle.std.proofs.Common.{not, ◌||◌, if◌then◌else◌, List, [], ◌∷◌, ◌++◌, Option, None, Some, Result, Ok, refl}
+use Rattle.std.proofs.Common.{sym, ◌∙◌, ap, subst}
 use Rattle.std.specs.Prelude.{IfSome, slice_get}
 use Rattle.std.specs.Option.{is_some, option_map, option_copied}
 use Rattle.ng_block.specs.Program.{executed_after, is_end}
@@ -19,15 +21,20 @@ use Rattle.ng_session.specs.declared.event.Event.{Event}
 use Rattle.ng_session.specs.declared.event.Event.TheVariants as event
 use Rattle.ng_session.specs.declared.reply.Reply.TheVariants as reply
 use Rattle.ng_session.specs.Entries.{terms_of, done_of}
-use Rattle.ng_session.specs.Session.{CurrentBlockModel, SessionModel, Transition, accepts_load, is_running, is_idle, step, answers, begin, begun, begin_by, IsQuiet, after_current_block, opened_on, next_opened, opened, handed, committed_on, committed}
+use Rattle.ng_session.specs.Session.{CurrentBlockModel, SessionModel, Transition, accepts_load, is_running, is_idle}
+use Rattle.ng_session.specs.Session.{step, answers, begin, begun, begin_by, IsQuiet, after_current_block, opened_on}
+use Rattle.ng_session.specs.Session.{next_opened, opened, handed, committed_on, committed}
 use Rattle.ng_session.specs.SessionInvariant.{Prepared, block_of, IsReady, IsReadyOn, IsSessionInvariant}
-use Rattle.ng_session.specs.Planned.{PlannedModel, KnownModel, IsLineOf, AreLinesOf, Base, IsBegunAhead, base_on, base_after, base_of, base_then, base_at_end, ends_at_end, drops_plan, IsPlannedOn, IsPlan}
+use Rattle.ng_session.specs.Planned.{PlannedModel, KnownModel, IsLineOf, AreLinesOf, Base, IsBegunAhead, base_on}
+use Rattle.ng_session.specs.Planned.{base_after, base_of, base_then, base_at_end, ends_at_end, drops_plan}
+use Rattle.ng_session.specs.Planned.{IsPlannedOn, IsPlan}
 use Rattle.ng_session.specs.Stages.{Stage}
 use Rattle.ng_session.specs.Stages as stage
 
 -- ---- one line more
 
-pub plan_more : (geometry : Geometry) (base : Base) (ps : List PlannedModel) (p : PlannedModel) → IsPlan geometry base ps → IsPlannedOn geometry (base_at_end base ps) p → IsPlan geometry base (ps ++ p ∷ [])
+pub plan_more : (geometry : Geometry) (base : Base) (ps : List PlannedModel) (p : PlannedModel)
+    → IsPlan geometry base ps → IsPlannedOn geometry (base_at_end base ps) p → IsPlan geometry base (ps ++ p ∷ [])
 plan_more geometry base [] p plan on = (on, tt)
 plan_more geometry base (q ∷ ps) p plan on = (plan.0, plan_more geometry (base_then base q) ps p plan.1 on)
 
@@ -49,11 +56,13 @@ pub end_delete : (base : Base) (ps : List PlannedModel) → (base_at_end base ps
 end_delete base [] = refl
 end_delete base (p ∷ ps) = end_delete (base_then base p) ps
 
-pub end_storable : (geometry : Geometry) (base : Base) (ps : List PlannedModel) → IsPlan geometry base ps → IsStorable base.stored → IsStorable (base_at_end base ps).stored
+pub end_storable : (geometry : Geometry) (base : Base) (ps : List PlannedModel) → IsPlan geometry base ps
+    → IsStorable base.stored → IsStorable (base_at_end base ps).stored
 end_storable geometry base [] plan storable = storable
 end_storable geometry base (p ∷ ps) plan storable = end_storable geometry (base_then base p) ps plan.1 plan.0.ready.next.storable
 
-pub end_length : (geometry : Geometry) (base : Base) (ps : List PlannedModel) → IsPlan geometry base ps → (base_at_end base ps).stored.length ≡ base.stored.length
+pub end_length : (geometry : Geometry) (base : Base) (ps : List PlannedModel) → IsPlan geometry base ps
+    → (base_at_end base ps).stored.length ≡ base.stored.length
 end_length geometry base [] plan = refl
 end_length geometry base (p ∷ ps) plan = end_length geometry (base_then base p) ps plan.1 ∙ plan.0.ready.next.same
 
@@ -63,9 +72,12 @@ ready_base x p (stage.ToApproach a) r = r.after_is ∙ ap (λ (y : StoredModel).
 ready_base x p (stage.OnApproach a) r = r.after_is ∙ ap (λ (y : StoredModel). after_current_block y p.block) r.between_is
 ready_base x p stage.OnBlock r = r.after_is
 
-pub held_base : (x : StoredModel) (o : Option Prepared) (p : Prepared) → o ≡ Some p → IfSome o (λ p. IsReadyOn x p p.block.stage) → p.after ≡ base_after x (option_map block_of o)
+pub held_base : (x : StoredModel) (o : Option Prepared) (p : Prepared) → o ≡ Some p
+    → IfSome o (λ p. IsReadyOn x p p.block.stage) → p.after ≡ base_after x (option_map block_of o)
 held_base x None p is ready = cc
-held_base x (Some q) p is ready = ready_base x p p.block.stage (let f : Option Prepared → Type 0 = λ o. IfSome o (λ p. IsReadyOn x p p.block.stage) in subst f is ready) ∙ sym (ap (λ (o : Option Prepared). base_after x (option_map block_of o)) is)
+held_base x (Some q) p is ready = ready_base x p p.block.stage (let f : Option Prepared
+    → Type 0 = λ o. IfSome o (λ p. IsReadyOn x p p.block.stage) in subst f is ready)
+    ∙ sym (ap (λ (o : Option Prepared). base_after x (option_map block_of o)) is)
 
 storable_on : (x : StoredModel) (p : Prepared) (g : Stage) → IsReadyOn x p g → IsStorable p.after
 storable_on x p (stage.ToApproach a) r = r.second.storable
@@ -94,38 +106,50 @@ handed_base s = by s.current
     by None = refl
     by (Some c) = on c.stage
       where
-        on : (g : Stage) → base_of (handed (record s { current = Some (record c { stage = g }) })) ≡ base_of (record s { current = Some (record c { stage = g }) })
+        on : (g : Stage) → base_of (handed (record s { current = Some (record c { stage = g }) })) ≡ base_of
+            (record s { current = Some (record c { stage = g }) })
         on (stage.ToApproach a) = refl
         on (stage.OnApproach a) = refl
         on stage.OnBlock = refl
 
-opened_on_base : (geometry : Geometry) (x : StoredModel) (half : HalfModel) (c : CurrentBlockModel) (g : Stage) → base_on (record x { half = Some half }) (opened_on geometry (record c { stage = g }) g) (opened_on geometry (record c { stage = g }) g).stage ≡ base_on x (record c { stage = g }) g
+opened_on_base : (geometry : Geometry) (x : StoredModel) (half : HalfModel) (c : CurrentBlockModel) (g : Stage)
+    → base_on (record x { half = Some half }) (opened_on geometry (record c { stage = g }) g)
+    (opened_on geometry (record c { stage = g }) g).stage ≡ base_on x (record c { stage = g }) g
 opened_on_base geometry x half c (stage.ToApproach a) = refl
 opened_on_base geometry x half c (stage.OnApproach a) = refl
 opened_on_base geometry x half c stage.OnBlock = by c.left
   where
-    by : (left : List Segment) → base_on (record x { half = Some half }) (next_opened geometry (record c { stage = stage.OnBlock }) left) (next_opened geometry (record c { stage = stage.OnBlock }) left).stage ≡ base_on x (record c { stage = stage.OnBlock }) stage.OnBlock
+    by : (left : List Segment)
+        → base_on (record x { half = Some half }) (next_opened geometry (record c { stage = stage.OnBlock }) left)
+        (next_opened geometry (record c { stage = stage.OnBlock }) left).stage ≡ base_on x
+        (record c { stage = stage.OnBlock }) stage.OnBlock
     by [] = refl
     by (segment ∷ left) = refl
 
-opened_after_base : (geometry : Geometry) (x : StoredModel) (half : HalfModel) (c : CurrentBlockModel) → base_after (record x { half = Some half }) (Some (opened_on geometry c c.stage)) ≡ base_after x (Some c)
+opened_after_base : (geometry : Geometry) (x : StoredModel) (half : HalfModel) (c : CurrentBlockModel)
+    → base_after (record x { half = Some half }) (Some (opened_on geometry c c.stage)) ≡ base_after x (Some c)
 opened_after_base geometry x half c = opened_on_base geometry x half c c.stage
 
-pub opened_base : (geometry : Geometry) (s : SessionModel) (half : HalfModel) (c : CurrentBlockModel) → s.current ≡ Some c → base_of (opened geometry s half) ≡ base_of s
+pub opened_base : (geometry : Geometry) (s : SessionModel) (half : HalfModel) (c : CurrentBlockModel)
+    → s.current ≡ Some c → base_of (opened geometry s half) ≡ base_of s
 opened_base geometry s half c is =
     let f : Option CurrentBlockModel → SessionModel = λ o. record s { current = o } in
-    let there : base_of (opened geometry (f (Some c)) half) ≡ base_of (f (Some c)) = λ i. record { stored = opened_after_base geometry s.stored half c i; block_delete = s.block_delete } in
+    let there : base_of (opened geometry (f (Some c)) half) ≡ base_of (f (Some c)) = λ i.
+    record { stored = opened_after_base geometry s.stored half c i; block_delete = s.block_delete } in
     let P : Option CurrentBlockModel → Type 0 = λ o. base_of (opened geometry (f o) half) ≡ base_of (f o) in
     subst P (sym is) there
 
-committed_on_base : (s : SessionModel) (c : CurrentBlockModel) (g : Stage) → base_of (committed_on s c g) ≡ record { stored = base_on s.stored c g; block_delete = s.block_delete }
+committed_on_base : (s : SessionModel) (c : CurrentBlockModel) (g : Stage)
+    → base_of (committed_on s c g) ≡ record { stored = base_on s.stored c g; block_delete = s.block_delete }
 committed_on_base s c (stage.ToApproach a) = refl
 committed_on_base s c (stage.OnApproach a) = refl
 committed_on_base s c stage.OnBlock = refl
 
 pub committed_base : (s : SessionModel) (c : CurrentBlockModel) → s.current ≡ Some c → base_of (committed s c) ≡ base_of s
 committed_base s c is =
-    committed_on_base s c c.stage ∙ (let P : Option CurrentBlockModel → Base = λ o. record { stored = base_after s.stored o; block_delete = s.block_delete } in ap P (sym is))
+    committed_on_base s c c.stage
+    ∙ (let P : Option CurrentBlockModel
+    → Base = λ o. record { stored = base_after s.stored o; block_delete = s.block_delete } in ap P (sym is))
 
 -- ---- the plan after the other events
 
@@ -133,7 +157,8 @@ chosen : (P : Transition → Type 0) (b : Bool) (x y : Transition) → P x → P
 chosen P true x y p q = p
 chosen P false x y p q = q
 
-pub steady_base : {A : Type 0} (geometry : Geometry) (program : List ℕ) (s : SessionModel) (e : Event A) → IsQuiet e → drops_plan e ≡ false → base_of (step geometry program s e).next ≡ base_of s
+pub steady_base : {A : Type 0} (geometry : Geometry) (program : List ℕ) (s : SessionModel) (e : Event A) → IsQuiet e
+    → drops_plan e ≡ false → base_of (step geometry program s e).next ≡ base_of s
 steady_base geometry program s (event.Load text) quiet drops = absurd quiet
 steady_base geometry program s event.Start quiet drops =
     let P : Transition → Type 0 = λ o. base_of o.next ≡ base_of s in
@@ -161,7 +186,8 @@ pub plan_none : (geometry : Geometry) (base : Base) (ps : List PlannedModel) →
 plan_none geometry base ps none = subst (λ (l : List PlannedModel). IsPlan geometry base l) (sym none) tt
 
 -- a plan that the event doesn't drop stays a plan
-pub plan_answered : {A : Type 0} (geometry : Geometry) (program : List ℕ) (s t : SessionModel) (e : Event A) (ps : List PlannedModel) → IsQuiet e → (drops_plan e ≡ true → ps ≡ [])
+pub plan_answered : {A : Type 0} (geometry : Geometry) (program : List ℕ) (s t : SessionModel) (e : Event A)
+    (ps : List PlannedModel) → IsQuiet e → (drops_plan e ≡ true → ps ≡ [])
     → t ≡ (step geometry program s e).next → IsPlan geometry (base_of s) ps → IsPlan geometry (base_of t) ps
 plan_answered {A} geometry program s t e ps quiet dropped next plan = elim (cases_of (drops_plan e)) [
   | inl drops ↦ plan_none geometry (base_of t) ps (dropped drops)
@@ -174,14 +200,20 @@ plan_answered {A} geometry program s t e ps quiet dropped next plan = elim (case
 
 -- ---- a line that was planned is begun
 
-pub planned_done : (geometry : Geometry) (program : List ℕ) (s : SessionModel) (p : PlannedModel) (on : IsPlannedOn geometry (record { stored = s.stored; block_delete = s.block_delete }) p)
-    → p.first ≡ first_kind (lines_before program s.stored.place) → done_of geometry program s.stored source.Program p.prepared.block.text s.block_delete ≡ Ok on.does
+pub planned_done : (geometry : Geometry) (program : List ℕ) (s : SessionModel) (p : PlannedModel)
+    (on : IsPlannedOn geometry (record { stored = s.stored; block_delete = s.block_delete }) p)
+    → p.first ≡ first_kind (lines_before program s.stored.place) → done_of geometry program s.stored source.Program
+    p.prepared.block.text s.block_delete ≡ Ok on.does
 unfolding done_of
-planned_done geometry program s p on kind = subst (λ (k : LineKind). executed_after (terms_of geometry s.stored.tools s.block_delete) k s.stored.setup p.prepared.block.text ≡ Ok on.does) kind on.does_is
+planned_done geometry program s p on kind =
+    subst (λ (k : LineKind). executed_after (terms_of geometry s.stored.tools s.block_delete) k s.stored.setup
+    p.prepared.block.text ≡ Ok on.does) kind on.does_is
 
-pub planned_begins : (geometry : Geometry) (program : List ℕ) (s : SessionModel) (p : PlannedModel) → IsPlannedOn geometry (record { stored = s.stored; block_delete = s.block_delete }) p
+pub planned_begins : (geometry : Geometry) (program : List ℕ) (s : SessionModel) (p : PlannedModel)
+    → IsPlannedOn geometry (record { stored = s.stored; block_delete = s.block_delete }) p
     → p.first ≡ first_kind (lines_before program s.stored.place)
-    → answers program reply.Begun (record s { current = Some p.prepared.block }) ≡ begin geometry program s (Some (record { text = p.prepared.block.text; next = p.next }))
+    → answers program reply.Begun (record s { current = Some p.prepared.block }) ≡ begin geometry program s
+    (Some (record { text = p.prepared.block.text; next = p.next }))
 planned_begins geometry program s p on kind =
     let line : ProgramLineModel = record { text = p.prepared.block.text; next = p.next } in
     ap (λ (c : CurrentBlockModel). answers program reply.Begun (let t : SessionModel = record s { current = Some c } in t)) on.begun_is
@@ -189,36 +221,48 @@ planned_begins geometry program s p on kind =
 
 -- ---- the last planned line
 
-last_behind : (x : PlannedModel) (xs : List PlannedModel) → MatchOption (slice_get (x ∷ xs) (length xs)) ⊥ (λ p. (ps : List PlannedModel) × (x ∷ xs ≡ ps ++ p ∷ []))
+last_behind : (x : PlannedModel) (xs : List PlannedModel)
+    → MatchOption (slice_get (x ∷ xs) (length xs)) ⊥ (λ p. (ps : List PlannedModel) × (x ∷ xs ≡ ps ++ p ∷ []))
 last_behind x [] = ([], refl)
 last_behind x (y ∷ xs) = behind (slice_get (y ∷ xs) (length xs)) (last_behind y xs)
   where
-    behind : (o : Option PlannedModel) → MatchOption o ⊥ (λ p. (ps : List PlannedModel) × (y ∷ xs ≡ ps ++ p ∷ [])) → MatchOption o ⊥ (λ p. (ps : List PlannedModel) × (x ∷ y ∷ xs ≡ ps ++ p ∷ []))
+    behind : (o : Option PlannedModel) → MatchOption o ⊥ (λ p. (ps : List PlannedModel) × (y ∷ xs ≡ ps ++ p ∷ []))
+        → MatchOption o ⊥ (λ p. (ps : List PlannedModel) × (x ∷ y ∷ xs ≡ ps ++ p ∷ []))
     behind None none = none
     behind (Some p) parts = (x ∷ parts.0, ap (λ (l : List PlannedModel). x ∷ l) parts.1)
 
 last_of : (xs : List PlannedModel) → MatchOption (slice_get xs (length xs - 1)) (xs ≡ []) (λ p. (ps : List PlannedModel) × (xs ≡ ps ++ p ∷ []))
 last_of [] = refl
 last_of (x ∷ xs) =
-    let P : Option PlannedModel → Type 0 = λ o. MatchOption o (let none : List PlannedModel = [] in x ∷ xs ≡ none) (λ p. (ps : List PlannedModel) × (x ∷ xs ≡ ps ++ p ∷ [])) in
+    let P : Option PlannedModel → Type 0 = λ o. MatchOption o (let none : List PlannedModel = [] in x ∷ xs ≡ none)
+    (λ p. (ps : List PlannedModel) × (x ∷ xs ≡ ps ++ p ∷ [])) in
     let n : length xs ≡ length (x ∷ xs) - 1 = omega arith in
     subst (λ (k : ℕ). P (slice_get (x ∷ xs) k)) n (wider (slice_get (x ∷ xs) (length xs)) (last_behind x xs))
   where
-    wider : (o : Option PlannedModel) → MatchOption o ⊥ (λ p. (ps : List PlannedModel) × (x ∷ xs ≡ ps ++ p ∷ [])) → MatchOption o (let none : List PlannedModel = [] in x ∷ xs ≡ none) (λ p. (ps : List PlannedModel) × (x ∷ xs ≡ ps ++ p ∷ []))
+    wider : (o : Option PlannedModel) → MatchOption o ⊥ (λ p. (ps : List PlannedModel) × (x ∷ xs ≡ ps ++ p ∷ []))
+        → MatchOption o (let none : List PlannedModel = [] in x ∷ xs ≡ none) (λ p. (ps : List PlannedModel)
+        × (x ∷ xs ≡ ps ++ p ∷ []))
     wider None none = absurd none
     wider (Some p) parts = parts
 
-pub last_copied : (r : Option (Bor PlannedModel)) (xs : List PlannedModel) → option_copied r ≡ slice_get xs (length xs - 1) → MatchOption r (xs ≡ []) (λ p. (ps : List PlannedModel) × (xs ≡ ps ++ p.now ∷ []))
-last_copied r xs is = by r (subst (λ (o : Option PlannedModel). MatchOption o (xs ≡ []) (λ p. (ps : List PlannedModel) × (xs ≡ ps ++ p ∷ []))) (sym is) (last_of xs))
+pub last_copied : (r : Option (Bor PlannedModel)) (xs : List PlannedModel)
+    → option_copied r ≡ slice_get xs (length xs - 1)
+    → MatchOption r (xs ≡ []) (λ p. (ps : List PlannedModel) × (xs ≡ ps ++ p.now ∷ []))
+last_copied r xs is =
+    by r (subst (λ (o : Option PlannedModel). MatchOption o (xs ≡ []) (λ p. (ps : List PlannedModel)
+    × (xs ≡ ps ++ p ∷ []))) (sym is) (last_of xs))
   where
-    by : (r : Option (Bor PlannedModel)) → MatchOption (option_copied r) (xs ≡ []) (λ p. (ps : List PlannedModel) × (xs ≡ ps ++ p ∷ [])) → MatchOption r (xs ≡ []) (λ p. (ps : List PlannedModel) × (xs ≡ ps ++ p.now ∷ []))
+    by : (r : Option (Bor PlannedModel)) → MatchOption (option_copied r) (xs ≡ []) (λ p. (ps : List PlannedModel)
+        × (xs ≡ ps ++ p ∷ [])) → MatchOption r (xs ≡ []) (λ p. (ps : List PlannedModel) × (xs ≡ ps ++ p.now ∷ []))
     by None m = m
     by (Some p) m = m
 
 -- ---- a line is planned
 
-pub planned_by : (geometry : Geometry) (base : Base) (p : PlannedModel) (text : List ℕ) (does : Done) → p.place ≡ base.stored.place → (base.stored.place ≡ 0 → p.first ≡ Blank)
-    → executed_after (terms_of geometry base.stored.tools base.block_delete) p.first base.stored.setup text ≡ Ok does → p.prepared.block ≡ begun base.stored source.Program text base.block_delete p.next does
+pub planned_by : (geometry : Geometry) (base : Base) (p : PlannedModel) (text : List ℕ) (does : Done)
+    → p.place ≡ base.stored.place → (base.stored.place ≡ 0 → p.first ≡ Blank)
+    → executed_after (terms_of geometry base.stored.tools base.block_delete) p.first base.stored.setup text ≡ Ok
+    does → p.prepared.block ≡ begun base.stored source.Program text base.block_delete p.next does
     → IsReady base.stored p.prepared → IsPlannedOn geometry base p
 planned_by geometry base p text does place beginning does_is begun_is ready =
     let read : text ≡ p.prepared.block.text = sym (ap (λ (c : CurrentBlockModel). c.text) begun_is) in
@@ -226,23 +270,27 @@ planned_by geometry base p text does place beginning does_is begun_is ready =
       place = place;
       beginning = λ none. beginning (sym place ∙ none);
       does = does;
-      does_is = subst (λ (t : List ℕ). executed_after (terms_of geometry base.stored.tools base.block_delete) p.first base.stored.setup t ≡ Ok does) read does_is;
+      does_is = subst (λ (t : List ℕ). executed_after (terms_of geometry base.stored.tools base.block_delete)
+          p.first base.stored.setup t ≡ Ok does) read does_is;
       begun_is = subst (λ (t : List ℕ). p.prepared.block ≡ begun base.stored source.Program t base.block_delete p.next does) read begun_is;
       ready = ready;
     }
 
 -- the base at the end of the plan
-pub end_base : (base : Base) (ps : List PlannedModel) (x : StoredModel) → x ≡ (base_at_end base ps).stored → base_at_end base ps ≡ record { stored = x; block_delete = base.block_delete }
+pub end_base : (base : Base) (ps : List PlannedModel) (x : StoredModel) → x ≡ (base_at_end base ps).stored
+    → base_at_end base ps ≡ record { stored = x; block_delete = base.block_delete }
 end_base base ps x is = λ i. record { stored = sym is i; block_delete = end_delete base ps i }
 
-pub plan_pushed : (geometry : Geometry) (base : Base) (ps qs : List PlannedModel) (p : PlannedModel) (x : StoredModel) → x ≡ (base_at_end base ps).stored → IsPlan geometry base ps
+pub plan_pushed : (geometry : Geometry) (base : Base) (ps qs : List PlannedModel) (p : PlannedModel)
+    (x : StoredModel) → x ≡ (base_at_end base ps).stored → IsPlan geometry base ps
     → IsPlannedOn geometry (record { stored = x; block_delete = base.block_delete }) p → (qs ≡ ps ++ p ∷ []) ⊎ (qs ≡ ps) → IsPlan geometry base qs
 plan_pushed geometry base ps qs p x is plan on (inl more) =
     subst (λ (l : List PlannedModel). IsPlan geometry base l) (sym more)
     (plan_more geometry base ps p plan (subst (λ (b : Base). IsPlannedOn geometry b p) (sym (end_base base ps x is)) on))
 plan_pushed geometry base ps qs p x is plan on (inr same) = subst (λ (l : List PlannedModel). IsPlan geometry base l) (sym same) plan
 
-pub lines_pushed : (program : List ℕ) (ps qs : List PlannedModel) (p : PlannedModel) (place : ℕ) (first : LineKind) (text : List ℕ) (next : ℕ) → AreLinesOf program ps → IsLineBetween program place first text next
+pub lines_pushed : (program : List ℕ) (ps qs : List PlannedModel) (p : PlannedModel) (place : ℕ) (first : LineKind)
+    (text : List ℕ) (next : ℕ) → AreLinesOf program ps → IsLineBetween program place first text next
     → p.place ≡ place → p.first ≡ first → p.prepared.block.text ≡ text → p.next ≡ next → (qs ≡ ps ++ p ∷ []) ⊎ (qs ≡ ps) → AreLinesOf program qs
 lines_pushed program ps qs p place first text next lines line a b c d (inl more) =
     let one : IsLineOf program p = subst (λ (n : ℕ). IsLineBetween program n p.first p.prepared.block.text p.next) (sym a)
@@ -254,7 +302,8 @@ lines_pushed program ps qs p place first text next lines line a b c d (inr same)
 
 -- ---- the first planned line is begun
 
-pub plan_front : (geometry : Geometry) (base : Base) (ps qs : List PlannedModel) (p : PlannedModel) → ps ≡ p ∷ qs → IsPlan geometry base ps → IsPlannedOn geometry base p × IsPlan geometry (base_then base p) qs
+pub plan_front : (geometry : Geometry) (base : Base) (ps qs : List PlannedModel) (p : PlannedModel) → ps ≡ p ∷ qs
+    → IsPlan geometry base ps → IsPlannedOn geometry base p × IsPlan geometry (base_then base p) qs
 plan_front geometry base ps qs p is plan = subst (λ (l : List PlannedModel). IsPlan geometry base l) is plan
 
 -- with no block, lines are planned on the stored state; the next line is planned on the state after the first
@@ -262,14 +311,22 @@ free_base : (s : SessionModel) → s.current ≡ None → base_of s ≡ record {
 free_base s free = λ i. record { stored = base_after s.stored (free i); block_delete = s.block_delete }
 
 then_base : (s : SessionModel) (p : PlannedModel) → p.prepared.block.stage ≡ stage.OnBlock → IsReady s.stored p.prepared
-    → base_of (let t : SessionModel = record s { current = Some p.prepared.block } in t) ≡ base_then (record { stored = s.stored; block_delete = s.block_delete }) p
-then_base s p on ready = λ i. record { stored = (ap (λ (g : Stage). base_on s.stored p.prepared.block g) on ∙ sym ready.after_is) i; block_delete = s.block_delete }
+    → base_of (let t : SessionModel = record s { current = Some p.prepared.block } in t) ≡ base_then
+    (record { stored = s.stored; block_delete = s.block_delete }) p
+then_base s p on ready = λ i.
+    record {
+      stored = (ap (λ (g : Stage). base_on s.stored p.prepared.block g) on ∙ sym ready.after_is) i;
+      block_delete = s.block_delete;
+    }
 
-pub begun_ahead : (geometry : Geometry) (s t : SessionModel) (known_old known_new : KnownModel) (p : PlannedModel) → s.current ≡ None → t ≡ (let u : SessionModel = record s { current = Some p.prepared.block } in u)
-    → known_old.ahead ≡ p ∷ known_new.ahead → known_new.before ≡ known_old.before → IsPlan geometry (base_of s) known_old.ahead → IsBegunAhead geometry reply.Begun s t known_old known_new
+pub begun_ahead : (geometry : Geometry) (s t : SessionModel) (known_old known_new : KnownModel) (p : PlannedModel)
+    → s.current ≡ None → t ≡ (let u : SessionModel = record s { current = Some p.prepared.block } in u)
+    → known_old.ahead ≡ p ∷ known_new.ahead → known_new.before ≡ known_old.before
+    → IsPlan geometry (base_of s) known_old.ahead → IsBegunAhead geometry reply.Begun s t known_old known_new
 begun_ahead geometry s t known_old known_new p free next front before plan =
     let here : Base = record { stored = s.stored; block_delete = s.block_delete } in
-    let split = plan_front geometry here known_old.ahead known_new.ahead p front (subst (λ (b : Base). IsPlan geometry b known_old.ahead) (free_base s free) plan) in
+    let split = plan_front geometry here known_old.ahead known_new.ahead p front
+    (subst (λ (b : Base). IsPlan geometry b known_old.ahead) (free_base s free) plan) in
     let on : IsPlannedOn geometry here p = split.0 in
     let stage_is : p.prepared.block.stage ≡ stage.OnBlock = ap (λ (c : CurrentBlockModel). c.stage) on.begun_is in
     record {

@@ -7,17 +7,21 @@ use Rattle.ng_block.specs.Effects.{Done}
 use Rattle.ng_layout.specs.Stored.{HalfModel}
 use Rattle.ng_canon.specs.declared.geometry.Geometry.{Geometry}
 use Rattle.ng_session.specs.Entries.{done_again}
-use Rattle.ng_session.specs.Session.{SessionModel, refuses, resume, resume_half, resume_from, resume_by, resume_refusal, waiting_refusal, half_refusal, refusal_of, is_at_rest}
+use Rattle.ng_session.specs.Session.{SessionModel, refuses, resume, resume_half, resume_from, resume_by}
+use Rattle.ng_session.specs.Session.{resume_refusal, waiting_refusal, half_refusal, refusal_of, is_at_rest}
 
-by_done : (program : List ℕ) (s : SessionModel) (half : HalfModel) (from : Point) (done : Result Done Fault) (f : Fault) → Some f ≡ refusal_of done → resume_by program s half from done ≡ refuses program f s
+by_done : (program : List ℕ) (s : SessionModel) (half : HalfModel) (from : Point) (done : Result Done Fault)
+    (f : Fault) → Some f ≡ refusal_of done → resume_by program s half from done ≡ refuses program f s
 by_done program s half from (Ok done) f e = cc e
 by_done program s half from (Err other) f e = let same : other ≡ f = cc e in ap (λ (x : Fault). refuses program x s) same
 
-by_place : (q : Geometry) (program : List ℕ) (s : SessionModel) (half : HalfModel) (at : Option Point) (f : Fault) → Some f ≡ half_refusal q s.stored half at → resume_from q program s half at ≡ refuses program f s
+by_place : (q : Geometry) (program : List ℕ) (s : SessionModel) (half : HalfModel) (at : Option Point) (f : Fault)
+    → Some f ≡ half_refusal q s.stored half at → resume_from q program s half at ≡ refuses program f s
 by_place q program s half None f e = let same : fault.PlaceUnknown ≡ f = cc e in ap (λ (x : Fault). refuses program x s) same
 by_place q program s half (Some from) f e = by_done program s half from (done_again q s.stored half.text) f e
 
-by_half : (q : Geometry) (program : List ℕ) (s : SessionModel) (half : Option HalfModel) (f : Fault) → Some f ≡ waiting_refusal q s.stored half → resume_half q program s half ≡ refuses program f s
+by_half : (q : Geometry) (program : List ℕ) (s : SessionModel) (half : Option HalfModel) (f : Fault)
+    → Some f ≡ waiting_refusal q s.stored half → resume_half q program s half ≡ refuses program f s
 by_half q program s None f e = let same : fault.NothingHalfDone ≡ f = cc e in ap (λ (x : Fault). refuses program x s) same
 by_half q program s (Some half) f e = by_place q program s half half.at f e
 

@@ -1,5 +1,7 @@
 -- Each event keeps the session tied to the fold.
-use Rattle.std.proofs.Common.{◌≡◌, ◌⊎◌, ◌≤◌, ℕ, ℤ, ◌==◌, nat_lt, Bool, true, false, not, ◌&&◌, ◌||◌, if◌then◌else◌, List, [], ◌∷◌, ◌++◌, drop, length, Option, None, Some, Result, Ok, Err, refl, sym, ap, subst, ◌∙◌, inl, inr, arith}
+use Rattle.std.proofs.Common.{◌≡◌, ◌⊎◌, ◌≤◌, ℕ, ℤ, ◌==◌, nat_lt, Bool, true, false, not, ◌&&◌, ◌||◌, if◌then◌else◌}
+use Rattle.std.proofs.Common.{List, [], ◌∷◌, ◌++◌, drop, length, Option, None, Some, Result, Ok, Err, refl, sym, ap}
+use Rattle.std.proofs.Common.{subst, ◌∙◌, inl, inr, arith}
 use Rattle.std.specs.Prelude.{Contains}
 use Rattle.std.specs.Option.{is_some, is_none}
 use Rattle.std.proofs.lemmas.Bool.Decides.{nat_tests}
@@ -18,9 +20,17 @@ use Rattle.ng_layout.specs.Stored.{HalfModel, StoredModel, DurableState}
 use Rattle.ng_layout.specs.declared.half.Source.{Source}
 use Rattle.ng_layout.specs.declared.half.Source.TheVariants as source
 use Rattle.ng_canon.specs.declared.geometry.Geometry.{Geometry}
-use Rattle.ng_session.specs.Entries.{Entry, Block, Loaded, Referenced, Approached, Abandoned, Tooled, done_of, done_again, place_after, after_block, after_load, after_reference, referenced, after_abandon, abandoned, after_tool}
-use Rattle.ng_session.specs.Session.{CurrentBlockModel, SessionModel, Transition, answers, begun, next_place_after, is_running, is_idle, is_at_rest, accepts_load, refuses_mdi, start, hold, resume_held, mdi, mdi_by, load, load_unless, load_refusal, reference, reference_unless, reference_refusal, abandon, abandon_unless, abandon_refusal, tool, tool_unless, tool_refusal, resume, resume_by, resume_from, resume_half, begin, begin_by, end, hand_next, first_of, tick, step, session_status}
-use Rattle.ng_session.specs.Fold.{first_to_do, after, items, items_done, items_on_way, durable_state_after, block_done, IsTextOf, IsGiven, IsLineAt, IsBlock, FollowsFold}
+use Rattle.ng_session.specs.Entries.{Entry, Block, Loaded, Referenced, Approached, Abandoned, Tooled, done_of}
+use Rattle.ng_session.specs.Entries.{done_again, place_after, after_block, after_load, after_reference, referenced}
+use Rattle.ng_session.specs.Entries.{after_abandon, abandoned, after_tool}
+use Rattle.ng_session.specs.Session.{CurrentBlockModel, SessionModel, Transition, answers, begun, next_place_after}
+use Rattle.ng_session.specs.Session.{is_running, is_idle, is_at_rest, accepts_load, refuses_mdi, start, hold}
+use Rattle.ng_session.specs.Session.{resume_held, mdi, mdi_by, load, load_unless, load_refusal, reference}
+use Rattle.ng_session.specs.Session.{reference_unless, reference_refusal, abandon, abandon_unless, abandon_refusal}
+use Rattle.ng_session.specs.Session.{tool, tool_unless, tool_refusal, resume, resume_by, resume_from, resume_half}
+use Rattle.ng_session.specs.Session.{begin, begin_by, end, hand_next, first_of, tick, step, session_status}
+use Rattle.ng_session.specs.Fold.{first_to_do, after, items, items_done, items_on_way, durable_state_after}
+use Rattle.ng_session.specs.Fold.{block_done, IsTextOf, IsGiven, IsLineAt, IsBlock, FollowsFold}
 use Rattle.ng_session.specs.Runs.{given_by}
 use Rattle.ng_session.specs.declared.activity.Activity.{Activity}
 use Rattle.ng_session.specs.declared.activity.Activity.TheVariants as activity
@@ -30,26 +40,32 @@ use Rattle.ng_session.specs.declared.event.Event.{Event}
 use Rattle.ng_session.specs.declared.event.Event.TheVariants as event
 use Rattle.ng_session.specs.Stages.{Stage}
 use Rattle.ng_session.specs.Stages as stage
-use Rattle.ng_session.proofs.BlockFoldLemmas.{IsOnBlock, IsWorked, Tied, worked_item, worked_segment, worked_way, worked_block, way_is, way_done, all_given, after_is_it}
+use Rattle.ng_session.proofs.BlockFoldLemmas.{IsOnBlock, IsWorked, Tied, worked_item, worked_segment, worked_way}
+use Rattle.ng_session.proofs.BlockFoldLemmas.{worked_block, way_is, way_done, all_given, after_is_it}
 use Rattle.ng_text.proofs.PlaceLemmas.{line_next}
 
 -- an event leaves the fold's state as it is, or adds an entry that may be committed and whose items are those handed
 -- out
 pub data Next (q : Geometry) (lines : List (List ℕ)) (p : DurableState) (given : List Item) (out : Transition) : Type 0 where
-  Stays : out.entries ≡ [] → out.program ≡ p.program → Tied q lines p (given ++ out.items) out.next.stored out.next.activity out.next.current → Next q lines p given out
-  Adds : (entry : Entry) → out.entries ≡ entry ∷ [] → out.items ≡ [] → FollowsFold q lines p entry → out.program ≡ (after q p entry).program → given ≡ items q p entry
+  Stays : out.entries ≡ [] → out.program ≡ p.program → Tied q lines p (given ++ out.items) out.next.stored
+      out.next.activity out.next.current → Next q lines p given out
+  Adds : (entry : Entry) → out.entries ≡ entry ∷ [] → out.items ≡ [] → FollowsFold q lines p entry
+      → out.program ≡ (after q p entry).program → given ≡ items q p entry
       → Tied q lines (after q p entry) [] out.next.stored out.next.activity out.next.current → Next q lines p given out
 
 -- the session is tied to the fold
 abbrev pub Ties : Geometry → List (List ℕ) → DurableState → List Item → SessionModel → Type 0
 Ties q lines p given s = Tied q lines p given s.stored s.activity s.current
 
-by_if : (q : Geometry) (lines : List (List ℕ)) (p : DurableState) (given : List Item) (b : Bool) (x y : Transition) → (b ≡ true → Next q lines p given x) → (b ≡ false → Next q lines p given y) → Next q lines p given (if b then x else y)
+by_if : (q : Geometry) (lines : List (List ℕ)) (p : DurableState) (given : List Item) (b : Bool) (x y : Transition)
+    → (b ≡ true → Next q lines p given x) → (b ≡ false → Next q lines p given y)
+    → Next q lines p given (if b then x else y)
 by_if q lines p given true x y f g = f refl
 by_if q lines p given false x y f g = g refl
 
 -- a reply that leaves the current block unchanged
-stays : (q : Geometry) (lines : List (List ℕ)) (p : DurableState) (given : List Item) (P : List ℕ) (r : Reply) (u : SessionModel) → P ≡ p.program → Ties q lines p given u → Next q lines p given (answers P r u)
+stays : (q : Geometry) (lines : List (List ℕ)) (p : DurableState) (given : List Item) (P : List ℕ) (r : Reply)
+    (u : SessionModel) → P ≡ p.program → Ties q lines p given u → Next q lines p given (answers P r u)
 stays q lines p given P r u is tied = Stays refl is (subst (λ l. Ties q lines p l u) (sym (append-nil given)) tied)
 
 none_of : {T : Type 0} (o : Option T) → is_none o ≡ true → o ≡ None
@@ -89,11 +105,13 @@ rest_none : (s : SessionModel) → is_at_rest s ≡ true → s.current ≡ None
 rest_none s rests = none_of s.current (and_left _ _ (and_left _ _ rests))
 
 -- with no block, the stored state is the fold's
-stands_at : (q : Geometry) (lines : List (List ℕ)) (p : DurableState) (given : List Item) (s : SessionModel) → s.current ≡ None → Ties q lines p given s → Tied q lines p given s.stored s.activity None
+stands_at : (q : Geometry) (lines : List (List ℕ)) (p : DurableState) (given : List Item) (s : SessionModel)
+    → s.current ≡ None → Ties q lines p given s → Tied q lines p given s.stored s.activity None
 stands_at q lines p given s none t = subst (Tied q lines p given s.stored s.activity) none t
 
 -- a program that isn't idle has no half-done block
-no_half : (q : Geometry) (lines : List (List ℕ)) (p : DurableState) (given : List Item) (x : StoredModel) (a : Activity) → is_idle a ≡ false → Tied q lines p given x a None → x.half ≡ None
+no_half : (q : Geometry) (lines : List (List ℕ)) (p : DurableState) (given : List Item) (x : StoredModel)
+    (a : Activity) → is_idle a ≡ false → Tied q lines p given x a None → x.half ≡ None
 no_half q lines p given x a busy t = ap (λ (y : StoredModel). y.half) t.0 ∙ by t.2
   where
     by : (is_idle a ≡ true) ⊎ (p.saved.half ≡ None) → p.saved.half ≡ None
@@ -109,33 +127,43 @@ abbrev here : List ℕ → SessionModel → DurableState
 here P s = record { saved = s.stored; program = P }
 
 -- a session with no block has the fold's state
-here_is : (q : Geometry) (lines : List (List ℕ)) (p : DurableState) (given : List Item) (P : List ℕ) (x : StoredModel) (a : Activity) → P ≡ p.program → Tied q lines p given x a None → record { saved = x; program = P } ≡ p
-here_is q lines p given P x a is t = ap (λ (z : StoredModel). let s : DurableState = record { saved = z; program = P } in s) t.0 ∙ ap (λ (z : List ℕ). let s : DurableState = record { saved = p.saved; program = z } in s) is
+here_is : (q : Geometry) (lines : List (List ℕ)) (p : DurableState) (given : List Item) (P : List ℕ)
+    (x : StoredModel) (a : Activity) → P ≡ p.program → Tied q lines p given x a None
+    → record { saved = x; program = P } ≡ p
+here_is q lines p given P x a is t =
+    ap (λ (z : StoredModel). let s : DurableState = record { saved = z; program = P } in s) t.0
+    ∙ ap (λ (z : List ℕ). let s : DurableState = record { saved = p.saved; program = z } in s) is
 
 -- from the session's state to the fold's
-to_fold : (q : Geometry) (lines : List (List ℕ)) (p : DurableState) (given : List Item) (P : List ℕ) (s : SessionModel) (out : Transition) → P ≡ p.program → s.current ≡ None → Ties q lines p given s
+to_fold : (q : Geometry) (lines : List (List ℕ)) (p : DurableState) (given : List Item) (P : List ℕ)
+    (s : SessionModel) (out : Transition) → P ≡ p.program → s.current ≡ None → Ties q lines p given s
     → (Tied q lines (here P s) [] s.stored s.activity None → Next q lines (here P s) [] out) → Next q lines p given out
 to_fold q lines p given P s out is none t f =
     let at = stands_at q lines p given s none t in
     let same = here_is q lines p given P s.stored s.activity is at in
-    let third : (is_idle s.activity ≡ true) ⊎ (s.stored.half ≡ None) = subst (λ (z : DurableState). (is_idle s.activity ≡ true) ⊎ (z.saved.half ≡ None)) (sym same) at.2 in
+    let third : (is_idle s.activity ≡ true) ⊎ (s.stored.half ≡ None) =
+    subst (λ (z : DurableState). (is_idle s.activity ≡ true) ⊎ (z.saved.half ≡ None)) (sym same) at.2 in
     subst (λ l. Next q lines p l out) (sym at.1) (subst (λ z. Next q lines z [] out) same (f (refl, refl, third)))
 
 -- a session that still has no block stays tied
-ties_here : (q : Geometry) (lines : List (List ℕ)) (P : List ℕ) (s : SessionModel) → s.current ≡ None → Tied q lines (here P s) [] s.stored s.activity None → Ties q lines (here P s) [] s
+ties_here : (q : Geometry) (lines : List (List ℕ)) (P : List ℕ) (s : SessionModel) → s.current ≡ None
+    → Tied q lines (here P s) [] s.stored s.activity None → Ties q lines (here P s) [] s
 ties_here q lines P s none t = subst (Tied q lines (here P s) [] s.stored s.activity) (sym none) t
 
 -- ---- a line is begun
 
-fresh_block : (q : Geometry) (lines : List (List ℕ)) (P : List ℕ) (s : SessionModel) (from : Source) (text : List ℕ) (delete : Bool) (done : Done) → s.stored.half ≡ None → IsGiven lines (here P s) from text
+fresh_block : (q : Geometry) (lines : List (List ℕ)) (P : List ℕ) (s : SessionModel) (from : Source) (text : List ℕ)
+    (delete : Bool) (done : Done) → s.stored.half ≡ None → IsGiven lines (here P s) from text
     → done_of q P s.stored from text delete ≡ Ok done → IsBlock q lines (here P s) from text delete done
 fresh_block q lines P s from text delete done none given does = record {
   does = ap (λ (o : Option HalfModel). block_done q (here P s) o from text delete) none ∙ does;
   text_is = subst (λ (o : Option HalfModel). IsTextOf lines (here P s) o from text delete done) (sym none) given;
 }
 
-begun_here : (q : Geometry) (lines : List (List ℕ)) (P : List ℕ) (s : SessionModel) (from : Source) (text : List ℕ) (delete : Bool) (next : ℕ) (done : Done) → s.stored.half ≡ None → IsGiven lines (here P s) from text
-    → done_of q P s.stored from text delete ≡ Ok done → place_after next s.stored.place from done.stop ≡ place_after (next_line_start P s.stored.place) s.stored.place from done.stop
+begun_here : (q : Geometry) (lines : List (List ℕ)) (P : List ℕ) (s : SessionModel) (from : Source) (text : List ℕ)
+    (delete : Bool) (next : ℕ) (done : Done) → s.stored.half ≡ None → IsGiven lines (here P s) from text
+    → done_of q P s.stored from text delete ≡ Ok done → place_after next s.stored.place from done.stop ≡ place_after
+    (next_line_start P s.stored.place) s.stored.place from done.stop
     → IsOnBlock q lines (here P s) [] s.stored (begun s.stored from text delete next done)
 begun_here q lines P s from text delete next done none given does same = record {
   done = done;
@@ -150,25 +178,36 @@ begun_here q lines P s from text delete next done none given does same = record 
   });
 }
 
-mdi_here : (q : Geometry) (lines : List (List ℕ)) (P : List ℕ) (s : SessionModel) (text : List ℕ) (r : Result Done Fault) → s.stored.half ≡ None → Contains lines text → done_of q P s.stored source.Mdi text s.block_delete ≡ r
+mdi_here : (q : Geometry) (lines : List (List ℕ)) (P : List ℕ) (s : SessionModel) (text : List ℕ)
+    (r : Result Done Fault) → s.stored.half ≡ None → Contains lines text
+    → done_of q P s.stored source.Mdi text s.block_delete ≡ r
     → Ties q lines (here P s) [] s → Next q lines (here P s) [] (mdi_by P s text r)
 mdi_here q lines P s text (Err f) none given does t = Stays refl refl t
-mdi_here q lines P s text (Ok done) none given does t = Stays refl refl (begun_here q lines P s source.Mdi text s.block_delete s.stored.place done none given does refl)
+mdi_here q lines P s text (Ok done) none given does t =
+    Stays refl refl (begun_here q lines P s source.Mdi text s.block_delete s.stored.place done none given does refl)
 
-line_here : (q : Geometry) (lines : List (List ℕ)) (P : List ℕ) (s : SessionModel) (line : ProgramLineModel) (r : Result Done Fault) → s.stored.half ≡ None → s.current ≡ None → program_line_at P s.stored.place ≡ Some line → done_of q P s.stored source.Program line.text s.block_delete ≡ r
+line_here : (q : Geometry) (lines : List (List ℕ)) (P : List ℕ) (s : SessionModel) (line : ProgramLineModel)
+    (r : Result Done Fault) → s.stored.half ≡ None → s.current ≡ None → program_line_at P s.stored.place ≡ Some line
+    → done_of q P s.stored source.Program line.text s.block_delete ≡ r
     → Next q lines (here P s) [] (begin_by P s line r)
-line_here q lines P s line (Err f) half none at does = Stays refl refl (subst (Tied q lines (here P s) [] s.stored activity.Stopped) (sym none) (refl, refl, inr half))
+line_here q lines P s line (Err f) half none at does =
+    Stays refl refl (subst (Tied q lines (here P s) [] s.stored activity.Stopped) (sym none) (refl, refl, inr half))
 line_here q lines P s line (Ok done) half none at does =
-    Stays refl refl (begun_here q lines P s source.Program line.text s.block_delete line.next done half (subst (λ (o : Option ProgramLineModel). IsLineAt o line.text) (sym at) refl) does
+    Stays refl refl (begun_here q lines P s source.Program line.text s.block_delete line.next done half
+    (subst (λ (o : Option ProgramLineModel). IsLineAt o line.text) (sym at) refl) does
     (ap (λ (n : ℕ). place_after n s.stored.place source.Program done.stop) (line_next P s.stored.place line at)))
 
-begin_here : (q : Geometry) (lines : List (List ℕ)) (P : List ℕ) (s : SessionModel) (o : Option ProgramLineModel) → s.stored.half ≡ None → s.current ≡ None → program_line_at P s.stored.place ≡ o → Next q lines (here P s) [] (begin q P s o)
+begin_here : (q : Geometry) (lines : List (List ℕ)) (P : List ℕ) (s : SessionModel) (o : Option ProgramLineModel)
+    → s.stored.half ≡ None → s.current ≡ None → program_line_at P s.stored.place ≡ o
+    → Next q lines (here P s) [] (begin q P s o)
 begin_here q lines P s None half none is = Stays refl refl (subst (Tied q lines (here P s) [] s.stored activity.Stopped) (sym none) (refl, refl, inr half))
 begin_here q lines P s (Some line) half none is = line_here q lines P s line _ half none is refl
 
 -- ---- the operator's events
 
-next_load : (q : Geometry) (lines : List (List ℕ)) (p : DurableState) (given : List Item) (P : List ℕ) (s : SessionModel) (text : List ℕ) → P ≡ p.program → Ties q lines p given s → Next q lines p given (load P s text)
+next_load : (q : Geometry) (lines : List (List ℕ)) (p : DurableState) (given : List Item) (P : List ℕ)
+    (s : SessionModel) (text : List ℕ) → P ≡ p.program → Ties q lines p given s
+    → Next q lines p given (load P s text)
 next_load q lines p given P s text is t = by_refusal (load_refusal s text) refl
   where
     free_of : (b c : Bool) → (if not b then Some fault.Busy else if c then Some fault.ProgramTooLong else None) ≡ None → b ≡ true
@@ -193,9 +232,11 @@ next_load q lines p given P s text is t = by_refusal (load_refusal s text) refl
         let half : p.saved.half ≡ None = ap (λ (x : StoredModel). x.half) (sym at.0) ∙ none_of s.stored.half (and_right _ _ free) in
         let fits : length text ≤ p.saved.room = subst (λ (x : StoredModel). length text ≤ x.room) at.0 (within s.stored.room (length text) short) in
         Adds (Loaded text) refl refl (fits, half) refl at.1
-        (subst (Tied q lines (after q p (Loaded text)) [] (after_load s.stored (length text)) activity.Idle) (sym none) (ap (λ (x : StoredModel). after_load x (length text)) at.0, refl, inl refl))
+        (subst (Tied q lines (after q p (Loaded text)) [] (after_load s.stored (length text)) activity.Idle)
+        (sym none) (ap (λ (x : StoredModel). after_load x (length text)) at.0, refl, inl refl))
 
-next_start : (q : Geometry) (lines : List (List ℕ)) (p : DurableState) (given : List Item) (P : List ℕ) (s : SessionModel) → P ≡ p.program → Ties q lines p given s → Next q lines p given (start P s)
+next_start : (q : Geometry) (lines : List (List ℕ)) (p : DurableState) (given : List Item) (P : List ℕ)
+    (s : SessionModel) → P ≡ p.program → Ties q lines p given s → Next q lines p given (start P s)
 next_start q lines p given P s is t =
     by_if q lines p given (not (accepts_load s)) _ _ (λ b. stays q lines p given P _ s is t) (λ b.
     let free = not_true (accepts_load s) b in
@@ -204,13 +245,17 @@ next_start q lines p given P s is t =
     let half : p.saved.half ≡ None = ap (λ (x : StoredModel). x.half) (sym at.0) ∙ none_of s.stored.half (and_right _ _ free) in
     by_if q lines p given (not s.stored.setup.modal.point_known) _ _ (λ b. stays q lines p given P _ s is t) (λ b.
     by_if q lines p given (s.stored.length == 0) _ _ (λ b. stays q lines p given P _ s is t) (λ b.
-    stays q lines p given P _ (record s { activity = activity.Running }) is (subst (Tied q lines p given s.stored activity.Running) (sym none) (at.0, at.1, inr half)))))
+    stays q lines p given P _ (record s { activity = activity.Running }) is
+    (subst (Tied q lines p given s.stored activity.Running) (sym none) (at.0, at.1, inr half)))))
 
-next_hold : (q : Geometry) (lines : List (List ℕ)) (p : DurableState) (given : List Item) (P : List ℕ) (s : SessionModel) → P ≡ p.program → Ties q lines p given s → Next q lines p given (hold P s)
+next_hold : (q : Geometry) (lines : List (List ℕ)) (p : DurableState) (given : List Item) (P : List ℕ)
+    (s : SessionModel) → P ≡ p.program → Ties q lines p given s → Next q lines p given (hold P s)
 next_hold q lines p given P s is t =
-    by_if q lines p given (is_running s.activity || is_some s.current) _ _ (λ b. stays q lines p given P _ (record s { held = true }) is t) (λ b. stays q lines p given P _ s is t)
+    by_if q lines p given (is_running s.activity || is_some s.current) _ _
+    (λ b. stays q lines p given P _ (record s { held = true }) is t) (λ b. stays q lines p given P _ s is t)
 
-next_go : (q : Geometry) (lines : List (List ℕ)) (p : DurableState) (given : List Item) (P : List ℕ) (s : SessionModel) → P ≡ p.program → Ties q lines p given s → Next q lines p given (resume_held P s)
+next_go : (q : Geometry) (lines : List (List ℕ)) (p : DurableState) (given : List Item) (P : List ℕ)
+    (s : SessionModel) → P ≡ p.program → Ties q lines p given s → Next q lines p given (resume_held P s)
 next_go q lines p given P s is t =
     by_if q lines p given s.held _ _ (λ b. stays q lines p given P _ (record s { held = false }) is t) (λ b.
     by_if q lines p given (is_running s.activity || is_some s.current) _ _ (λ b. stays q lines p given P _ s is t) (λ quiet.
@@ -218,9 +263,12 @@ next_go q lines p given P s is t =
     let none = none_or s.current (or_right _ _ quiet) in
     let at = stands_at q lines p given s none t in
     let half : p.saved.half ≡ None = ap (λ (x : StoredModel). x.half) (sym at.0) ∙ no_half q lines p given s.stored s.activity busy at in
-    stays q lines p given P _ (record s { activity = activity.Running }) is (subst (Tied q lines p given s.stored activity.Running) (sym none) (at.0, at.1, inr half)))))
+    stays q lines p given P _ (record s { activity = activity.Running }) is
+    (subst (Tied q lines p given s.stored activity.Running) (sym none) (at.0, at.1, inr half)))))
 
-next_mdi : (q : Geometry) (lines : List (List ℕ)) (p : DurableState) (given : List Item) (P : List ℕ) (s : SessionModel) (text : List ℕ) → Contains lines text → P ≡ p.program → Ties q lines p given s → Next q lines p given (mdi q P s text)
+next_mdi : (q : Geometry) (lines : List (List ℕ)) (p : DurableState) (given : List Item) (P : List ℕ)
+    (s : SessionModel) (text : List ℕ) → Contains lines text → P ≡ p.program → Ties q lines p given s
+    → Next q lines p given (mdi q P s text)
 next_mdi q lines p given P s text told is t =
     by_if q lines p given (refuses_mdi s) _ _ (λ b. stays q lines p given P _ s is t) (λ quiet.
     let half = none_or s.stored.half (or_right _ _ quiet) in
@@ -233,7 +281,9 @@ next_mdi q lines p given P s text told is t =
 referenced_none : (x : StoredModel) (point : Point) → x.half ≡ None → (after_reference x point).half ≡ None
 referenced_none x point none = ap (λ (o : Option HalfModel). (referenced x point o).half) none
 
-next_reference : (q : Geometry) (lines : List (List ℕ)) (p : DurableState) (given : List Item) (P : List ℕ) (s : SessionModel) (point : Point) → P ≡ p.program → Ties q lines p given s → Next q lines p given (reference q P s point)
+next_reference : (q : Geometry) (lines : List (List ℕ)) (p : DurableState) (given : List Item) (P : List ℕ)
+    (s : SessionModel) (point : Point) → P ≡ p.program → Ties q lines p given s
+    → Next q lines p given (reference q P s point)
 next_reference q lines p given P s point is t = by_refusal (reference_refusal q s point) refl
   where
     rests_of : (b c : Bool) → (if not b then Some fault.Busy else if not c then Some fault.OutsideTravel else None) ≡ None → b ≡ true
@@ -255,13 +305,15 @@ next_reference q lines p given P s point is t = by_refusal (reference_refusal q 
         let none = rest_none s (rests_of (is_at_rest s) (is_inside q point) h) in
         let at = stands_at q lines p given s none t in
         Adds (Referenced point) refl refl (inside_of (is_at_rest s) (is_inside q point) h) is at.1
-        (subst (Tied q lines (after q p (Referenced point)) [] (after_reference s.stored point) s.activity) (sym none) (ap (λ (x : StoredModel). after_reference x point) at.0, refl, third at.2))
+        (subst (Tied q lines (after q p (Referenced point)) [] (after_reference s.stored point) s.activity)
+        (sym none) (ap (λ (x : StoredModel). after_reference x point) at.0, refl, third at.2))
 
 some_of : (o : Option HalfModel) → is_none o ≡ false → (half : HalfModel) × (o ≡ Some half)
 some_of None h = cc
 some_of (Some half) h = (half, refl)
 
-next_abandon : (q : Geometry) (lines : List (List ℕ)) (p : DurableState) (given : List Item) (P : List ℕ) (s : SessionModel) → P ≡ p.program → Ties q lines p given s → Next q lines p given (abandon P s)
+next_abandon : (q : Geometry) (lines : List (List ℕ)) (p : DurableState) (given : List Item) (P : List ℕ)
+    (s : SessionModel) → P ≡ p.program → Ties q lines p given s → Next q lines p given (abandon P s)
 next_abandon q lines p given P s is t = by_refusal (abandon_refusal s) refl
   where
     rests_of : (b c : Bool) → (if not b then Some fault.Busy else if c then Some fault.NothingHalfDone else None) ≡ None → b ≡ true
@@ -284,10 +336,14 @@ next_abandon q lines p given P s is t = by_refusal (abandon_refusal s) refl
         (subst (Tied q lines (after q p Abandoned) [] (after_abandon s.stored) s.activity) (sym none)
         (ap after_abandon at.0, refl, inr (ap (λ (o : Option HalfModel). (abandoned p.saved o).half) there)))
 
-next_tool : (q : Geometry) (lines : List (List ℕ)) (p : DurableState) (given : List Item) (P : List ℕ) (s : SessionModel) (slot : ℕ) (nm : ℤ) → P ≡ p.program → Ties q lines p given s → Next q lines p given (tool P s slot nm)
+next_tool : (q : Geometry) (lines : List (List ℕ)) (p : DurableState) (given : List Item) (P : List ℕ)
+    (s : SessionModel) (slot : ℕ) (nm : ℤ) → P ≡ p.program → Ties q lines p given s
+    → Next q lines p given (tool P s slot nm)
 next_tool q lines p given P s slot nm is t = by_refusal (tool_refusal s slot nm) refl
   where
-    parts_of : (a b c : Bool) → (if not a then Some fault.Busy else if not b then Some fault.BadSlot else if not c then Some fault.OutOfRange else None) ≡ None → (a ≡ true) × (b ≡ true) × (c ≡ true)
+    parts_of : (a b c : Bool)
+        → (if not a then Some fault.Busy else if not b then Some fault.BadSlot else if not c then Some
+        fault.OutOfRange else None) ≡ None → (a ≡ true) × (b ≡ true) × (c ≡ true)
     parts_of true true true h = (refl, refl, refl)
     parts_of true true false h = cc
     parts_of true false c h = cc
@@ -305,11 +361,15 @@ next_tool q lines p given P s slot nm is t = by_refusal (tool_refusal s slot nm)
         (subst (Tied q lines (after q p (Tooled slot nm)) [] (after_tool s.stored slot nm) s.activity) (sym none)
         (ap (λ (x : StoredModel). after_tool x slot nm) at.0, refl, inr half))
 
-place_same : (P : List ℕ) (place : ℕ) (from : Source) (done : Done) → place_after (next_place_after P place from) place from done.stop ≡ place_after (next_line_start P place) place from done.stop
+place_same : (P : List ℕ) (place : ℕ) (from : Source) (done : Done)
+    → place_after (next_place_after P place from) place from done.stop ≡ place_after (next_line_start P place) place
+    from done.stop
 place_same P place source.Program done = refl
 place_same P place source.Mdi done = refl
 
-resume_done : (q : Geometry) (lines : List (List ℕ)) (P : List ℕ) (s : SessionModel) (half : HalfModel) (from : Point) (r : Result Done Fault) → s.stored.half ≡ Some half → half.at ≡ Some from → done_again q s.stored half.text ≡ r
+resume_done : (q : Geometry) (lines : List (List ℕ)) (P : List ℕ) (s : SessionModel) (half : HalfModel)
+    (from : Point) (r : Result Done Fault) → s.stored.half ≡ Some half → half.at ≡ Some from
+    → done_again q s.stored half.text ≡ r
     → Ties q lines (here P s) [] s → Next q lines (here P s) [] (resume_by P s half from r)
 resume_done q lines P s half from (Err f) held at does t = Stays refl refl t
 resume_done q lines P s half from (Ok done) held at does t = Stays refl refl (record {
@@ -332,15 +392,19 @@ resume_done q lines P s half from (Ok done) held at does t = Stays refl refl (re
   items = refl;
 })
 
-resume_at : (q : Geometry) (lines : List (List ℕ)) (P : List ℕ) (s : SessionModel) (half : HalfModel) (o : Option Point) → s.stored.half ≡ Some half → half.at ≡ o → Ties q lines (here P s) [] s → Next q lines (here P s) [] (resume_from q P s half o)
+resume_at : (q : Geometry) (lines : List (List ℕ)) (P : List ℕ) (s : SessionModel) (half : HalfModel)
+    (o : Option Point) → s.stored.half ≡ Some half → half.at ≡ o → Ties q lines (here P s) [] s
+    → Next q lines (here P s) [] (resume_from q P s half o)
 resume_at q lines P s half None held at t = Stays refl refl t
 resume_at q lines P s half (Some from) held at t = resume_done q lines P s half from _ held at refl t
 
-resume_here : (q : Geometry) (lines : List (List ℕ)) (P : List ℕ) (s : SessionModel) (o : Option HalfModel) → s.stored.half ≡ o → Ties q lines (here P s) [] s → Next q lines (here P s) [] (resume_half q P s o)
+resume_here : (q : Geometry) (lines : List (List ℕ)) (P : List ℕ) (s : SessionModel) (o : Option HalfModel)
+    → s.stored.half ≡ o → Ties q lines (here P s) [] s → Next q lines (here P s) [] (resume_half q P s o)
 resume_here q lines P s None held t = Stays refl refl t
 resume_here q lines P s (Some half) held t = resume_at q lines P s half half.at held refl t
 
-next_resume : (q : Geometry) (lines : List (List ℕ)) (p : DurableState) (given : List Item) (P : List ℕ) (s : SessionModel) → P ≡ p.program → Ties q lines p given s → Next q lines p given (resume q P s)
+next_resume : (q : Geometry) (lines : List (List ℕ)) (p : DurableState) (given : List Item) (P : List ℕ)
+    (s : SessionModel) → P ≡ p.program → Ties q lines p given s → Next q lines p given (resume q P s)
 next_resume q lines p given P s is t =
     by_if q lines p given (not (is_at_rest s)) _ _ (λ b. stays q lines p given P _ s is t) (λ b.
     let none = rest_none s (not_true (is_at_rest s) b) in
@@ -349,15 +413,18 @@ next_resume q lines p given P s is t =
 -- ---- a Tick
 
 -- the entry of a block has the same effect as the block that was worked
-block_after : (q : Geometry) (lines : List (List ℕ)) (p : DurableState) (given : List Item) (x : StoredModel) (c : CurrentBlockModel) (w : IsOnBlock q lines p given x c)
+block_after : (q : Geometry) (lines : List (List ℕ)) (p : DurableState) (given : List Item) (x : StoredModel)
+    (c : CurrentBlockModel) (w : IsOnBlock q lines p given x c)
     → after q p (Block c.source c.text c.block_delete) ≡ record p { saved = after_block (next_line_start p.program p.saved.place) p.saved c.source w.done }
 block_after q lines p given x c w = ap (durable_state_after p c.source) w.block.does
 
-work : (q : Geometry) (lines : List (List ℕ)) (p : DurableState) (given : List Item) (P : List ℕ) (s : SessionModel) (c : CurrentBlockModel) (g : Stage) (its : List Item) (left : List Segment) → P ≡ p.program
+work : (q : Geometry) (lines : List (List ℕ)) (p : DurableState) (given : List Item) (P : List ℕ) (s : SessionModel)
+    (c : CurrentBlockModel) (g : Stage) (its : List Item) (left : List Segment) → P ≡ p.program
     → IsWorked q lines p given s.stored (record c { stage = g; items = its; left = left }) g
     → Next q lines p given (hand_next q P (record s { current = Some (record c { stage = g; items = its; left = left }) }) (first_of its))
 work q lines p given P s c g (item ∷ its) left is w = Stays refl is (worked_item q lines p given s.stored (record c { stage = g; left = left }) item its g w)
-work q lines p given P s c (stage.ToApproach a) [] left is w = Stays refl is (worked_way q p given s.stored (record c { stage = stage.ToApproach a; left = left }) a w)
+work q lines p given P s c (stage.ToApproach a) [] left is w =
+    Stays refl is (worked_way q p given s.stored (record c { stage = stage.ToApproach a; left = left }) a w)
 work q lines p given P s c (stage.OnApproach a) [] left is w =
     let d : CurrentBlockModel = record c { stage = stage.OnApproach a; items = []; left = left } in
     let there = way_done q p d a w.resumed in
@@ -370,23 +437,33 @@ work q lines p given P s c stage.OnBlock [] [] is w =
     let d : CurrentBlockModel = record c { stage = stage.OnBlock; items = []; left = [] } in
     let there = block_after q lines p given s.stored d w in
     Adds (Block c.source c.text c.block_delete) refl refl (w.done, w.block) (is ∙ sym (ap (λ (z : DurableState). z.program) there))
-    (all_given q p given s.stored (record c { stage = stage.OnBlock }) w.done w.stage ∙ sym (ap (items_done q p) w.block.does))
-    (after_is_it q p given s.stored d w.done w.leaves w.stage ∙ sym (ap (λ (z : DurableState). z.saved) there), refl, inr (ap (λ (z : DurableState). z.saved.half) there))
+    (all_given q p given s.stored (record c { stage = stage.OnBlock }) w.done w.stage ∙ sym (ap (items_done q p) w.block.does)) (
+      after_is_it q p given s.stored d w.done w.leaves w.stage ∙ sym (ap (λ (z : DurableState). z.saved) there),
+      refl,
+      inr (ap (λ (z : DurableState). z.saved.half) there),
+    )
 
-next_end : (q : Geometry) (lines : List (List ℕ)) (p : DurableState) (given : List Item) (P : List ℕ) (s : SessionModel) → P ≡ p.program → s.current ≡ None → Ties q lines p given s → Next q lines p given (end q P s None)
+next_end : (q : Geometry) (lines : List (List ℕ)) (p : DurableState) (given : List Item) (P : List ℕ)
+    (s : SessionModel) → P ≡ p.program → s.current ≡ None → Ties q lines p given s
+    → Next q lines p given (end q P s None)
 next_end q lines p given P s is none t =
     by_if q lines p given (is_running s.activity) _ _ (λ runs.
     let half = no_half q lines p given s.stored s.activity (runs_busy s.activity runs) (stands_at q lines p given s none t) in
     to_fold q lines p given P s _ is none t (λ at. begin_here q lines P s _ half none refl)) (λ b. stays q lines p given P _ s is t)
 
-next_work : (q : Geometry) (lines : List (List ℕ)) (p : DurableState) (given : List Item) (P : List ℕ) (s : SessionModel) (o : Option CurrentBlockModel) → P ≡ p.program → Tied q lines p given s.stored s.activity o
+next_work : (q : Geometry) (lines : List (List ℕ)) (p : DurableState) (given : List Item) (P : List ℕ)
+    (s : SessionModel) (o : Option CurrentBlockModel) → P ≡ p.program → Tied q lines p given s.stored s.activity o
     → Next q lines p given (tick q P (record s { current = o }))
 next_work q lines p given P s None is t =
-    by_if q lines p given s.held _ _ (λ b. stays q lines p given P _ (record s { current = None }) is t) (λ b. next_end q lines p given P (record s { current = None }) is refl t)
+    by_if q lines p given s.held _ _ (λ b. stays q lines p given P _ (record s { current = None }) is t)
+    (λ b. next_end q lines p given P (record s { current = None }) is refl t)
 next_work q lines p given P s (Some c) is t =
-    by_if q lines p given s.held _ _ (λ b. stays q lines p given P _ (record s { current = Some c }) is t) (λ b. work q lines p given P s c c.stage c.items c.left is t)
+    by_if q lines p given s.held _ _ (λ b. stays q lines p given P _ (record s { current = Some c }) is t)
+    (λ b. work q lines p given P s c c.stage c.items c.left is t)
 
-pub next_step : {A : Type 0} (q : Geometry) (lines : List (List ℕ)) (p : DurableState) (given : List Item) (P : List ℕ) (s : SessionModel) (e : Event A) → ((text : List ℕ) → Contains (given_by e) text → Contains lines text)
+pub next_step : {A : Type 0} (q : Geometry) (lines : List (List ℕ)) (p : DurableState) (given : List Item)
+    (P : List ℕ) (s : SessionModel) (e : Event A)
+    → ((text : List ℕ) → Contains (given_by e) text → Contains lines text)
     → P ≡ p.program → Ties q lines p given s → Next q lines p given (step q P s e)
 next_step q lines p given P s (event.Load text) told is t = next_load q lines p given P s text is t
 next_step q lines p given P s event.Start told is t = next_start q lines p given P s is t

@@ -1,5 +1,6 @@
 -- A line that is executed keeps feed and speed from falling below 0, and the slots within the tool table.
-use Rattle.std.proofs.Common.{◌≡◌, ℕ, ◌*◌, ◌≤◌, ℤ, pos, negsuc, Bool, true, false, List, [], ◌∷◌, ◌++◌, Option, Some, None, Result, Ok, Err, refl, sym, subst, arith, rules}
+use Rattle.std.proofs.Common.{◌≡◌, ℕ, ◌*◌, ◌≤◌, ℤ, pos, negsuc, Bool, true, false, List, [], ◌∷◌, ◌++◌, Option}
+use Rattle.std.proofs.Common.{Some, None, Result, Ok, Err, refl, sym, subst, arith, rules}
 use Rattle.std.specs.Prelude.{◌≤ℤ◌, cond, unsigned_abs, nat_le, unwrap_or, IfSome}
 use Rattle.ng_num.specs.declared.fault.Fault.{Fault}
 use Rattle.ng_num.specs.declared.fault.Fault.TheVariants.{OutOfRange}
@@ -166,13 +167,16 @@ outputs-fit b m mode slots o shown few is fits =
 -- ---- the machine after a block
 
 pub block-stands : (b : Block) (m after : ModalState) (slots : ℕ) (shown : Shown) → slots ≤ greatest_slot → IsAccepted b m.modes slots → IsStorableModalState m
-    → feed_of b m ≡ Ok after.feed_per_min → after.outputs ≡ stop_outputs b.m.stop (outputs_after m.outputs (actions_of b (feed_mode_after b m.modes) m.outputs shown))
+    → feed_of b m ≡ Ok after.feed_per_min
+    → after.outputs ≡ stop_outputs b.m.stop
+    (outputs_after m.outputs (actions_of b (feed_mode_after b m.modes) m.outputs shown))
     → IsStorableModalState after
 block-stands b m after slots shown few is can feed outputs =
     let fits : Fits m.outputs = record { speed = can.speed; selected = can.selected; held = can.held } in
     let out : Fits after.outputs = subst Fits (sym outputs) (outputs-fit b m.modes (feed_mode_after b m.modes) slots m.outputs shown few is fits) in
     record {
-      feed = feed-from_zero (feed_word (feed_mode_after b m.modes) b.values.f) m.modes.unit m.feed_per_min after.feed_per_min (word-from_zero (feed_mode_after b m.modes) b.values.f is.feed) can.feed feed;
+      feed = feed-from_zero (feed_word (feed_mode_after b m.modes) b.values.f) m.modes.unit m.feed_per_min
+          after.feed_per_min (word-from_zero (feed_mode_after b m.modes) b.values.f is.feed) can.feed feed;
       speed = out.speed;
       selected = out.selected;
       held = out.held;

@@ -1,5 +1,6 @@
 -- The state after a line can be stored if the state before it can be.
-use Rattle.std.proofs.Common.{◌≡◌, ℕ, ◌-◌, ◌≤◌, ℤ, Bool, true, false, cond, List, [], ◌∷◌, length, Option, Some, None, Result, Ok, Err, refl, sym, ◌∙◌, ap, subst, arith}
+use Rattle.std.proofs.Common.{◌≡◌, ℕ, ◌-◌, ◌≤◌, ℤ, Bool, true, false, cond, List, [], ◌∷◌, length, Option, Some}
+use Rattle.std.proofs.Common.{None, Result, Ok, Err, refl, sym, ◌∙◌, ap, subst, arith}
 use Rattle.std.specs.Prelude.{◌&&◌, MatchResult, OnOk, IfSome}
 use Rattle.ng_num.specs.declared.point.Point.{Point}
 use Rattle.std.specs.List.{enumerate_from}
@@ -52,14 +53,16 @@ unless-refused : {X : Type 0} (o : Option Fault) (answer : Result X Fault) (x : 
 unless-refused None answer x e = e
 unless-refused (Some fault) answer x e = absurd (cc e)
 
-feed-found : (b : Block) (s : StateModel) (assignments : List Change) (tools : List ℤ) (geometry : Geometry) (goal : Goal) → goal_of b assignments s tools geometry ≡ Ok goal → feed_of b s.modal ≡ Ok goal.feed_per_min
+feed-found : (b : Block) (s : StateModel) (assignments : List Change) (tools : List ℤ) (geometry : Geometry)
+    (goal : Goal) → goal_of b assignments s tools geometry ≡ Ok goal → feed_of b s.modal ≡ Ok goal.feed_per_min
 feed-found b s assignments tools geometry goal e =
     let feed = found (feed_of b s.modal) _ goal e in
     let way = found (path_after_bearings b assignments s tools feed.0 geometry) _ goal feed.2 in
     let kept = found (kept_of b s.modal) _ goal way.2 in
     feed.1 ∙ ap (λ (g : Goal). Ok g.feed_per_min) (same _ goal kept.2)
 
-values-keep : (s : StateModel) (remark : List CanonModel) (values : Settled) (tools : List ℤ) (geometry : Geometry) → length tools ≤ greatest_slot → Keeps s (executed_values s remark values tools geometry)
+values-keep : (s : StateModel) (remark : List CanonModel) (values : Settled) (tools : List ℤ) (geometry : Geometry)
+    → length tools ≤ greatest_slot → Keeps s (executed_values s remark values tools geometry)
 unfolding executed_values
 values-keep s remark values tools geometry few done e can =
     let block = found (checked values.words s.modal.modes (length tools)) _ done e in
@@ -70,7 +73,8 @@ values-keep s remark values tools geometry few done e can =
     subst (λ (d : Done). IsStorableModalState d.setup.modal) is
     (block-stands b s.modal _ (length tools) goal.0.shown few accepted can (feed-found b s values.assignments tools geometry goal.0 goal.1) refl)
 
-pieces-keep : (s : StateModel) (pieces : List Piece) (tools : List ℤ) (geometry : Geometry) → length tools ≤ greatest_slot → Keeps s (executed_pieces s pieces tools geometry)
+pieces-keep : (s : StateModel) (pieces : List Piece) (tools : List ℤ) (geometry : Geometry)
+    → length tools ≤ greatest_slot → Keeps s (executed_pieces s pieces tools geometry)
 unfolding executed_pieces
 pieces-keep s pieces tools geometry few done e can =
     let values = found (settled_pieces pieces s.params) _ done e in
@@ -110,16 +114,24 @@ kept (Err fault) s does done keeps e = tt
 
 -- a line by itself, and one after others
 pub alone-stands : {T : Type 0} (r : Result T Fault) (t : TermsModel) (s : StateModel) (text : List ℕ) (done : Done) → length t.tools ≤ greatest_slot
-    → MatchResult r (λ x. executed_unless_deleted t s text ≡ Ok done) (λ fault. executed_unless_deleted t s text ≡ Err fault) → OnOk r (IsStorableModalState s.modal → IsStorableModalState done.setup.modal)
+    → MatchResult r (λ x. executed_unless_deleted t s text ≡ Ok done)
+    (λ fault. executed_unless_deleted t s text ≡ Err fault)
+    → OnOk r (IsStorableModalState s.modal → IsStorableModalState done.setup.modal)
 alone-stands r t s text done few = kept r s (executed_unless_deleted t s text) done (alone-keeps t s text few)
 
-pub after-stands : {T : Type 0} (r : Result T Fault) (t : TermsModel) (first : LineKind) (s : StateModel) (text : List ℕ) (done : Done) → length t.tools ≤ greatest_slot
-    → MatchResult r (λ x. executed_after t first s text ≡ Ok done) (λ fault. executed_after t first s text ≡ Err fault) → OnOk r (IsStorableModalState s.modal → IsStorableModalState done.setup.modal)
+pub after-stands : {T : Type 0} (r : Result T Fault) (t : TermsModel) (first : LineKind) (s : StateModel)
+    (text : List ℕ) (done : Done) → length t.tools ≤ greatest_slot
+    → MatchResult r (λ x. executed_after t first s text ≡ Ok done)
+    (λ fault. executed_after t first s text ≡ Err fault)
+    → OnOk r (IsStorableModalState s.modal → IsStorableModalState done.setup.modal)
 after-stands r t first s text done few = kept r s (executed_after t first s text) done (after-keeps t first s text few)
 
 -- a half-done block
-pub again-stands : {T : Type 0} (r : Result T Fault) (s : StateModel) (tools : List ℤ) (geometry : Geometry) (text : List ℕ) (done : Done) → length tools ≤ greatest_slot
-    → MatchResult r (λ x. executed s tools geometry text ≡ Ok done) (λ fault. executed s tools geometry text ≡ Err fault) → OnOk r (IsStorableModalState s.modal → IsStorableModalState done.setup.modal)
+pub again-stands : {T : Type 0} (r : Result T Fault) (s : StateModel) (tools : List ℤ) (geometry : Geometry)
+    (text : List ℕ) (done : Done) → length tools ≤ greatest_slot
+    → MatchResult r (λ x. executed s tools geometry text ≡ Ok done)
+    (λ fault. executed s tools geometry text ≡ Err fault)
+    → OnOk r (IsStorableModalState s.modal → IsStorableModalState done.setup.modal)
 again-stands r s tools geometry text done few = kept r s (executed s tools geometry text) done (line-keeps s tools geometry text few)
 
 -- ---- what is stored after a block and after a load
@@ -136,7 +148,8 @@ place-within next place limit source stop first second = by (is_end stop) source
     by false Program = first
     by false Mdi = second
 
-pub next_storable : (x : StoredModel) (next : ℕ) (source : Source) (e : Effect) → IsStorable x → next ≤ x.length → IsStorableModalState e.modal → IsNextEntry x (after_block next x source (in_state x.setup e))
+pub next_storable : (x : StoredModel) (next : ℕ) (source : Source) (e : Effect) → IsStorable x → next ≤ x.length
+    → IsStorableModalState e.modal → IsNextEntry x (after_block next x source (in_state x.setup e))
 next_storable x next source e was within can = record {
   count = refl;
   same = refl;
@@ -166,7 +179,15 @@ load_storable x length_new was short = record {
 
 -- with a half-done block in addition
 pub half_storable : (x : StoredModel) (half : HalfModel) → IsStorable x → IsStorableHalf half → IsStorable (record x { half = Some half })
-half_storable x half was waits = record { table = was.table; modal = was.modal; half = waits; place = was.place; program = was.program; room = was.room; tools = was.tools }
+half_storable x half was waits = record {
+  table = was.table;
+  modal = was.modal;
+  half = waits;
+  place = was.place;
+  program = was.program;
+  room = was.room;
+  tools = was.tools;
+}
 
 -- after an approach
 pub approach_storable : (x : StoredModel) (half : HalfModel) (point : Point) → IsStorable x → length half.text ≤ 256 → IsNextEntry x (reached x half point)
@@ -175,7 +196,17 @@ approach_storable x half point was short = record {
   same = refl;
   tools = refl;
   room = refl;
-  storable = record { table = was.table; modal = was.modal; half = record { unknown = λ none. let e : false ≡ true = none in cc; text = short }; place = was.place; program = was.program; room = was.room; tools = was.tools };
+  storable = record {
+    table = was.table;
+    modal = was.modal;
+    half =
+        record { unknown = λ none. let e : false ≡ true = none in cc; text = short };
+    place = was.place;
+    program =
+        was.program;
+    room = was.room;
+    tools = was.tools;
+  };
 }
 
 -- after a reference to a point
@@ -183,10 +214,34 @@ pub reference_storable : (x y : StoredModel) (point : Point) → IsStorable x �
 reference_storable x y point was is = subst IsStorable (sym is) (by x.half refl)
   where
     by : (o : Option HalfModel) → x.half ≡ o → IsStorable (referenced x point o)
-    by None held = record { table = was.table; modal = record { feed = was.modal.feed; speed = was.modal.speed; selected = was.modal.selected; held = was.modal.held }; half = tt; place = was.place; program = was.program; room = was.room; tools = was.tools }
+    by None held = record {
+      table = was.table;
+      modal = record {
+        feed = was.modal.feed;
+        speed = was.modal.speed;
+        selected =
+            was.modal.selected;
+        held = was.modal.held;
+      };
+      half = tt;
+      place = was.place;
+      program = was.program;
+      room =
+          was.room;
+      tools = was.tools;
+    }
     by (Some half) held =
         let waits : IsStorableHalf half = subst (λ (o : Option HalfModel). IfSome o IsStorableHalf) held was.half in
-        record { table = was.table; modal = was.modal; half = record { unknown = λ none. let e : false ≡ true = none in cc; text = waits.text }; place = was.place; program = was.program; room = was.room; tools = was.tools }
+        record {
+          table = was.table;
+          modal = was.modal;
+          half =
+              record { unknown = λ none. let e : false ≡ true = none in cc; text = waits.text };
+          place = was.place;
+          program = was.program;
+          room = was.room;
+          tools = was.tools;
+        }
 
 -- after a half-done block is given up
 pub abandon_storable : (x y : StoredModel) → IsStorable x → y ≡ after_abandon x → IsStorable y
@@ -194,8 +249,33 @@ abandon_storable x y was is = subst IsStorable (sym is) (by x.half)
   where
     by : (o : Option HalfModel) → IsStorable (abandoned x o)
     by None = was
-    by (Some half) = record { table = was.table; modal = record { feed = was.modal.feed; speed = was.modal.speed; selected = was.modal.selected; held = was.modal.held }; half = tt; place = was.place; program = was.program; room = was.room; tools = was.tools }
+    by (Some half) = record {
+      table = was.table;
+      modal = record {
+        feed = was.modal.feed;
+        speed = was.modal.speed;
+        selected =
+            was.modal.selected;
+        held = was.modal.held;
+      };
+      half = tt;
+      place = was.place;
+      program = was.program;
+      room =
+          was.room;
+      tools = was.tools;
+    }
 
 -- a table with a number of entries
-pub tool_storable : (x : StoredModel) (tools : List ℤ) (entries : ℕ) → IsStorable x → AreTools tools → IsStorable (record x { entries = entries; tools = tools })
-tool_storable x tools entries was few = record { table = was.table; modal = was.modal; half = was.half; place = was.place; program = was.program; room = was.room; tools = few }
+pub tool_storable : (x : StoredModel) (tools : List ℤ) (entries : ℕ) → IsStorable x → AreTools tools
+    → IsStorable (record x { entries = entries; tools = tools })
+tool_storable x tools entries was few = record {
+  table = was.table;
+  modal = was.modal;
+  half = was.half;
+  place =
+      was.place;
+  program = was.program;
+  room = was.room;
+  tools = few;
+}

@@ -33,18 +33,30 @@ pub data UncommittedTail (geometry : Geometry) (lines : List (List ℕ)) (x : Du
       → approach_in geometry x ≡ Some approach
       → begun ++ left ≡ hand_approach geometry approach
       → UncommittedTail geometry lines x next (record x.saved { half = Some (record half { at = None; opened = Some open_part.Approach }) }) begun
-  Segment_open : (source : Source) (text : List ℕ) (block_delete : Bool) (done : Done) (before : List Segment) (segment : Segment) (rest : List Segment) (begun left : List Item) (later : List Entry)
+  Segment_open : (source : Source) (text : List ℕ) (block_delete : Bool) (done : Done) (before : List Segment)
+      (segment : Segment) (rest : List Segment) (begun left : List Item) (later : List Entry)
       → next ≡ Block source text block_delete ∷ later
       → IsBlock geometry lines x source text block_delete done
       → still_to_do x done ≡ before ++ segment ∷ rest
       → begun ++ left ≡ hand segment geometry
       → UncommittedTail geometry lines x next
-      (record x.saved { half = Some (record { text = text; source = source; index = number_after (first_to_do x.saved.half) before; at = None; opened = Some open_part.Segment }) })
+      (record x.saved {
+        half =
+            Some (record {
+              text = text;
+              source = source;
+              index = number_after (first_to_do x.saved.half) before;
+              at =
+                  None;
+              opened = Some open_part.Segment;
+            });
+      })
       (hand_all geometry before ++ begun)
 
 -- What a power cut leaves, given the committed entries and those that come next. Each entry may be committed where it
 -- comes. The stored state is the fold's, and so are the items handed out, each with what may follow.
-pub record IsCut (geometry : Geometry) (lines : List (List ℕ)) (x : DurableState) (before : List Item) (entries next : List Entry) (left : CrashState) : Type 0 where
+pub record IsCut (geometry : Geometry) (lines : List (List ℕ)) (x : DurableState) (before : List Item)
+    (entries next : List Entry) (left : CrashState) : Type 0 where
   pub valid : FollowFold geometry lines x entries
   pub program : left.standing.program ≡ (after_all geometry x entries).program
   pub more : List Item
@@ -55,5 +67,7 @@ pub record IsCut (geometry : Geometry) (lines : List (List ℕ)) (x : DurableSta
 -- coming next. Each of these entries was acknowledged.
 abbrev pub CrashAfterEvents : Type 0 → Type 0
 CrashAfterEvents A = (geometry : Geometry) (x : DurableState) (before : List Item) (events : List (Event A)) →
-    IsCut geometry (lines_given events) x before (entries_of geometry (session_at_power_on x) events) (under_way geometry (session_at_power_on x) events) (crash_after geometry (session_at_power_on x) before events)
+    IsCut geometry (lines_given events) x before (entries_of geometry (session_at_power_on x) events)
+    (under_way geometry (session_at_power_on x) events)
+    (crash_after geometry (session_at_power_on x) before events)
     × (length (entries_of geometry (session_at_power_on x) events) ≡ dones (replies_of geometry (session_at_power_on x) events))

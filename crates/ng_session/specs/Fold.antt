@@ -15,7 +15,9 @@ use Rattle.ng_layout.specs.declared.half.Source.{Source}
 use Rattle.ng_layout.specs.declared.half.Source.TheVariants as source
 use Rattle.ng_text.specs.Programs.{ProgramLineModel, program_line_at, next_line_start}
 use Rattle.ng_canon.specs.declared.geometry.Geometry.{Geometry}
-use Rattle.ng_session.specs.Entries.{Entry, Block, Loaded, Referenced, Approached, Abandoned, Tooled, done_of, done_again, after_block, after_load, stance_before, hand_approach, after_reference, after_approach, after_abandon, after_tool}
+use Rattle.ng_session.specs.Entries.{Entry, Block, Loaded, Referenced, Approached, Abandoned, Tooled, done_of}
+use Rattle.ng_session.specs.Entries.{done_again, after_block, after_load, stance_before, hand_approach}
+use Rattle.ng_session.specs.Entries.{after_reference, after_approach, after_abandon, after_tool}
 use Rattle.ng_session.specs.declared.stage.Approach.{Approach}
 
 -- what a block does: the half-done block, if there is one
@@ -119,7 +121,8 @@ IsTextOf lines x None source text block_delete done = IsGiven lines x source tex
 IsTextOf lines x (Some half) source text block_delete done = (source ≡ half.source) × (block_delete ≡ false) × ResumesHalf x.saved half text done
 
 -- a block that may be worked: it isn't refused
-pub record IsBlock (geometry : Geometry) (lines : List (List ℕ)) (x : DurableState) (source : Source) (text : List ℕ) (block_delete : Bool) (done : Done) : Type 0 where
+pub record IsBlock (geometry : Geometry) (lines : List (List ℕ)) (x : DurableState) (source : Source)
+    (text : List ℕ) (block_delete : Bool) (done : Done) : Type 0 where
   pub does : done_in geometry x source text block_delete ≡ Ok done
   pub text_is : IsTextOf lines x x.saved.half source text block_delete done
 

@@ -1,5 +1,6 @@
 -- For each event: the reply, what is handed out and committed, and the session after it (own).
-use Rattle.std.specs.Prelude.{◌≡◌, ℕ, ℤ, ◌+◌, ◌==◌, nat_lt, min, Bool, true, false, not, ◌&&◌, ◌||◌, if◌then◌else◌, Option, None, Some, unwrap_or, Result, Ok, Err, List, [], ◌∷◌, drop, length}
+use Rattle.std.specs.Prelude.{◌≡◌, ℕ, ℤ, ◌+◌, ◌==◌, nat_lt, min, Bool, true, false, not, ◌&&◌, ◌||◌, if◌then◌else◌}
+use Rattle.std.specs.Prelude.{Option, None, Some, unwrap_or, Result, Ok, Err, List, [], ◌∷◌, drop, length}
 use Rattle.std.specs.Option.{is_some, is_none, option_map}
 use Rattle.ng_num.specs.declared.point.Point.{Point}
 use Rattle.ng_num.specs.declared.fault.Fault.{Fault}
@@ -22,7 +23,9 @@ use Rattle.ng_layout.specs.declared.half.Source.TheVariants as source
 use Rattle.ng_layout.specs.declared.half.Opened.{Opened}
 use Rattle.ng_layout.specs.declared.half.Opened.TheVariants as open_part
 use Rattle.ng_text.specs.Programs.{ProgramLineModel, lines_before, program_line_at, next_line_start}
-use Rattle.ng_session.specs.Entries.{Entry, Block, Loaded, Referenced, Approached, Abandoned, Tooled, done_of, done_again, place_after, after_load, stance_before, hand_approach, after_reference, after_abandon, after_tool}
+use Rattle.ng_session.specs.Entries.{Entry, Block, Loaded, Referenced, Approached, Abandoned, Tooled, done_of}
+use Rattle.ng_session.specs.Entries.{done_again, place_after, after_load, stance_before, hand_approach}
+use Rattle.ng_session.specs.Entries.{after_reference, after_abandon, after_tool}
 use Rattle.ng_session.specs.declared.activity.Activity.{Activity}
 use Rattle.ng_session.specs.declared.activity.Activity.TheVariants as activity
 use Rattle.ng_session.specs.declared.reply.Reply.{Reply}
@@ -448,7 +451,9 @@ begin_by program s line (Ok done) =
 
 -- a program whose text ends without a program end stops there
 abbrev pub break_off : List ℕ → SessionModel → Transition
-break_off program s = answers program (reply.Refused (missing_end (first_kind (lines_before program s.stored.place)))) (record s { activity = activity.Stopped })
+break_off program s =
+    answers program (reply.Refused (missing_end (first_kind (lines_before program s.stored.place))))
+    (record s { activity = activity.Stopped })
 
 abbrev pub begin : Geometry → List ℕ → SessionModel → Option ProgramLineModel → Transition
 begin geometry program s None = break_off program s

@@ -40,7 +40,8 @@ MayFollow next header image = (next.format ≡ header.format) ⊎ ((header.forma
 
 -- An image stands for the one state under a header or for the other under the next, and has no record of a later epoch;
 -- nothing was handed out.
-pub record IsEitherUnder (header next : Header) (before after : Result DurableState Fault) (given : List Item) (image : Image) (handed : List Item) : Type 0 where
+pub record IsEitherUnder (header next : Header) (before after : Result DurableState Fault) (given : List Item)
+    (image : Image) (handed : List Item) : Type 0 where
   pub state : ((in_force image ≡ Some header) × (stands image ≡ before)) ⊎ ((in_force image ≡ Some next) × (stands image ≡ after))
   pub written : IsWritten image
   pub handed_is : handed ≡ given
@@ -51,7 +52,8 @@ pub record BeginsIn (image : Image) (header : Header) (standing : DurableState) 
   pub force : in_force image ≡ Some header
   pub written : IsWritten image
   pub clean : (m : ℕ) → m < shortest_log → number_at 8 0 (image (log_first + m)) ≢ header.epoch
-  pub snapshot_is : snapshot header.format header.length (stretch (snapshot_first header.epoch) snapshot_size image) (stretch (tools_first header.epoch) tools_size image) ≡ Some (replay_state_in standing.saved)
+  pub snapshot_is : snapshot header.format header.length (stretch (snapshot_first header.epoch) snapshot_size image)
+      (stretch (tools_first header.epoch) tools_size image) ≡ Some (replay_state_in standing.saved)
   pub program : program_under header image ≡ standing.program
   pub long : standing.saved.length ≡ header.length
   pub room : standing.saved.room ≡ program_room (is_large image)

@@ -20,11 +20,14 @@ from_log image m = image (log_first + m)
 
 -- a part with this label begins a record at the end of a log
 abbrev pub begins : PartHeader → Header → LogEnd → Bool
-begins first header end = (first.epoch == header.epoch) && (first.number == end.number) && (first.part == 0) && (first.parts == parts_for first.changes) && nat_le (end.sector + first.parts) (log_size_of header)
+begins first header end = (first.epoch == header.epoch) && (first.number == end.number) && (first.part == 0) &&
+    (first.parts == parts_for first.changes) && nat_le (end.sector + first.parts) (log_size_of header)
 
 -- all later parts of a record are there, or one of the parts isn't
 abbrev pub LaterPartsStand : ℕ → PartHeader → Image → Bool → Type 0
-LaterPartsStand at first image whole = MatchBool whole ((j : ℕ) → 0 < j → j < first.parts → is_part (record first { part = j }) (from_log image (at + j)) ≡ true) (parts_stand (from_log image) at first first.parts ≡ false)
+LaterPartsStand at first image whole = MatchBool whole ((j : ℕ) → 0 < j → j < first.parts
+    → is_part (record first { part = j }) (from_log image (at + j)) ≡ true)
+    (parts_stand (from_log image) at first first.parts ≡ false)
 
 -- the first changes of a record are applied to a table
 pub record MakesAll (log : Image) (at n : ℕ) (old new : List ℤ) : Type 0 where
@@ -56,7 +59,9 @@ pub record IsDamaged (format : Format) (length : ℕ) (log : Image) (epoch : ℕ
 abbrev pub IsNextOf : Header → LogEnd → StoredModel → StoredModel → Image → Next → Type 0
 IsNextOf header end old new image Last = (next header.format header.length (log_of header image) header.epoch (position_of end old) ≡ None) × (new ≡ old)
 IsNextOf header end old new image Damaged = IsDamaged header.format header.length (log_of header image) header.epoch (position_of end old)
-IsNextOf header end old new image (After after) = (next header.format header.length (log_of header image) header.epoch (position_of end old) ≡ Some (position_of after new)) × (new.length ≡ header.length)
+IsNextOf header end old new image (After after) =
+    (next header.format header.length (log_of header image) header.epoch (position_of end old) ≡ Some
+    (position_of after new)) × (new.length ≡ header.length)
 
 -- it is within the log, and further on than another
 pub record IsFurther (header : Header) (from to : LogEnd) : Type 0 where

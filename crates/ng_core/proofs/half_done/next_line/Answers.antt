@@ -14,17 +14,20 @@ returns-in-Some-clause-next g c =
     let place = c.place-place.result in
     let at : place ≡ c.args.session.now.stored.place = c.place-place.ensures.value in
     let reading = subst (λ (n : ℕ). Reading {E = Fault} g.R.Rig.seen (Ok (Some c.in-Some.line)) n c.args.journal.now c.program_line.new.self) at
-    (subst (λ (l : Option ProgramLineModel). Reading {E = Fault} g.R.Rig.seen (Ok l) place c.args.journal.now c.program_line.new.self) c.in-Some.is c.in_ok-line.ensures.line) in
+    (subst (λ (l : Option ProgramLineModel). Reading {E = Fault} g.R.Rig.seen (Ok l) place c.args.journal.now
+    c.program_line.new.self) c.in-Some.is c.in_ok-line.ensures.line) in
     finds_next {E = Fault} {F = Fault} g.R.Rig.seen (Some c.in-Some.line) c.line.inside.next c.args.session.now c.args.journal.now c.program_line.new.self
     (c.is_programs_line.ensures.yes c.if-not-is_programs_line.false)
-    (λ program found. ap (λ (l : ProgramLineModel). l.next) c.line.view_is ∙ line_next program c.args.session.now.stored.place c.in-Some.line (sym found)) reading
+    (λ program found. ap (λ (l : ProgramLineModel). l.next) c.line.view_is
+    ∙ line_next program c.args.session.now.stored.place c.in-Some.line (sym found)) reading
 
 pub returns-in-None-clause-next : goal.returns-in-None-clause-next
 returns-in-None-clause-next g c =
     let place = c.place-place.result in
     let at : place ≡ c.args.session.now.stored.place = c.place-place.ensures.value in
     let reading = subst (λ (n : ℕ). Reading {E = Fault} g.R.Rig.seen (Ok None) n c.args.journal.now c.program_line.new.self) at
-    (subst (λ (l : Option ProgramLineModel). Reading {E = Fault} g.R.Rig.seen (Ok l) place c.args.journal.now c.program_line.new.self) c.in-None.is c.in_ok-line.ensures.line) in
+    (subst (λ (l : Option ProgramLineModel). Reading {E = Fault} g.R.Rig.seen (Ok l) place c.args.journal.now
+    c.program_line.new.self) c.in-None.is c.in_ok-line.ensures.line) in
     finds_next {E = Fault} {F = Fault} g.R.Rig.seen None place c.args.session.now c.args.journal.now c.program_line.new.self
     (c.is_programs_line.ensures.yes c.if-not-is_programs_line.false)
     (λ program end. at ∙ after_end program c.args.session.now.stored.place end) reading

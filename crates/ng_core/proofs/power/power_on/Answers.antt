@@ -35,7 +35,13 @@ returns-clause-gives g c =
 -- without memory the device isn't called
 pub returns-in-Err-clause-gives : goal.returns-in-Err-clause-gives
 returns-in-Err-clause-gives g c = record {
-  powers = λ room tools table. promised (record { recovers = recovered_nothing tools c.args.rig (g.R.Rig.seen c.args.rig).trace; rests = λ written. tt; force = tt });
+  powers = λ room tools table.
+      promised (record {
+        recovers = recovered_nothing tools c.args.rig (g.R.Rig.seen c.args.rig).trace;
+        rests =
+            λ written. tt;
+        force = tt;
+      });
   rests = tt;
   geometry = tt;
   small = λ few. absurd (omega (arith, few, c.size.ensures.value, c.if-size-lt-LEAST_SIZE.false));

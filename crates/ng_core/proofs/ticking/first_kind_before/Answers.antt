@@ -12,7 +12,8 @@ returns-in-Some-clause-kind g c = finds_known g.R.Rig.seen c.args.known.now.befo
     (λ program known. c.in-Some.ensures.holds program (subst (λ k. IsTrueOf program k) (sym c.lines_before.ensures) known))
 
 pub returns-in-None-clause-kind : goal.returns-in-None-clause-kind
-returns-in-None-clause-kind g c = finds_asked g.R.Rig.seen c.first_kind.result c.args.known.now.before c.args.place c.args.journal.now c.first_kind.new.self c.first_kind.ensures.kind
+returns-in-None-clause-kind g c = finds_asked g.R.Rig.seen c.first_kind.result c.args.known.now.before c.args.place
+    c.args.journal.now c.first_kind.new.self c.first_kind.ensures.kind
 
 pub returns-in-Some-clause-unwritten : goal.returns-in-Some-clause-unwritten
 returns-in-Some-clause-unwritten g c = promised refl

@@ -8,6 +8,12 @@ use Rattle.ng_dry.proofs.dry_run.dry_from.Given as goal
 abbrev pub invariant-loop-turn : goal.invariant-loop-turn
 invariant-loop-turn g l =
     ((before : List ℕ) × Consumes (g.R.Read.remaining l.fn.reader) (g.R.Read.remaining l.reader) before
-    × Goes (g.W.Write.contents l.fn.writer) (g.W.Write.contents l.writer) (λ more. output_from (record { block_delete = l.fn.block_delete; tools = l.fn.tools; geometry = l.fn.geometry }) l.fn.state (before ++ more)) (λ more. rest_of l.splitter.run l.splitter.kept.items more))
+    × Goes (g.W.Write.contents l.fn.writer) (g.W.Write.contents l.writer)
+    (λ more. output_from (record {
+      block_delete = l.fn.block_delete;
+      tools = l.fn.tools;
+      geometry =
+          l.fn.geometry;
+    }) l.fn.state (before ++ more)) (λ more. rest_of l.splitter.run l.splitter.kept.items more))
     × HasNoNewline l.splitter.kept.items
     × (l.splitter.run.number ≤ 1 + 8192 * l.turn)

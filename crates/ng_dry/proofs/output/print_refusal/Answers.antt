@@ -6,4 +6,6 @@ use Rattle.ng_dry.proofs.output.print_refusal.Goals as goal
 pub returns-in-Ok-clause-ok : goal.returns-in-Ok-clause-ok
 unfolding refusal_text
 returns-in-Ok-clause-ok g c =
-    c.in-Ok.ensures.ok ∙ ap (λ (why : List ℕ). c.args.text.now.items ++ (codes "REFUSED line " ++ decimal c.args.number ++ codes ": " ++ (why ++ codes "\n"))) c.text.ensures
+    c.in-Ok.ensures.ok ∙ ap
+    (λ (why : List ℕ). c.args.text.now.items ++ (codes "REFUSED line " ++ decimal c.args.number ++ codes
+    ": " ++ (why ++ codes "\n"))) c.text.ensures

@@ -21,7 +21,8 @@ text-Some : (text : List ℕ) (feed : Option ℤ) (f : ℤ) (move : CanonicalCom
 unfolding canonical_text
 text-Some text feed f move some =
     ap (λ (o : Option ℤ). text ++ commands_text (moved o move)) some
-    ∙ ap (λ l. text ++ (command_text (FeedRate f) ++ l)) (append-nil (command_text move)) ∙ sym (append_assoc text (command_text (FeedRate f)) (command_text move))
+    ∙ ap (λ l. text ++ (command_text (FeedRate f) ++ l)) (append-nil (command_text move))
+    ∙ sym (append_assoc text (command_text (FeedRate f)) (command_text move))
 
 pub returns-in-None : goal.returns-in-None
 returns-in-None g c =

@@ -12,7 +12,9 @@ returns-in_err-write_areas-clause-stops g c =
     rw p.1 (record {
       keeps = area.keeps;
       back = area.back;
-      holds = λ h room header w later follows fits. exit_areas p.0 c.write_areas.result _ _ header c.args.next (with_room room c.args.stored.now) (record { at = w; epoch = later; follows = follows }) (areas_kept room c.write_areas.result c.args.next c.args.stored.now _ _ (area.holds h));
+      holds = λ h room header w later follows fits. exit_areas p.0 c.write_areas.result _ _ header c.args.next
+          (with_room room c.args.stored.now) (record { at = w; epoch = later; follows = follows })
+          (areas_kept room c.write_areas.result c.args.next c.args.stored.now _ _ (area.holds h));
     })
 
 pub returns-in_err-sync-clause-stops : goal.returns-in_err-sync-clause-stops
@@ -23,7 +25,10 @@ returns-in_err-sync-clause-stops g c =
     rw p.1 (record {
       keeps = λ h. sync.keeps (area.keeps h);
       back = λ h. area.back (sync.back h);
-      holds = λ h room header w later follows fits. exit_sync p.0 c.write_areas.result _ _ _ header c.args.next (with_room room c.args.stored.now) (record { at = w; epoch = later; follows = follows }) (areas_kept room c.write_areas.result c.args.next c.args.stored.now _ _ (area.holds h)) (sync.holds (area.keeps h));
+      holds = λ h room header w later follows fits. exit_sync p.0 c.write_areas.result _ _ _ header c.args.next
+          (with_room room c.args.stored.now) (record { at = w; epoch = later; follows = follows })
+          (areas_kept room c.write_areas.result c.args.next c.args.stored.now _ _ (area.holds h))
+          (sync.holds (area.keeps h));
     })
 
 pub returns-in_err-write-clause-stops : goal.returns-in_err-write-clause-stops
@@ -38,8 +43,12 @@ returns-in_err-write-clause-stops g c =
       keeps = λ h. write.keeps (sync.keeps (area.keeps h));
       back = λ h. area.back (sync.back (write.back h));
       holds = λ h room header w later follows fits.
-          let r = ready _ _ _ header new (with_room room stored) c.header_sector.result (record { at = w; epoch = later; follows = follows }) (areas_kept room _ new stored _ _ (area.holds h)) c.requires.storable.table c.requires.storable.tools c.requires.tools c.header_sector.ensures.read fits (sym c.requires.long) in
-          exit_header p.0 c.write.result _ _ _ _ header new (with_room room stored) c.header_sector.result r (sync.holds (area.keeps h)) (write.holds (sync.keeps (area.keeps h)));
+          let r = ready _ _ _ header new (with_room room stored) c.header_sector.result
+          (record { at = w; epoch = later; follows = follows })
+          (areas_kept room _ new stored _ _ (area.holds h)) c.requires.storable.table c.requires.storable.tools
+          c.requires.tools c.header_sector.ensures.read fits (sym c.requires.long) in
+          exit_header p.0 c.write.result _ _ _ _ header new (with_room room stored) c.header_sector.result r
+          (sync.holds (area.keeps h)) (write.holds (sync.keeps (area.keeps h)));
     })
 
 pub returns-clause-stops : goal.returns-clause-stops
@@ -54,8 +63,13 @@ returns-clause-stops g c =
       keeps = λ h. last.keeps (write.keeps (sync.keeps (area.keeps h)));
       back = λ h. area.back (sync.back (write.back (last.back h)));
       holds = λ h room header w later follows fits.
-          let r = ready _ _ _ header new (with_room room stored) c.header_sector.result (record { at = w; epoch = later; follows = follows }) (areas_kept room _ new stored _ _ (area.holds h)) c.requires.storable.table c.requires.storable.tools c.requires.tools c.header_sector.ensures.read fits (sym c.requires.long) in
-          finished c.sync-2.result _ _ _ _ _ header new (with_room room stored) c.header_sector.result r (sync.holds (area.keeps h)) (write.holds (sync.keeps (area.keeps h))) (last.holds (write.keeps (sync.keeps (area.keeps h))));
+          let r = ready _ _ _ header new (with_room room stored) c.header_sector.result
+          (record { at = w; epoch = later; follows = follows })
+          (areas_kept room _ new stored _ _ (area.holds h)) c.requires.storable.table c.requires.storable.tools
+          c.requires.tools c.header_sector.ensures.read fits (sym c.requires.long) in
+          finished c.sync-2.result _ _ _ _ _ header new (with_room room stored) c.header_sector.result r
+          (sync.holds (area.keeps h)) (write.holds (sync.keeps (area.keeps h)))
+          (last.holds (write.keeps (sync.keeps (area.keeps h))));
     }
 
 pub returns-in_err-write_areas-clause-stores : goal.returns-in_err-write_areas-clause-stores
@@ -95,7 +109,12 @@ returns-in_err-write-clause-stores g c =
       holds = λ h.
           let one = state_areas c.write_areas.result new c.args.stored.now _ _ (area.holds h) in
           let two = state_sync c.sync.result new c.args.stored.now _ _ _ one (sync.holds (area.keeps h)) in
-          record { writes = state_header c.write.result new c.args.stored.now c.header_sector.result _ _ _ c.header_sector.ensures.holds two (write.holds (sync.keeps (area.keeps h))); laid = tt; synced = tt };
+          record {
+            writes = state_header c.write.result new c.args.stored.now c.header_sector.result _ _ _
+                c.header_sector.ensures.holds two (write.holds (sync.keeps (area.keeps h)));
+            laid = tt;
+            synced = tt;
+          };
     })
 
 pub returns-clause-stores : goal.returns-clause-stores
@@ -119,7 +138,8 @@ returns-clause-stores g c =
           let end = last.holds (write.keeps (sync.keeps (area.keeps h))) in
           record {
             writes = state_sync c.sync-2.result new c.args.stored.now _ _ _ three end;
-            laid = state_laid c.sync-2.result _ new c.args.stored.now c.header_sector.result _ _ _ _ _ (done.holds h) held (on.holds (area.keeps h)) (put.holds (sync.keeps (area.keeps h))) end;
+            laid = state_laid c.sync-2.result _ new c.args.stored.now c.header_sector.result _ _ _ _ _
+                (done.holds h) held (on.holds (area.keeps h)) (put.holds (sync.keeps (area.keeps h))) end;
             synced = synced_by c.sync-2.result _ _ end;
           };
     }

@@ -11,7 +11,8 @@ returns-in_err-write-clause-area g c =
     rw p.1 (record {
       keeps = λ h. write.keeps (before.keeps h);
       back = λ h. before.back (write.back h);
-      holds = λ h. area_failed p.0 c.write.result c.loop-part.part c.args.first c.args.stored.now c.sector.result _ _ _ c.loop-part-test.true c.sector.ensures (before.holds h) (write.holds (before.keeps h));
+      holds = λ h. area_failed p.0 c.write.result c.loop-part.part c.args.first c.args.stored.now c.sector.result _
+          _ _ c.loop-part-test.true c.sector.ensures (before.holds h) (write.holds (before.keeps h));
     })
 
 pub loop-part-preserved : goal.loop-part-preserved
@@ -22,7 +23,8 @@ loop-part-preserved g c =
       area = record {
         keeps = λ h. write.keeps (before.keeps h);
         back = λ h. before.back (write.back h);
-        holds = λ h. area_more c.loop-part.part c.args.first c.args.stored.now c.sector.result _ _ _ c.loop-part-test.true c.sector.ensures (before.holds h) (write.holds (before.keeps h));
+        holds = λ h. area_more c.loop-part.part c.args.first c.args.stored.now c.sector.result _ _ _
+            c.loop-part-test.true c.sector.ensures (before.holds h) (write.holds (before.keeps h));
       };
       size = c.in_ok-write.ensures.call.size ∙ c.loop-part.invariant.size;
       failures = c.in_ok-write.ensures.call.failures ∙ c.loop-part.invariant.failures;

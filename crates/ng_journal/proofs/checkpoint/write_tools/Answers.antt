@@ -13,7 +13,9 @@ returns-in_err-write-clause-tools g c =
     rw p.1 (record {
       keeps = λ h. write.keeps (before.keeps h);
       back = λ h. before.back (write.back h);
-      holds = λ h. not_written c.loop-part.part (c.args.first + c.loop-part.part) c.args.first tools_size (HoldsToolPart c.args.stored.now) c.tool_sector.result _ _ c.loop-part-test.true refl c.tool_sector.ensures (before.holds h) p.0 c.write.result _ (write.holds (before.keeps h));
+      holds = λ h. not_written c.loop-part.part (c.args.first + c.loop-part.part) c.args.first tools_size
+          (HoldsToolPart c.args.stored.now) c.tool_sector.result _ _ c.loop-part-test.true refl
+          c.tool_sector.ensures (before.holds h) p.0 c.write.result _ (write.holds (before.keeps h));
     })
 
 pub loop-part-preserved : goal.loop-part-preserved
@@ -24,7 +26,9 @@ loop-part-preserved g c =
       tools = record {
         keeps = λ h. write.keeps (before.keeps h);
         back = λ h. before.back (write.back h);
-        holds = λ h. written c.loop-part.part (c.args.first + c.loop-part.part) c.args.first tools_size (HoldsToolPart c.args.stored.now) c.tool_sector.result _ _ c.loop-part-test.true refl c.tool_sector.ensures (before.holds h) _ (write.holds (before.keeps h));
+        holds = λ h. written c.loop-part.part (c.args.first + c.loop-part.part) c.args.first tools_size
+            (HoldsToolPart c.args.stored.now) c.tool_sector.result _ _ c.loop-part-test.true refl
+            c.tool_sector.ensures (before.holds h) _ (write.holds (before.keeps h));
       };
       size = c.in_ok-write.ensures.call.size ∙ c.loop-part.invariant.size;
       failures = c.in_ok-write.ensures.call.failures ∙ c.loop-part.invariant.failures;

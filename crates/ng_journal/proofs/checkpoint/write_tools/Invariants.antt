@@ -7,7 +7,9 @@ use Rattle.ng_journal.proofs.checkpoint.write_tools.Given as goal
 
 abbrev pub invariant-loop-part : goal.invariant-loop-part
 invariant-loop-part g l = record {
-  tools : IfHonest (g.R.Rig.seen l.initial.rig) (g.R.Rig.seen l.rig) (OverwritesTo l.part l.first tools_size (HoldsToolPart l.stored) (g.R.Rig.seen l.initial.rig).trace (g.R.Rig.seen l.rig).trace);
+  tools : IfHonest (g.R.Rig.seen l.initial.rig) (g.R.Rig.seen l.rig)
+      (OverwritesTo l.part l.first tools_size (HoldsToolPart l.stored) (g.R.Rig.seen l.initial.rig).trace
+      (g.R.Rig.seen l.rig).trace);
   size : (g.R.Rig.seen l.rig).sectors ≡ (g.R.Rig.seen l.initial.rig).sectors;
   failures : (g.R.Rig.seen l.rig).failed ≡ (g.R.Rig.seen l.initial.rig).failed;
 }

@@ -12,7 +12,8 @@ returns-in_err-write-clause-clears g c =
     rw p.1 (record {
       keeps = λ h. write.keeps (before.keeps h);
       back = λ h. before.back (write.back h);
-      holds = λ h. not_written c.loop-k.k c.loop-k.k 0 2 IsEmpty c.empty_sector.result _ _ c.loop-k-test.true (omega arith) c.empty_sector.ensures (before.holds h) p.0 c.write.result _ (write.holds (before.keeps h));
+      holds = λ h. not_written c.loop-k.k c.loop-k.k 0 2 IsEmpty c.empty_sector.result _ _ c.loop-k-test.true
+          (omega arith) c.empty_sector.ensures (before.holds h) p.0 c.write.result _ (write.holds (before.keeps h));
     })
 
 pub returns-in_err-sync-clause-clears : goal.returns-in_err-sync-clause-clears
@@ -26,7 +27,8 @@ returns-in_err-sync-clause-clears g c =
       back = λ h. before.back (write.back (sync.back h));
       holds = λ h.
           let h1 = before.keeps h in
-          let one = written c.loop-k.k c.loop-k.k 0 2 IsEmpty c.empty_sector.result _ _ c.loop-k-test.true (omega arith) c.empty_sector.ensures (before.holds h) _ (write.holds h1) in
+          let one = written c.loop-k.k c.loop-k.k 0 2 IsEmpty c.empty_sector.result _ _ c.loop-k-test.true
+          (omega arith) c.empty_sector.ensures (before.holds h) _ (write.holds h1) in
           not_synced p.0 (c.loop-k.k + 1) 0 2 IsEmpty _ _ _ one (sync.holds (write.keeps h1));
     })
 
@@ -41,7 +43,8 @@ loop-k-preserved g c =
         back = λ h. before.back (write.back (sync.back h));
         holds = λ h.
             let h1 = before.keeps h in
-            let one = written c.loop-k.k c.loop-k.k 0 2 IsEmpty c.empty_sector.result _ _ c.loop-k-test.true (omega arith) c.empty_sector.ensures (before.holds h) _ (write.holds h1) in
+            let one = written c.loop-k.k c.loop-k.k 0 2 IsEmpty c.empty_sector.result _ _ c.loop-k-test.true
+            (omega arith) c.empty_sector.ensures (before.holds h) _ (write.holds h1) in
             written_on (c.loop-k.k + 1) 0 2 IsEmpty _ _ _ one (sync.holds (write.keeps h1));
       };
       size = c.in_ok-sync.ensures.call.size ∙ c.in_ok-write.ensures.call.size ∙ c.loop-k.invariant.size;

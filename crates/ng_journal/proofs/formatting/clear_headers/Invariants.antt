@@ -6,7 +6,8 @@ use Rattle.ng_journal.proofs.formatting.clear_headers.Given as goal
 
 abbrev pub invariant-loop-k : goal.invariant-loop-k
 invariant-loop-k g l = record {
-  writes : IfHonest (g.R.Rig.seen l.initial.rig) (g.R.Rig.seen l.rig) (OverwritesTo l.k 0 2 IsEmpty (g.R.Rig.seen l.initial.rig).trace (g.R.Rig.seen l.rig).trace);
+  writes : IfHonest (g.R.Rig.seen l.initial.rig) (g.R.Rig.seen l.rig)
+      (OverwritesTo l.k 0 2 IsEmpty (g.R.Rig.seen l.initial.rig).trace (g.R.Rig.seen l.rig).trace);
   size : (g.R.Rig.seen l.rig).sectors ≡ (g.R.Rig.seen l.initial.rig).sectors;
   failures : (g.R.Rig.seen l.rig).failed ≡ (g.R.Rig.seen l.initial.rig).failed;
 }

@@ -13,7 +13,9 @@ returns-in_err-write-clause-clears g c =
     rw p.1 (record {
       keeps = λ h. write.keeps (before.keeps h);
       back = λ h. before.back (write.back h);
-      holds = λ h. not_written c.loop-n.n (log_first + c.loop-n.n) log_first shortest_log IsEmpty c.empty_sector.result _ _ c.loop-n-test.true refl c.empty_sector.ensures (before.holds h) p.0 c.write.result _ (write.holds (before.keeps h));
+      holds = λ h. not_written c.loop-n.n (log_first + c.loop-n.n) log_first shortest_log IsEmpty
+          c.empty_sector.result _ _ c.loop-n-test.true refl c.empty_sector.ensures (before.holds h) p.0
+          c.write.result _ (write.holds (before.keeps h));
     })
 
 pub loop-n-preserved : goal.loop-n-preserved
@@ -24,7 +26,9 @@ loop-n-preserved g c =
       writes = record {
         keeps = λ h. write.keeps (before.keeps h);
         back = λ h. before.back (write.back h);
-        holds = λ h. written c.loop-n.n (log_first + c.loop-n.n) log_first shortest_log IsEmpty c.empty_sector.result _ _ c.loop-n-test.true refl c.empty_sector.ensures (before.holds h) _ (write.holds (before.keeps h));
+        holds = λ h. written c.loop-n.n (log_first + c.loop-n.n) log_first shortest_log IsEmpty
+            c.empty_sector.result _ _ c.loop-n-test.true refl c.empty_sector.ensures (before.holds h) _
+            (write.holds (before.keeps h));
       };
       size = c.in_ok-write.ensures.call.size ∙ c.loop-n.invariant.size;
       failures = c.in_ok-write.ensures.call.failures ∙ c.loop-n.invariant.failures;

@@ -7,7 +7,9 @@ use Rattle.ng_journal.proofs.formatting.clear_log.Given as goal
 
 abbrev pub invariant-loop-n : goal.invariant-loop-n
 invariant-loop-n g l = record {
-  writes : IfHonest (g.R.Rig.seen l.initial.rig) (g.R.Rig.seen l.rig) (OverwritesTo l.n log_first shortest_log IsEmpty (g.R.Rig.seen l.initial.rig).trace (g.R.Rig.seen l.rig).trace);
+  writes : IfHonest (g.R.Rig.seen l.initial.rig) (g.R.Rig.seen l.rig)
+      (OverwritesTo l.n log_first shortest_log IsEmpty (g.R.Rig.seen l.initial.rig).trace
+      (g.R.Rig.seen l.rig).trace);
   size : (g.R.Rig.seen l.rig).sectors ≡ (g.R.Rig.seen l.initial.rig).sectors;
   failures : (g.R.Rig.seen l.rig).failed ≡ (g.R.Rig.seen l.initial.rig).failed;
 }

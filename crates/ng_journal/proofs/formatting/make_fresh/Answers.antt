@@ -49,7 +49,13 @@ returns-in_err-write_fresh_snapshot-clause-formats g c =
           let h2 = log.keeps h1 in
           let one = first_headers c.clear_headers.result fresh _ _ (headers.holds h0) in
           let two = first_log c.clear_log.result fresh _ _ _ one (log.holds h1) in
-          record { writes = first_area c.write_fresh_snapshot.result c.snapshot_first.result fresh _ _ _ c.snapshot_first.ensures.is two (area.holds h2); at = tt; laid = tt; zeros = tt };
+          record {
+            writes = first_area c.write_fresh_snapshot.result c.snapshot_first.result fresh _ _ _
+                c.snapshot_first.ensures.is two (area.holds h2);
+            at = tt;
+            laid = tt;
+            zeros = tt;
+          };
     })
 
 pub returns-in_err-clear_tools-clause-formats : goal.returns-in_err-clear_tools-clause-formats
@@ -70,7 +76,13 @@ returns-in_err-clear_tools-clause-formats g c =
           let one = first_headers c.clear_headers.result fresh _ _ (headers.holds h0) in
           let two = first_log c.clear_log.result fresh _ _ _ one (log.holds h1) in
           let three = first_area c.write_fresh_snapshot.result c.snapshot_first.result fresh _ _ _ c.snapshot_first.ensures.is two (area.holds h2) in
-          record { writes = first_tools c.clear_tools.result c.tools_first.result fresh _ _ _ refl c.tools_first.ensures.is three (tools.holds h3); at = tt; laid = tt; zeros = tt };
+          record {
+            writes = first_tools c.clear_tools.result c.tools_first.result fresh _ _ _ refl
+                c.tools_first.ensures.is three (tools.holds h3);
+            at = tt;
+            laid = tt;
+            zeros = tt;
+          };
     })
 
 pub returns-in_err-sync-clause-formats : goal.returns-in_err-sync-clause-formats
@@ -121,7 +133,13 @@ returns-in_err-write-clause-formats g c =
           let three = first_area c.write_fresh_snapshot.result c.snapshot_first.result fresh _ _ _ c.snapshot_first.ensures.is two (area.holds h2) in
           let more = first_tools c.clear_tools.result c.tools_first.result fresh _ _ _ refl c.tools_first.ensures.is three (tools.holds h3) in
           let four = first_sync c.sync.result fresh _ _ _ more (sync.holds hs) in
-          record { writes = first_write c.write.result fresh c.header_sector.result _ _ _ c.header_sector.ensures.holds four (write.holds h4); at = tt; laid = tt; zeros = tt };
+          record {
+            writes = first_write c.write.result fresh c.header_sector.result _ _ _
+                c.header_sector.ensures.holds four (write.holds h4);
+            at = tt;
+            laid = tt;
+            zeros = tt;
+          };
     })
 
 pub returns-clause-formats : goal.returns-clause-formats
@@ -143,7 +161,11 @@ returns-clause-formats g c =
           let h3 = area.keeps h2 in
           let hs = tools.keeps h3 in
           let h4 = sync.keeps hs in
-          let s = steps _ _ _ _ fresh _ _ _ _ _ c.snapshot_first.result c.tools_first.result refl c.snapshot_first.ensures.is c.tools_first.ensures.is (headers.holds h0) (log.holds h1) (area.holds h2) (tools.holds h3) in
-          let f = finished c.sync-2.result fresh _ _ _ _ _ _ _ _ c.header_sector.result s refl refl (table_long 5399 5219 (pos 1_000_000)) refl c.header_sector.ensures.read c.header_sector.ensures.holds (sync.holds hs) (write.holds h4) (last.holds (write.keeps h4)) in
+          let s = steps _ _ _ _ fresh _ _ _ _ _ c.snapshot_first.result c.tools_first.result refl
+          c.snapshot_first.ensures.is c.tools_first.ensures.is (headers.holds h0) (log.holds h1) (area.holds h2)
+          (tools.holds h3) in
+          let f = finished c.sync-2.result fresh _ _ _ _ _ _ _ _ c.header_sector.result s refl refl
+          (table_long 5399 5219 (pos 1_000_000)) refl c.header_sector.ensures.read c.header_sector.ensures.holds
+          (sync.holds hs) (write.holds h4) (last.holds (write.keeps h4)) in
           record { writes = f.writes; at = f.at; laid = f.laid; zeros = f.zeros };
     }

@@ -15,7 +15,9 @@ returns-in_err-write-clause-writes g c room =
     rw p.1 (record {
       keeps = λ h. write.keeps (before.keeps h);
       back = λ h. before.back (write.back h);
-      holds = λ h. not_written c.loop-part.part (c.args.first + c.loop-part.part) c.args.first snapshot_size (HoldsPart (fresh_stored room)) c.fresh_sector.result _ _ c.loop-part-test.true refl (c.fresh_sector.ensures room) (before.holds h) p.0 c.write.result _ (write.holds (before.keeps h));
+      holds = λ h. not_written c.loop-part.part (c.args.first + c.loop-part.part) c.args.first snapshot_size
+          (HoldsPart (fresh_stored room)) c.fresh_sector.result _ _ c.loop-part-test.true refl
+          (c.fresh_sector.ensures room) (before.holds h) p.0 c.write.result _ (write.holds (before.keeps h));
     })
 
 pub loop-part-preserved : goal.loop-part-preserved
@@ -25,11 +27,19 @@ loop-part-preserved g c =
       writes = λ room. let before = c.loop-part.invariant.writes room in record {
         keeps = λ h. write.keeps (before.keeps h);
         back = λ h. before.back (write.back h);
-        holds = λ h. written c.loop-part.part (c.args.first + c.loop-part.part) c.args.first snapshot_size (HoldsPart (fresh_stored room)) c.fresh_sector.result _ _ c.loop-part-test.true refl (c.fresh_sector.ensures room) (before.holds h) _ (write.holds (before.keeps h));
+        holds = λ h. written c.loop-part.part (c.args.first + c.loop-part.part) c.args.first snapshot_size
+            (HoldsPart (fresh_stored room)) c.fresh_sector.result _ _ c.loop-part-test.true refl
+            (c.fresh_sector.ensures room) (before.holds h) _ (write.holds (before.keeps h));
       };
       size = c.in_ok-write.ensures.call.size ∙ c.loop-part.invariant.size;
       failures = c.in_ok-write.ensures.call.failures ∙ c.loop-part.invariant.failures;
     }
 
 pub returns-clause-writes : goal.returns-clause-writes
-returns-clause-writes g c room = meaning (c.loop-part.invariant.writes room) (λ w. record { writes = w.writes; outside = w.outside; parts = λ j lt. w.parts j (omega (arith, c.loop-part-test.false)) })
+returns-clause-writes g c room = meaning (c.loop-part.invariant.writes room)
+    (λ w. record {
+      writes = w.writes;
+      outside = w.outside;
+      parts = λ j lt.
+          w.parts j (omega (arith, c.loop-part-test.false));
+    })

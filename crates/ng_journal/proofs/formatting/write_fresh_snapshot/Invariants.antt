@@ -8,7 +8,9 @@ use Rattle.ng_journal.proofs.formatting.write_fresh_snapshot.Given as goal
 
 abbrev pub invariant-loop-part : goal.invariant-loop-part
 invariant-loop-part g l = record {
-  writes : (room : ℕ) → IfHonest (g.R.Rig.seen l.initial.rig) (g.R.Rig.seen l.rig) (OverwritesTo l.part l.first snapshot_size (HoldsPart (fresh_stored room)) (g.R.Rig.seen l.initial.rig).trace (g.R.Rig.seen l.rig).trace);
+  writes : (room : ℕ) → IfHonest (g.R.Rig.seen l.initial.rig) (g.R.Rig.seen l.rig)
+      (OverwritesTo l.part l.first snapshot_size (HoldsPart (fresh_stored room)) (g.R.Rig.seen l.initial.rig).trace
+      (g.R.Rig.seen l.rig).trace);
   size : (g.R.Rig.seen l.rig).sectors ≡ (g.R.Rig.seen l.initial.rig).sectors;
   failures : (g.R.Rig.seen l.rig).failed ≡ (g.R.Rig.seen l.initial.rig).failed;
 }

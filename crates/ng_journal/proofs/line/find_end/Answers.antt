@@ -16,7 +16,8 @@ returns-in-Some-clause-read g c =
     onto _ c.loop-n.invariant.read c.in_ok-sector.ensures.read (λ p q. record {
       same = q.same ∙ p.0;
       right = rw c.saturating_sub.ensures (end_found (program_text c.args.program_end row) _ _ c.args.place c.loop-n.n c.in-Some.end _
-          (c.part_of.ensures.part row (sector_at c.args.area c.program_first-first.result c.loop-n.n begun _ _ c.program_first-first.ensures.is few p.0 q.right)) p.1 c.in-Some.ensures.taken);
+          (c.part_of.ensures.part row (sector_at c.args.area c.program_first-first.result c.loop-n.n begun _ _
+          c.program_first-first.ensures.is few p.0 q.right)) p.1 c.in-Some.ensures.taken);
     })
 
 pub loop-n-preserved : goal.loop-n-preserved
@@ -28,7 +29,8 @@ loop-n-preserved g c =
       read = onto _ c.loop-n.invariant.read c.in_ok-sector.ensures.read (λ p q. (
         q.same ∙ p.0,
         part_kept (program_text c.args.program_end row) _ _ c.args.place c.loop-n.n _
-            (c.part_of.ensures.part row (sector_at c.args.area c.program_first-first.result c.loop-n.n begun _ _ c.program_first-first.ensures.is few p.0 q.right)) p.1 c.in-None.ensures.taken,
+            (c.part_of.ensures.part row (sector_at c.args.area c.program_first-first.result c.loop-n.n begun _ _
+            c.program_first-first.ensures.is few p.0 q.right)) p.1 c.in-None.ensures.taken,
       ));
       size = c.in_ok-sector.ensures.call.size ∙ c.loop-n.invariant.size;
       failures = c.in_ok-sector.ensures.call.failures ∙ c.loop-n.invariant.failures;
@@ -38,5 +40,12 @@ pub returns-clause-read : goal.returns-clause-read
 returns-clause-read g c =
     let row = stretch (program_first c.args.area) (program_size c.args.area) (reads (g.R.Rig.seen c.args.rig.now).trace) in
     let rest = drop c.args.place (program_text c.args.program_end row) in
-    let all : length rest ≤ 512 * c.loop-n.n - c.args.place = omega (arith, c.loop-n-test.false, c.div_ceil-n-end.ensures, length-drop c.args.place (program_text c.args.program_end row), length-text c.args.program_end row) in
+    let all : length rest ≤ 512 * c.loop-n.n - c.args.place =
+    omega (
+      arith,
+      c.loop-n-test.false,
+      c.div_ceil-n-end.ensures,
+      length-drop c.args.place (program_text c.args.program_end row),
+      length-text c.args.program_end row,
+    ) in
     meaning c.loop-n.invariant.read (λ p. record { same = p.0; right = all_kept rest _ _ all p.1 })

@@ -24,7 +24,9 @@ returns-in-Some-clause-read g c =
     onto _ c.loop-n.invariant.read c.in_ok-sector.ensures.read (λ p q. record {
       same = q.same ∙ p.0;
       right = known_in (program_text c.args.place row) _ _ c.in-Some.kind
-          (decides_part (program_text c.args.place row) _ c.loop-n.n _ _ (c.part_of.ensures.part row (sector_at c.args.area c.program_first-first.result c.loop-n.n begun _ _ c.program_first-first.ensures.is few p.0 q.right)) p.1 c.after_all-seen.ensures)
+          (decides_part (program_text c.args.place row) _ c.loop-n.n _ _
+          (c.part_of.ensures.part row (sector_at c.args.area c.program_first-first.result c.loop-n.n begun _ _
+          c.program_first-first.ensures.is few p.0 q.right)) p.1 c.after_all-seen.ensures)
           c.in-Some.ensures;
     })
 
@@ -36,7 +38,9 @@ loop-n-preserved g c =
     record {
       read = onto _ c.loop-n.invariant.read c.in_ok-sector.ensures.read (λ p q. (
         q.same ∙ p.0,
-        decides_part (program_text c.args.place row) _ c.loop-n.n _ _ (c.part_of.ensures.part row (sector_at c.args.area c.program_first-first.result c.loop-n.n begun _ _ c.program_first-first.ensures.is few p.0 q.right)) p.1 c.after_all-seen.ensures,
+        decides_part (program_text c.args.place row) _ c.loop-n.n _ _
+            (c.part_of.ensures.part row (sector_at c.args.area c.program_first-first.result c.loop-n.n begun _ _
+            c.program_first-first.ensures.is few p.0 q.right)) p.1 c.after_all-seen.ensures,
       ));
       size = c.in_ok-sector.ensures.call.size ∙ c.loop-n.invariant.size;
       failures = c.in_ok-sector.ensures.call.failures ∙ c.loop-n.invariant.failures;
@@ -45,5 +49,6 @@ loop-n-preserved g c =
 pub returns-clause-read : goal.returns-clause-read
 returns-clause-read g c =
     let row = stretch (program_first c.args.area) (program_size c.args.area) (reads (g.R.Rig.seen c.args.rig.now).trace) in
-    let all : length (program_text c.args.place row) ≤ 512 * c.loop-n.n = omega (arith, c.loop-n-test.false, c.div_ceil-n-end.ensures, length-text c.args.place row) in
+    let all : length (program_text c.args.place row) ≤ 512 * c.loop-n.n =
+    omega (arith, c.loop-n-test.false, c.div_ceil-n-end.ensures, length-text c.args.place row) in
     meaning c.loop-n.invariant.read (λ p. record { same = p.0; right = all_in (program_text c.args.place row) _ _ _ all p.1 c.kind.ensures })

@@ -15,7 +15,9 @@ returns-in_err-write_program-clause-stops g c =
     rw p.1 (record {
       keeps = text.keeps;
       back = text.back;
-      holds = λ h room at fits. exit_text p.0 c.write_program.result _ _ c.args.area c.args.header _ c.args.text.now c.requires.format at (free_in c.args.area c.args.header (with_room room c.args.stored.now) c.requires.apart fits) (text.holds h);
+      holds = λ h room at fits. exit_text p.0 c.write_program.result _ _ c.args.area c.args.header _ c.args.text.now
+          c.requires.format at (free_in c.args.area c.args.header (with_room room c.args.stored.now)
+          c.requires.apart fits) (text.holds h);
     })
 
 pub returns-in_err-sync-clause-stops : goal.returns-in_err-sync-clause-stops
@@ -26,7 +28,9 @@ returns-in_err-sync-clause-stops g c =
     rw p.1 (record {
       keeps = λ h. sync.keeps (text.keeps h);
       back = λ h. text.back (sync.back h);
-      holds = λ h room at fits. exit_sync p.0 c.write_program.result _ _ _ c.args.area c.args.header _ c.args.text.now c.requires.format at (free_in c.args.area c.args.header (with_room room c.args.stored.now) c.requires.apart fits) (text.holds h) (sync.holds (text.keeps h));
+      holds = λ h room at fits. exit_sync p.0 c.write_program.result _ _ _ c.args.area c.args.header _
+          c.args.text.now c.requires.format at (free_in c.args.area c.args.header (with_room room c.args.stored.now)
+          c.requires.apart fits) (text.holds h) (sync.holds (text.keeps h));
     })
 
 pub returns-clause-stops : goal.returns-clause-stops
@@ -45,8 +49,12 @@ returns-clause-stops g c =
           let only = among_text c.args.area c.args.text.now _ _ t.writes in
           let next = c.next_header.result in
           let next_is = c.next_header.ensures ∙ (λ i. next_header c.args.header c.args.area (c.stored.view_is i).length) in
-          loaded_all c.checkpoint.result _ _ _ _ _ c.args.area c.args.header next kept c.args.text.now at free c.requires.long c.requires.short t s next_is c.requires.format
-          (last.holds (sync.keeps (text.keeps h)) room c.args.header (own_again _ _ _ c.args.area c.args.header at free only s) (ap (λ (x : Header). x.epoch) next_is) (inl (ap (λ (x : Header). x.format) next_is)) (fits_again _ _ _ c.args.area c.args.header next kept at free only s next_is fits));
+          loaded_all c.checkpoint.result _ _ _ _ _ c.args.area c.args.header next kept c.args.text.now at free
+          c.requires.long c.requires.short t s next_is c.requires.format
+          (last.holds (sync.keeps (text.keeps h)) room c.args.header
+          (own_again _ _ _ c.args.area c.args.header at free only s) (ap (λ (x : Header). x.epoch) next_is)
+          (inl (ap (λ (x : Header). x.format) next_is))
+          (fits_again _ _ _ c.args.area c.args.header next kept at free only s next_is fits));
     }
 
 pub returns-in_err-write_program-clause-stores : goal.returns-in_err-write_program-clause-stores
@@ -89,10 +97,13 @@ returns-clause-stores g c =
           let done = c.in_ok-write_program.ensures.text in
           let on = c.in_ok-sync.ensures.trace in
           let next_is = c.next_header.ensures ∙ (λ i. next_header c.args.header c.args.area (c.stored.view_is i).length) in
-          let stored = state_under c.checkpoint.result c.next_header.result (next_header c.args.header c.args.area c.args.stored.now.length) c.args.stored.now _ _ next_is (last.holds (sync.keeps (text.keeps h))) in
+          let stored = state_under c.checkpoint.result c.next_header.result
+          (next_header c.args.header c.args.area c.args.stored.now.length) c.args.stored.now _ _ next_is
+          (last.holds (sync.keeps (text.keeps h))) in
           record {
             writes = load_state c.args.area c.args.header loaded _ _ _ two stored.writes;
-            text = text_stays c.checkpoint.result _ c.args.area c.args.header loaded _ _ _ _ c.requires.short c.requires.area (done.holds h) (on.holds (text.keeps h)) stored.writes;
+            text = text_stays c.checkpoint.result _ c.args.area c.args.header loaded _ _ _ _ c.requires.short
+                c.requires.area (done.holds h) (on.holds (text.keeps h)) stored.writes;
             laid = stored.laid;
             synced = stored.synced;
           };

@@ -13,7 +13,9 @@ returns-in_err-write-clause-text g c =
     rw p.1 (record {
       keeps = λ h. write.keeps (before.keeps h);
       back = λ h. before.back (write.back h);
-      holds = λ h. text_failed p.0 c.write.result c.loop-n.n c.program_first-first.result c.args.area c.args.text.now c.text_sector.result _ _ _ c.program_first-first.ensures.is lt c.text_sector.ensures (before.holds h) (write.holds (before.keeps h));
+      holds = λ h. text_failed p.0 c.write.result c.loop-n.n c.program_first-first.result c.args.area
+          c.args.text.now c.text_sector.result _ _ _ c.program_first-first.ensures.is lt c.text_sector.ensures
+          (before.holds h) (write.holds (before.keeps h));
     })
 
 pub loop-n-preserved : goal.loop-n-preserved
@@ -25,7 +27,9 @@ loop-n-preserved g c =
       text = record {
         keeps = λ h. write.keeps (before.keeps h);
         back = λ h. before.back (write.back h);
-        holds = λ h. text_more c.loop-n.n c.program_first-first.result c.args.area c.args.text.now c.text_sector.result _ _ _ c.program_first-first.ensures.is lt c.text_sector.ensures (before.holds h) (write.holds (before.keeps h));
+        holds = λ h. text_more c.loop-n.n c.program_first-first.result c.args.area c.args.text.now
+            c.text_sector.result _ _ _ c.program_first-first.ensures.is lt c.text_sector.ensures (before.holds h)
+            (write.holds (before.keeps h));
       };
       size = c.in_ok-write.ensures.call.size ∙ c.loop-n.invariant.size;
       failures = c.in_ok-write.ensures.call.failures ∙ c.loop-n.invariant.failures;

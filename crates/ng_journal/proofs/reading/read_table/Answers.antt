@@ -11,11 +11,15 @@ returns-then-not-take_values-clause-read g c =
 
 pub loop-n-preserved : goal.loop-n-preserved
 loop-n-preserved g c = record {
-  read = onto _ c.loop-n.invariant.read c.in_ok-sector.ensures.read (λ p q. turn c.args.first c.loop-n.n _ _ _ _ _ _ c.loop-n-test.true p (q.same, q.right) c.if-not-take_values.ensures.taken);
+  read = onto _ c.loop-n.invariant.read c.in_ok-sector.ensures.read
+      (λ p q. turn c.args.first c.loop-n.n _ _ _ _ _ _ c.loop-n-test.true p (q.same, q.right)
+      c.if-not-take_values.ensures.taken);
   long = (let t = c.if-not-take_values.ensures.taken in t.long ∙ c.loop-n.invariant.long);
   size = c.in_ok-sector.ensures.call.size ∙ c.loop-n.invariant.size;
   failures = c.in_ok-sector.ensures.call.failures ∙ c.loop-n.invariant.failures;
 }
 
 pub returns-clause-read : goal.returns-clause-read
-returns-clause-read g c = meaning c.loop-n.invariant.read (λ p. let w = whole c.args.first c.loop-n.n _ _ _ (omega arith) p in record { same = w.0; right = w.1 })
+returns-clause-read g c =
+    meaning c.loop-n.invariant.read (λ p. let w = whole c.args.first c.loop-n.n _ _ _ (omega arith) p in record
+    { same = w.0; right = w.1 })

@@ -10,7 +10,8 @@ use Rattle.ng_journal.proofs.FoundStateLemmas.{none_found, damage_found, Snapped
 use Rattle.ng_journal.proofs.recovery.found.Goals as goal
 
 pub returns-in-None-clause-read : goal.returns-in-None-clause-read
-returns-in-None-clause-read g c = meaning c.in_ok-header_in_force.ensures.read (λ p. record { same = p.same; right = none_found _ c.in_ok-header_in_force.field-0 p.right c.in-None.is })
+returns-in-None-clause-read g c = meaning c.in_ok-header_in_force.ensures.read
+    (λ p. record { same = p.same; right = none_found _ c.in_ok-header_in_force.field-0 p.right c.in-None.is })
 
 pub returns-then-not-is_whole-clause-read : goal.returns-then-not-is_whole-clause-read
 returns-then-not-is_whole-clause-read g c =
@@ -20,7 +21,11 @@ returns-then-not-is_whole-clause-read g c =
     let snap = c.read_snapshot.new.stored in
     onto _ c.in_ok-header_in_force.ensures.read c.in_ok-is_whole-in-Some.ensures.read (λ p q.
     let here = subst (λ (l : Trace). IsSnapshotOf header snap (reads l) whole) p.same q.right in
-    record { same = q.same ∙ p.same; right = damage_found (reads old) c.in_ok-header_in_force.field-0 header whole snap p.right c.in-Some.is here c.if-not-is_whole.true })
+    record {
+      same = q.same ∙ p.same;
+      right = damage_found (reads old) c.in_ok-header_in_force.field-0 header whole
+          snap p.right c.in-Some.is here c.if-not-is_whole.true;
+    })
 
 pub returns-in-None-2-clause-read : goal.returns-in-None-2-clause-read
 returns-in-None-2-clause-read g c =
@@ -49,12 +54,23 @@ returns-in-Some-2-clause-read g c =
     let room = rw c.in-Some-2.is at c.in_ok-read_log-in-Some.ensures.room in
     let stays = c.in_ok-read_log-in-Some.ensures.limit ∙ c.in_ok-is_whole-in-Some.ensures.limit ∙ c.requires.limit in
     let force = c.in_ok-header_in_force.ensures.read in
-    let Known = ((g.R.Rig.seen c.header_in_force.new.rig).trace ≡ old) × (c.in_ok-header_in_force.field-0 ≡ in_force (reads old)) × (is_large (reads old) ≡ c.args.large) in
-    let known : IfHonest (g.R.Rig.seen c.args.rig.now) (g.R.Rig.seen c.header_in_force.new.rig) Known = record { keeps = force.keeps; back = force.back; holds = λ h. ((force.holds h).same, (force.holds h).right, c.requires.large h) } in
+    let Known = ((g.R.Rig.seen c.header_in_force.new.rig).trace ≡ old)
+    × (c.in_ok-header_in_force.field-0 ≡ in_force (reads old)) × (is_large (reads old) ≡ c.args.large) in
+    let known : IfHonest (g.R.Rig.seen c.args.rig.now) (g.R.Rig.seen c.header_in_force.new.rig) Known =
+    record {
+      keeps = force.keeps;
+      back = force.back;
+      holds = λ h.
+          ((force.holds h).same, (force.holds h).right, c.requires.large h);
+    } in
     let Heads = ((g.R.Rig.seen c.read_snapshot.new.rig).trace ≡ old) × Snapped (reads old) header snap × (is_large (reads old) ≡ c.args.large) in
     let heads = onto Heads known c.in_ok-is_whole-in-Some.ensures.read (λ p q.
     let here = subst (λ (l : Trace). IsSnapshotOf header snap (reads l) whole) p.0 q.right in
     (q.same ∙ p.0, snapped (reads old) c.in_ok-header_in_force.field-0 header whole snap p.1 c.in-Some.is here c.if-not-is_whole.false, p.2)) in
     onto _ heads c.in_ok-read_log-in-Some.ensures.read (λ p r.
     let run = subst (λ (l : Trace). IsRunOf header snap saved (reads l) answer) p.0 r.right in
-    record { same = r.same ∙ p.0; right = all_found (reads old) header snap saved answer c.in-Some-2.field-0 p.1 c.in-Some-2.is room run (stays ∙ ap program_room (sym p.2)) })
+    record {
+      same = r.same ∙ p.0;
+      right = all_found (reads old) header snap saved answer c.in-Some-2.field-0 p.1
+          c.in-Some-2.is room run (stays ∙ ap program_room (sym p.2));
+    })

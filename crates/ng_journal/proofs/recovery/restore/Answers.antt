@@ -5,7 +5,8 @@ use Rattle.ng_layout.specs.declared.header.Format.TheVariants.{One}
 use Rattle.ng_layout.specs.Stands.{in_force}
 use Rattle.std.proofs.lemmas.Result.{err_from_is_err_and}
 use Rattle.ng_rig.proofs.GuaranteeLemmas.{meaning}
-use Rattle.ng_journal.proofs.RestoreLemmas.{one_more, exit_unsynced, exit_failed, exit_found, exit_used, found_under, next_is, within, exit_modern, exit_restored}
+use Rattle.ng_journal.proofs.RestoreLemmas.{one_more, exit_unsynced, exit_failed, exit_found, exit_used}
+use Rattle.ng_journal.proofs.RestoreLemmas.{found_under, next_is, within, exit_modern, exit_restored}
 use Rattle.ng_journal.proofs.recovery.restore.Goals as goal
 
 pub returns-in_err-sync-clause-restores : goal.returns-in_err-sync-clause-restores
@@ -31,7 +32,8 @@ returns-in-Err-clause-restores g c =
     record {
       keeps = λ h. found.keeps (sync.keeps h);
       back = λ h. sync.back (found.back h);
-      holds = λ h table over. let f = found.holds (sync.keeps h) in exit_found table c.in_ok-fault.field-0 c.in-Err.fault _ _ _ _ c.in-Err.is (sync.holds h) f.same f.right;
+      holds = λ h table over. let f = found.holds (sync.keeps h) in exit_found table c.in_ok-fault.field-0
+          c.in-Err.fault _ _ _ _ c.in-Err.is (sync.holds h) f.same f.right;
     }
 
 pub returns-then-header-epochs_for-gt-GREATEST_COUNT-clause-restores : goal.returns-then-header-epochs_for-gt-GREATEST_COUNT-clause-restores
@@ -41,7 +43,9 @@ returns-then-header-epochs_for-gt-GREATEST_COUNT-clause-restores g c =
     record {
       keeps = λ h. found.keeps (sync.keeps h);
       back = λ h. sync.back (found.back h);
-      holds = λ h table over. let f = found.holds (sync.keeps h) in exit_used table c.in_ok-fault.field-0 c.in-Ok.header _ _ _ _ c.in-Ok.is (sync.holds h) f.same f.right (omega (arith, c.epochs_for.ensures.value, c.if-header-epochs_for-gt-GREATEST_COUNT.true));
+      holds = λ h table over. let f = found.holds (sync.keeps h) in exit_used table c.in_ok-fault.field-0
+          c.in-Ok.header _ _ _ _ c.in-Ok.is (sync.holds h) f.same f.right
+          (omega (arith, c.epochs_for.ensures.value, c.if-header-epochs_for-gt-GREATEST_COUNT.true));
     }
 
 pub returns-in_err-checkpoint-in-Ok-clause-restores : goal.returns-in_err-checkpoint-in-Ok-clause-restores
@@ -60,7 +64,11 @@ returns-in_err-checkpoint-in-Ok-clause-restores g c =
           let f = found.holds (sync.keeps h) in
           let now = f.same ∙ sync.holds h in
           let u = found_under c.in_ok-fault.field-0 header c.found.new.stored _ _ c.in-Ok.is f.same f.right in
-          within table header c.found.new.stored c.close.new.self _ _ now u c.close.ensures.value more p.0 c.checkpoint.result c.next_header-next.result c.close.new.self _ (next_is header c.next_header-next.result c.found.new.stored c.close.new.self _ u c.close.ensures.value c.next_header-next.ensures) (stores.holds (found.keeps (sync.keeps h))).writes (last.holds (found.keeps (sync.keeps h)) c.close.new.self.room);
+          within table header c.found.new.stored c.close.new.self _ _ now u c.close.ensures.value more p.0
+          c.checkpoint.result c.next_header-next.result c.close.new.self _
+          (next_is header c.next_header-next.result c.found.new.stored c.close.new.self _ u
+          c.close.ensures.value c.next_header-next.ensures) (stores.holds (found.keeps (sync.keeps h))).writes
+          (last.holds (found.keeps (sync.keeps h)) c.close.new.self.room);
     })
 
 pub returns-in_err-last-in-Ok-clause-restores : goal.returns-in_err-last-in-Ok-clause-restores
@@ -83,8 +91,14 @@ returns-in_err-last-in-Ok-clause-restores g c =
           let at = found.keeps (sync.keeps h) in
           let u = found_under c.in_ok-fault.field-0 header c.found.new.stored _ _ c.in-Ok.is f.same f.right in
           let force = subst (λ (l : Trace). in_force (reads l) ≡ Some header) now u.force in
-          let given : c.next_header-next.result.format ≡ One → table ≡ c.args.tools.now = λ one. over header force (sym (ap (λ (x : Header). x.format) c.next_header-next.ensures) ∙ one) in
-          exit_modern table header c.found.new.stored c.close.new.self _ _ now u c.close.ensures.value more _ c.next_header-next.result _ _ (next_is header c.next_header-next.result c.found.new.stored c.close.new.self _ u c.close.ensures.value c.next_header-next.ensures) (stores.holds at) (last.holds at c.close.new.self.room) p.0 c.modernize.result c.modernize.new.stored (modern.holds (last.keeps at) table given) (again.holds (last.keeps at) table given);
+          let given : c.next_header-next.result.format ≡ One → table ≡ c.args.tools.now = λ one.
+          over header force (sym (ap (λ (x : Header). x.format) c.next_header-next.ensures) ∙ one) in
+          exit_modern table header c.found.new.stored c.close.new.self _ _ now u c.close.ensures.value more _
+          c.next_header-next.result _ _
+          (next_is header c.next_header-next.result c.found.new.stored c.close.new.self _ u
+          c.close.ensures.value c.next_header-next.ensures) (stores.holds at)
+          (last.holds at c.close.new.self.room) p.0 c.modernize.result c.modernize.new.stored
+          (modern.holds (last.keeps at) table given) (again.holds (last.keeps at) table given);
     })
 
 pub returns-in_ok-last-in-Ok-clause-restores : goal.returns-in_ok-last-in-Ok-clause-restores
@@ -106,6 +120,13 @@ returns-in_ok-last-in-Ok-clause-restores g c =
           let at = found.keeps (sync.keeps h) in
           let u = found_under c.in_ok-fault.field-0 header c.found.new.stored _ _ c.in-Ok.is f.same f.right in
           let force = subst (λ (l : Trace). in_force (reads l) ≡ Some header) now u.force in
-          let given : c.next_header-next.result.format ≡ One → table ≡ c.args.tools.now = λ one. over header force (sym (ap (λ (x : Header). x.format) c.next_header-next.ensures) ∙ one) in
-          exit_restored table header c.found.new.stored c.close.new.self _ _ now u c.close.ensures.value more _ c.next_header-next.result _ _ (next_is header c.next_header-next.result c.found.new.stored c.close.new.self _ u c.close.ensures.value c.next_header-next.ensures) (stores.holds at) (last.holds at c.close.new.self.room) c.in_ok-last-in-Ok.last c.modernize.new.stored (modern.holds (last.keeps at) table given) (again.holds (last.keeps at) table given) c.in_ok-last-in-Ok.ensures.header (c.in_ok-last-in-Ok.ensures.saved table given);
+          let given : c.next_header-next.result.format ≡ One → table ≡ c.args.tools.now = λ one.
+          over header force (sym (ap (λ (x : Header). x.format) c.next_header-next.ensures) ∙ one) in
+          exit_restored table header c.found.new.stored c.close.new.self _ _ now u c.close.ensures.value more _
+          c.next_header-next.result _ _
+          (next_is header c.next_header-next.result c.found.new.stored c.close.new.self _ u
+          c.close.ensures.value c.next_header-next.ensures) (stores.holds at)
+          (last.holds at c.close.new.self.room) c.in_ok-last-in-Ok.last c.modernize.new.stored
+          (modern.holds (last.keeps at) table given) (again.holds (last.keeps at) table given)
+          c.in_ok-last-in-Ok.ensures.header (c.in_ok-last-in-Ok.ensures.saved table given);
     }

@@ -13,8 +13,11 @@ returns-in_err-end-clause-appends g c =
     let old = c.args.old.now in
     let stored = c.args.stored.now in
     let table_is = ap (λ s. s.state.params) c.old-inside.view_is ∙ ap (λ (s : StoredModel). s.setup.params) c.old.view_is in
-    rw p.1 (meaning c.append.ensures.writes (λ w before at params tools room. not_appended p.0 c.append.result c.args.tip.header before (with_room old.room stored) _ _
-    (append_kept c.append.result c.args.tip.header c.args.tip.end _ c.args.slot before old stored c.args.count _ _ at params tools room table_is r.table r.slot r.one r.storable r.count r.room r.tip.long r.tip.format c.append.ensures.end w)))
+    rw p.1 (meaning c.append.ensures.writes (λ w before at params tools room.
+    not_appended p.0 c.append.result c.args.tip.header before (with_room old.room stored) _ _
+    (append_kept c.append.result c.args.tip.header c.args.tip.end _ c.args.slot before old stored c.args.count _ _
+    at params tools room table_is r.table r.slot r.one r.storable r.count r.room r.tip.long r.tip.format
+    c.append.ensures.end w)))
 
 pub returns-in_err-end-clause-writes : goal.returns-in_err-end-clause-writes
 returns-in_err-end-clause-writes g c =
@@ -22,7 +25,8 @@ returns-in_err-end-clause-writes g c =
     let old = c.args.old.now in
     let stored = c.args.stored.now in
     let table_is = ap (λ s. s.state.params) c.old-inside.view_is ∙ ap (λ (s : StoredModel). s.setup.params) c.old.view_is in
-    rw p.1 (meaning c.append.ensures.writes (λ w. not_recorded p.0 c.append.result c.args.tip _ c.args.slot old (with_room old.room stored) _ _ table_is c.requires.slot
+    rw p.1 (meaning c.append.ensures.writes (λ w. not_recorded p.0 c.append.result c.args.tip _ c.args.slot old
+    (with_room old.room stored) _ _ table_is c.requires.slot
     (record_kept old.room _ c.args.tip.end stored _ c.args.slot c.append.result _ _ w)))
 
 pub returns-clause-appends : goal.returns-clause-appends
@@ -32,7 +36,9 @@ returns-clause-appends g c =
     let stored = c.args.stored.now in
     let table_is = ap (λ s. s.state.params) c.old-inside.view_is ∙ ap (λ (s : StoredModel). s.setup.params) c.old.view_is in
     meaning c.in_ok-end.ensures.writes (λ w before at params tools room. appended c.args.tip _ c.in_ok-end.end before (with_room old.room stored) _ _ refl
-    (append_kept _ c.args.tip.header c.args.tip.end _ c.args.slot before old stored c.args.count _ _ at params tools room table_is r.table r.slot r.one r.storable r.count r.room r.tip.long r.tip.format c.in_ok-end.ensures.end w))
+    (append_kept _ c.args.tip.header c.args.tip.end _ c.args.slot before old stored c.args.count _ _ at params tools
+    room table_is r.table r.slot r.one r.storable r.count r.room r.tip.long r.tip.format c.in_ok-end.ensures.end
+    w))
 
 pub returns-clause-writes : goal.returns-clause-writes
 returns-clause-writes g c =

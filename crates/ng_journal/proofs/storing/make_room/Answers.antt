@@ -3,7 +3,8 @@ use Rattle.std.proofs.lemmas.Result.{err_from_is_err_and}
 use Rattle.ng_rig.proofs.GuaranteeLemmas.{promised, meaning}
 use Rattle.ng_layout.specs.declared.header.Header.{Header}
 use Rattle.ng_journal.specs.Private.Records.{ledger}
-use Rattle.ng_journal.proofs.RecordStoreLemmas.{own, fits_next, room_there, room_failed, room_made, nothing_written, room_not_written, all_room_written, has_room_yet}
+use Rattle.ng_journal.proofs.RecordStoreLemmas.{own, fits_next, room_there, room_failed, room_made, nothing_written}
+use Rattle.ng_journal.proofs.RecordStoreLemmas.{room_not_written, all_room_written, has_room_yet}
 use Rattle.ng_journal.proofs.storing.make_room.Goals as goal
 
 pub returns-then-not-is_full_for-clause-makes : goal.returns-then-not-is_full_for-clause-makes
@@ -11,31 +12,53 @@ returns-then-not-is_full_for-clause-makes g c = promised (λ before at is. room_
 
 pub returns-then-not-is_full_for-clause-stores : goal.returns-then-not-is_full_for-clause-stores
 returns-then-not-is_full_for-clause-stores g c =
-    promised (nothing_written c.args.tip (ledger c.args.tip c.args.stored.now) c.args.count _ (has_room_yet c.is_full_for.result c.args.tip.header c.args.tip.end c.args.count c.is_full_for.ensures c.if-not-is_full_for.true))
+    promised (nothing_written c.args.tip (ledger c.args.tip c.args.stored.now) c.args.count _
+    (has_room_yet c.is_full_for.result c.args.tip.header c.args.tip.end c.args.count c.is_full_for.ensures
+    c.if-not-is_full_for.true))
 
 pub returns-then-not-is_full_for-clause-room : goal.returns-then-not-is_full_for-clause-room
-returns-then-not-is_full_for-clause-room g c = inl (has_room_yet c.is_full_for.result c.args.tip.header c.args.tip.end c.args.count c.is_full_for.ensures c.if-not-is_full_for.true, refl)
+returns-then-not-is_full_for-clause-room g c =
+    inl (
+      has_room_yet c.is_full_for.result c.args.tip.header c.args.tip.end c.args.count c.is_full_for.ensures
+          c.if-not-is_full_for.true,
+      refl,
+    )
 
 pub returns-in_err-checkpoint-clause-makes : goal.returns-in_err-checkpoint-clause-makes
 returns-in_err-checkpoint-clause-makes g c =
     let p = err_from_is_err_and c.from_residual.result c.from_residual.ensures.1 in
     let is = c.next_header-next.ensures in
     rw p.1 (meaning c.checkpoint.ensures.stops (λ f before at same.
-    room_failed _ _ c.args.tip.header c.next_header-next.result before c.args.tip.end c.args.stored.now at same (ap (λ (h : Header). h.area) is) (ap (λ (h : Header). h.format) is ∙ c.requires.tip.format) p.0 c.checkpoint.result (f c.args.stored.now.room c.args.tip.header (own at) (ap (λ (h : Header). h.epoch) is) (inl (ap (λ (h : Header). h.format) is)) (fits_next c.next_header-next.result c.args.stored.now at same is (c.requires.epoch (c.is_full_for.ensures.0 c.if-not-is_full_for.false))))))
+    room_failed _ _ c.args.tip.header c.next_header-next.result before c.args.tip.end c.args.stored.now at same
+    (ap (λ (h : Header). h.area) is) (ap (λ (h : Header). h.format) is ∙ c.requires.tip.format) p.0
+    c.checkpoint.result (f c.args.stored.now.room c.args.tip.header (own at) (ap (λ (h : Header). h.epoch) is)
+    (inl (ap (λ (h : Header). h.format) is))
+    (fits_next c.next_header-next.result c.args.stored.now at same is
+    (c.requires.epoch (c.is_full_for.ensures.0 c.if-not-is_full_for.false))))))
 
 pub returns-in_err-checkpoint-clause-stores : goal.returns-in_err-checkpoint-clause-stores
 returns-in_err-checkpoint-clause-stores g c =
     let p = err_from_is_err_and c.from_residual.result c.from_residual.ensures.1 in
     rw p.1 (meaning c.checkpoint.ensures.stores (λ s.
-    room_not_written p.0 c.checkpoint.result (ledger c.args.tip c.args.stored.now) c.args.count c.next_header-next.result _ _ (c.is_full_for.ensures.0 c.if-not-is_full_for.false) c.next_header-next.ensures s))
+    room_not_written p.0 c.checkpoint.result (ledger c.args.tip c.args.stored.now) c.args.count
+    c.next_header-next.result _ _ (c.is_full_for.ensures.0 c.if-not-is_full_for.false)
+    c.next_header-next.ensures s))
 
 pub returns-clause-makes : goal.returns-clause-makes
 returns-clause-makes g c =
     let is = c.next_header-next.ensures in
     meaning c.in_ok-checkpoint.ensures.stops (λ f before at same.
-    room_made _ _ c.args.tip.header c.next_header-next.result before c.args.tip.end c.args.stored.now at same (ap (λ (h : Header). h.area) is) (ap (λ (h : Header). h.format) is ∙ c.requires.tip.format) _ c.beginning.result c.beginning.ensures (f c.args.stored.now.room c.args.tip.header (own at) (ap (λ (h : Header). h.epoch) is) (inl (ap (λ (h : Header). h.format) is)) (fits_next c.next_header-next.result c.args.stored.now at same is (c.requires.epoch (c.is_full_for.ensures.0 c.if-not-is_full_for.false)))))
+    room_made _ _ c.args.tip.header c.next_header-next.result before c.args.tip.end c.args.stored.now at same
+    (ap (λ (h : Header). h.area) is) (ap (λ (h : Header). h.format) is ∙ c.requires.tip.format) _
+    c.beginning.result c.beginning.ensures
+    (f c.args.stored.now.room c.args.tip.header (own at) (ap (λ (h : Header). h.epoch) is)
+    (inl (ap (λ (h : Header). h.format) is))
+    (fits_next c.next_header-next.result c.args.stored.now at same is
+    (c.requires.epoch (c.is_full_for.ensures.0 c.if-not-is_full_for.false)))))
 
 pub returns-clause-stores : goal.returns-clause-stores
 returns-clause-stores g c =
     meaning c.in_ok-checkpoint.ensures.stores (λ s.
-    all_room_written c.beginning.result _ (ledger c.args.tip c.args.stored.now) c.args.count c.next_header-next.result _ _ (c.is_full_for.ensures.0 c.if-not-is_full_for.false) c.next_header-next.ensures s)
+    all_room_written c.beginning.result _ (ledger c.args.tip c.args.stored.now) c.args.count
+    c.next_header-next.result _ _ (c.is_full_for.ensures.0 c.if-not-is_full_for.false)
+    c.next_header-next.ensures s)

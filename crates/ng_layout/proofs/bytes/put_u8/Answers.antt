@@ -4,7 +4,8 @@ use Rattle.ng_layout.specs.Fields.{number_at}
 use Rattle.ng_layout.proofs.bytes.put_u8.Goals as goal
 
 byte : (xs : List ℕ) (at x : ℕ) → at < length xs → get_or (drop at (set xs at x)) 0 0 + 0 ≡ x
-byte xs at x h = let e : get_or (drop at (set xs at x)) 0 0 ≡ x = get_or-drop at (set xs at x) 0 0 ∙ ap (λ (n : ℕ). get_or (set xs at x) n 0) (add-zero at) ∙ get_or-set_same xs at x 0 h in omega (arith, e)
+byte xs at x h = let e : get_or (drop at (set xs at x)) 0 0 ≡ x = get_or-drop at (set xs at x) 0 0
+    ∙ ap (λ (n : ℕ). get_or (set xs at x) n 0) (add-zero at) ∙ get_or-set_same xs at x 0 h in omega (arith, e)
 
 pub returns : goal.returns
 unfolding number_at

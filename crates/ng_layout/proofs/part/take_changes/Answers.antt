@@ -9,4 +9,5 @@ pub returns-in-None : goal.returns-in-None
 returns-in-None g c = one_damaged c.args.sector.now c.loop-k.k c.args.count c.loop-k-test.true (sym c.change_at.ensures ∙ c.in-None.is)
 
 pub loop-k-preserved : goal.loop-k-preserved
-loop-k-preserved g c = makes_more c.args.sector.now c.loop-k.k c.args.table.now c.loop-k.table c.set.new.self c.in-Some.change c.loop-k.invariant (sym c.change_at.ensures ∙ c.in-Some.is) c.set.ensures
+loop-k-preserved g c = makes_more c.args.sector.now c.loop-k.k c.args.table.now c.loop-k.table c.set.new.self
+    c.in-Some.change c.loop-k.invariant (sym c.change_at.ensures ∙ c.in-Some.is) c.set.ensures

@@ -12,6 +12,11 @@ loop-k-preserved g c =
       | then-first-k-lt-PARAMETER_COUNT w ↦
           let count : cast_signed w64 (cast_unsigned w64 w.count.result) ≡ w.get-value.result = grind (arith, to_z-of_z) in
           let place : w.known.result - 1 ≡ c.args.first + c.loop-k.k = omega arith in
-          rw w.sector-is (values-more c.args.table.now c.args.first c.loop-k.k c.loop-k.sector w.put_i64.new.bytes _ c.loop-k.invariant w.if-first-k-lt-PARAMETER_COUNT.true w.put_i64.ensures (count ∙ w.get-value.ensures ∙ ap (λ (p : ℕ). get_or c.args.table.now p (pos 0)) place) (subst IsCount (sym count) w.count.ensures.range))
-      | else-first-k-lt-PARAMETER_COUNT w ↦ rw w.sector-is (values-past c.args.table.now c.args.first c.loop-k.k c.loop-k.sector c.loop-k.invariant w.if-first-k-lt-PARAMETER_COUNT.false)
+          rw w.sector-is (values-more c.args.table.now c.args.first c.loop-k.k c.loop-k.sector w.put_i64.new.bytes _
+          c.loop-k.invariant w.if-first-k-lt-PARAMETER_COUNT.true w.put_i64.ensures (count ∙ w.get-value.ensures
+          ∙ ap (λ (p : ℕ). get_or c.args.table.now p (pos 0)) place)
+          (subst IsCount (sym count) w.count.ensures.range))
+      | else-first-k-lt-PARAMETER_COUNT w ↦ rw w.sector-is
+          (values-past c.args.table.now c.args.first c.loop-k.k c.loop-k.sector c.loop-k.invariant
+          w.if-first-k-lt-PARAMETER_COUNT.false)
     ]

@@ -11,7 +11,9 @@ returns-in-None-clause-adds c = λ area there before.
     let same : cast_signed w64 (cast_unsigned w64 c.get_i64.result) ≡ c.get_i64.result = grind (arith, to_z-of_z) in
     let k = c.loop-k.k in
     let in_part : k < 64 = omega (arith, c.loop-k-test.true, c.requires.count) in
-    lengths-damaged area c.args.part k c.args.sector.now there in_part c.args.count c.loop-k.tools c.loop-k-test.true (c.loop-k.invariant.adds area there before) (ap tool_length_of (sym c.get_i64.ensures ∙ sym same) ∙ sym c.tool_length_of.ensures.value ∙ c.in-None.is)
+    lengths-damaged area c.args.part k c.args.sector.now there in_part c.args.count c.loop-k.tools
+    c.loop-k-test.true (c.loop-k.invariant.adds area there before)
+    (ap tool_length_of (sym c.get_i64.ensures ∙ sym same) ∙ sym c.tool_length_of.ensures.value ∙ c.in-None.is)
 
 pub loop-k-preserved : goal.loop-k-preserved
 loop-k-preserved c =
@@ -24,6 +26,9 @@ loop-k-preserved c =
     record {
       long = ap length c.push.ensures ∙ length-append c.loop-k.tools (c.in-Some.length ∷ []) ∙ omega (arith, inv.long);
       adds = λ area there before.
-          lengths-more area c.args.part k c.args.sector.now there in_part c.loop-k.tools c.in-Some.length (inv.adds area there before) (ap tool_length_of (sym c.get_i64.ensures ∙ sym same) ∙ sym c.tool_length_of.ensures.value ∙ c.in-Some.is) ∙ ap (λ (l : List ℤ). Some l) (sym c.push.ensures);
+          lengths-more area c.args.part k c.args.sector.now there in_part c.loop-k.tools c.in-Some.length
+          (inv.adds area there before) (ap tool_length_of (sym c.get_i64.ensures ∙ sym same)
+          ∙ sym c.tool_length_of.ensures.value ∙ c.in-Some.is)
+          ∙ ap (λ (l : List ℤ). Some l) (sym c.push.ensures);
       storable = λ s. subst IsStorableTools (sym c.push.ensures) (storable-more c.loop-k.tools c.in-Some.length room small (inv.storable s));
     }

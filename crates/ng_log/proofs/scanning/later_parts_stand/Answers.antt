@@ -20,7 +20,8 @@ returns-then-not-is_of-clause-read g c =
       same = q.same ∙ p.0;
       right =
           let s = sector_here old _ _ (c.args.at + c.loop-part.part) c.in_ok-sector.sector (omega arith) p.0 q.right in
-          part_missing (from_log (reads old)) c.args.at (label_of c.args.first) c.args.first.parts c.loop-part.part c.in_ok-sector.sector c.is_of.result c.loop-part-test.true s c.is_of.ensures c.if-not-is_of.true;
+          part_missing (from_log (reads old)) c.args.at (label_of c.args.first) c.args.first.parts c.loop-part.part
+          c.in_ok-sector.sector c.is_of.result c.loop-part-test.true s c.is_of.ensures c.if-not-is_of.true;
     })
 
 pub loop-part-preserved : goal.loop-part-preserved
@@ -31,11 +32,13 @@ loop-part-preserved g c =
       read = onto _ inv.read c.in_ok-sector.ensures.read (λ p q. (
         q.same ∙ p.0,
         (let s = sector_here old _ _ (c.args.at + c.loop-part.part) c.in_ok-sector.sector (omega arith) p.0 q.right in
-            stand_more c.loop-part.part c.args.at (label_of c.args.first) (reads old) c.in_ok-sector.sector c.is_of.result s c.is_of.ensures c.if-not-is_of.false p.1),
+            stand_more c.loop-part.part c.args.at (label_of c.args.first) (reads old) c.in_ok-sector.sector
+            c.is_of.result s c.is_of.ensures c.if-not-is_of.false p.1),
       ));
       size = c.in_ok-sector.ensures.call.size ∙ inv.size;
       failures = c.in_ok-sector.ensures.call.failures ∙ inv.failures;
     }
 
 pub returns-clause-read : goal.returns-clause-read
-returns-clause-read g c = meaning c.loop-part.invariant.read (λ p. record { same = p.0; right = λ j some below. p.1 j some (omega (arith, below, c.loop-part-test.false)) })
+returns-clause-read g c = meaning c.loop-part.invariant.read
+    (λ p. record { same = p.0; right = λ j some below. p.1 j some (omega (arith, below, c.loop-part-test.false)) })

@@ -18,7 +18,9 @@ returns-in-Damaged-clause-read g c =
     let h = c.args.header in
     onto _ c.records.invariant.run c.in_ok-next_record.ensures.read (λ p q. record {
       same = q.same ∙ p.0;
-      right = runs_damaged h.format h.length (log_of h (reads old)) h.epoch _ _ p.1 (next_is h c.records.reached c.records.stored c.next_record.new.stored old _ c.in_ok-next_record.field-0 Damaged p.0 c.in-Damaged.is q.right);
+      right = runs_damaged h.format h.length (log_of h (reads old)) h.epoch _ _ p.1
+          (next_is h c.records.reached c.records.stored c.next_record.new.stored old _ c.in_ok-next_record.field-0
+          Damaged p.0 c.in-Damaged.is q.right);
     })
 
 pub records-preserved : goal.records-preserved
@@ -39,10 +41,14 @@ records-preserved g c =
       count = goes_on c.in_ok-next_record.field-0 after (c.next_record.new.stored.entries ≤ 1_000_000_000_000) c.in-After.is e.count;
       long = goes_on c.in_ok-next_record.field-0 after (c.next_record.new.stored.length ≡ h.length) c.in-After.is e.long;
       limit = e.limit ∙ inv.limit;
-      none = λ one. goes_on c.in_ok-next_record.field-0 after (h.format ≡ One → c.next_record.new.stored.tools ≡ c.records.stored.tools) c.in-After.is e.none one ∙ inv.none one;
+      none = λ one. goes_on c.in_ok-next_record.field-0 after
+          (h.format ≡ One → c.next_record.new.stored.tools ≡ c.records.stored.tools) c.in-After.is e.none one
+          ∙ inv.none one;
       run = onto _ inv.run e.read (λ p q. (
         q.same ∙ p.0,
-        runs_more h.format h.length (log_of h (reads old)) h.epoch _ _ (position_of after c.next_record.new.stored) p.1 (next_is h c.records.reached c.records.stored c.next_record.new.stored old _ c.in_ok-next_record.field-0 (After after) p.0 c.in-After.is q.right).0,
+        runs_more h.format h.length (log_of h (reads old)) h.epoch _ _ (position_of after c.next_record.new.stored)
+            p.1 (next_is h c.records.reached c.records.stored c.next_record.new.stored old _
+            c.in_ok-next_record.field-0 (After after) p.0 c.in-After.is q.right).0,
       ));
       size = e.call.size ∙ inv.size;
       failures = e.call.failures ∙ inv.failures;
@@ -56,7 +62,11 @@ returns-in-Last-clause-read g c =
     let n = next_is h c.records.reached c.records.stored c.next_record.new.stored old _ c.in_ok-next_record.field-0 Last p.0 c.in-Last.is q.right in
     record {
       same = q.same ∙ p.0;
-      right = subst (λ (s : StoredModel). IsRunOf h c.args.stored.now s (reads old) (Some c.records.reached)) (sym n.1) (runs_end h.format h.length (log_of h (reads old)) h.epoch _ _ p.1 n.0, c.records.invariant.long);
+      right = subst (λ (s : StoredModel). IsRunOf h c.args.stored.now s (reads old) (Some c.records.reached))
+          (sym n.1) (
+            runs_end h.format h.length (log_of h (reads old)) h.epoch _ _ p.1 n.0,
+            c.records.invariant.long,
+          );
     })
 
 pub returns-clause-read : goal.returns-clause-read
@@ -68,4 +78,12 @@ returns-clause-read g c =
     let counter = inv.on in
     let bound = c.log_size-end.ensures.value in
     let last : c.records.reached.sector ≡ log_size_of h = omega arith in
-    meaning inv.run (λ p. record { same = p.0; right = (runs_end h.format h.length (log_of h (reads old)) h.epoch _ _ p.1 (none_at_end h c.records.reached c.records.stored (reads old) last), inv.long) })
+    meaning inv.run (λ p.
+    record {
+      same = p.0;
+      right = (
+        runs_end h.format h.length (log_of h (reads old)) h.epoch _ _ p.1
+            (none_at_end h c.records.reached c.records.stored (reads old) last),
+        inv.long,
+      );
+    })

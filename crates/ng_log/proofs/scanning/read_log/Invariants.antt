@@ -19,7 +19,10 @@ invariant-records g l = record {
   long : l.stored.length ≡ l.header.length;
   limit : l.stored.room ≡ l.fn.stored.room;
   none : l.header.format ≡ One → l.stored.tools ≡ l.fn.stored.tools;
-  run : IfHonest (g.R.Rig.seen l.fn.rig) (g.R.Rig.seen l.rig) (((g.R.Rig.seen l.rig).trace ≡ (g.R.Rig.seen l.fn.rig).trace) × RunsTo l.header.format l.header.length (log_of l.header (reads (g.R.Rig.seen l.fn.rig).trace)) l.header.epoch (position_of no_records l.fn.stored) (position_of l.reached l.stored));
+  run : IfHonest (g.R.Rig.seen l.fn.rig) (g.R.Rig.seen l.rig)
+      (((g.R.Rig.seen l.rig).trace ≡ (g.R.Rig.seen l.fn.rig).trace)
+      × RunsTo l.header.format l.header.length (log_of l.header (reads (g.R.Rig.seen l.fn.rig).trace))
+      l.header.epoch (position_of no_records l.fn.stored) (position_of l.reached l.stored));
   size : (g.R.Rig.seen l.rig).sectors ≡ (g.R.Rig.seen l.fn.rig).sectors;
   failures : (g.R.Rig.seen l.rig).failed ≡ (g.R.Rig.seen l.fn.rig).failed;
 }

@@ -21,7 +21,8 @@ returns-then-not-take_changes-clause-read g c =
       same = q.same ∙ p.0;
       right =
           let s = sector_here old _ _ (c.args.at + 1 + c.loop-i.i) c.in_ok-sector.sector (omega arith) p.0 q.right in
-          damaged_part (from_log (reads old)) c.args.at c.loop-i.i c.min-count.result c.args.changes c.in_ok-sector.sector _ _ p.1 few c.min-count.ensures s c.if-not-take_changes.ensures;
+          damaged_part (from_log (reads old)) c.args.at c.loop-i.i c.min-count.result c.args.changes
+          c.in_ok-sector.sector _ _ p.1 few c.min-count.ensures s c.if-not-take_changes.ensures;
     })
 
 pub loop-i-preserved : goal.loop-i-preserved
@@ -34,7 +35,8 @@ loop-i-preserved g c =
       read = onto _ inv.read c.in_ok-sector.ensures.read (λ p q. (
         q.same ∙ p.0,
         (let s = sector_here old _ _ (c.args.at + 1 + c.loop-i.i) c.in_ok-sector.sector (omega arith) p.0 q.right in
-            makes_part (from_log (reads old)) c.args.at c.loop-i.i c.min-count.result c.args.changes c.in_ok-sector.sector _ _ _ p.1 few c.min-count.ensures s m),
+            makes_part (from_log (reads old)) c.args.at c.loop-i.i c.min-count.result c.args.changes
+            c.in_ok-sector.sector _ _ _ p.1 few c.min-count.ensures s m),
       ));
       long = ap length m.is ∙ with_long c.loop-i.table m.changes ∙ inv.long;
       size = c.in_ok-sector.ensures.call.size ∙ inv.size;

@@ -14,7 +14,8 @@ returns-in_err-write_parts-clause-appends g c =
     let r = c.requires in
     let stored = c.args.stored.now in
     rw p.1 (meaning c.write_parts.ensures.writes (λ w before at table valid slot_is same_room.
-    let next = next_of _ c.args.header before c.args.end c.args.old.now c.args.slot stored c.args.count r.format valid slot_is at.image table r.table r.storable.table r.count r.room r.long same_room in
+    let next = next_of _ c.args.header before c.args.end c.args.old.now c.args.slot stored c.args.count r.format
+    valid slot_is at.image table r.table r.storable.table r.count r.room r.long same_room in
     exit_parts _ c.args.header before c.args.end stored (differences c.args.old.now stored.setup.params) c.args.slot at next p.0 c.write_parts.result _ w))
 
 pub returns-in_err-sync-clause-appends : goal.returns-in_err-sync-clause-appends
@@ -23,8 +24,10 @@ returns-in_err-sync-clause-appends g c =
     let r = c.requires in
     let stored = c.args.stored.now in
     rw p.1 (onto _ c.write_parts.ensures.writes c.in_err-sync.ensures.trace (λ w sync before at table valid slot_is same_room.
-    let next = next_of _ c.args.header before c.args.end c.args.old.now c.args.slot stored c.args.count r.format valid slot_is at.image table r.table r.storable.table r.count r.room r.long same_room in
-    exit_sync _ c.args.header before c.args.end stored (differences c.args.old.now stored.setup.params) c.args.slot at next p.0 c.write_parts.result _ _ w sync))
+    let next = next_of _ c.args.header before c.args.end c.args.old.now c.args.slot stored c.args.count r.format
+    valid slot_is at.image table r.table r.storable.table r.count r.room r.long same_room in
+    exit_sync _ c.args.header before c.args.end stored (differences c.args.old.now stored.setup.params) c.args.slot
+    at next p.0 c.write_parts.result _ _ w sync))
 
 pub returns-clause-appends : goal.returns-clause-appends
 returns-clause-appends g c =
@@ -32,9 +35,12 @@ returns-clause-appends g c =
     let stored = c.args.stored.now in
     let made = differences c.args.old.now stored.setup.params in
     let after : LogEnd = record { sector = c.args.end.sector + c.parts_for.result; number = c.args.end.number + 1 } in
-    let after_is : after ≡ end_after c.args.end (length made) = (λ i. record { sector = c.args.end.sector + c.parts_for.ensures.value i; number = c.args.end.number + 1 }) ∙ ap (end_after c.args.end) r.count in
+    let after_is : after ≡ end_after c.args.end (length made) =
+    (λ i. record { sector = c.args.end.sector + c.parts_for.ensures.value i; number = c.args.end.number + 1 })
+    ∙ ap (end_after c.args.end) r.count in
     onto _ c.in_ok-write_parts.ensures.writes c.in_ok-sync.ensures.trace (λ w sync before at table valid slot_is same_room.
-    let next = next_of _ c.args.header before c.args.end c.args.old.now c.args.slot stored c.args.count r.format valid slot_is at.image table r.table r.storable.table r.count r.room r.long same_room in
+    let next = next_of _ c.args.header before c.args.end c.args.old.now c.args.slot stored c.args.count r.format
+    valid slot_is at.image table r.table r.storable.table r.count r.room r.long same_room in
     finished _ c.args.header before c.args.end stored made c.args.slot at next _ after _ _ after_is w sync)
 
 pub returns-in_err-write_parts-clause-writes : goal.returns-in_err-write_parts-clause-writes

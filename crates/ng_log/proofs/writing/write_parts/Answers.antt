@@ -48,8 +48,12 @@ returns-in_err-write-2-clause-writes g c =
     let counted : length (differences_to c.loop-part.from old new) ≡ 48 * (k - 1) = inv.from ∙ omega (arith, c.loop-part-test.true) in
     let is = labelled_as e _ c.parts_for-parts.result c.args.count k refl parts c.requires.count in
     let here : k < size_of e = omega (arith, c.loop-part-test.true, c.requires.count) in
-    let right = later_of e _ k c.as_slice.result.now c.changes_part.result is low here c.changes_part.ensures.label (taken-piece old new c.loop-part.from c.next_changes-changes.result.1 c.next_changes-changes.result.0.items t (k - 1) counted ∙ sym c.as_slice.ensures.value) c.changes_part.ensures.changes in
-    rw p.1 (onto _ inv.parts c.write-in-loop-part.ensures.trace (λ r w. record_failed p.0 c.write-in-loop-part.result k e _ _ _ _ c.changes_part.result (omega arith) right r w))
+    let right = later_of e _ k c.as_slice.result.now c.changes_part.result is low here c.changes_part.ensures.label
+    (taken-piece old new c.loop-part.from c.next_changes-changes.result.1 c.next_changes-changes.result.0.items
+    t (k - 1) counted ∙ sym c.as_slice.ensures.value) c.changes_part.ensures.changes in
+    rw p.1 (onto _ inv.parts c.write-in-loop-part.ensures.trace
+    (λ r w. record_failed p.0 c.write-in-loop-part.result k e _ _ _ _ c.changes_part.result (omega arith) right
+    r w))
 
 pub loop-part-preserved : goal.loop-part-preserved
 loop-part-preserved g c =
@@ -65,11 +69,14 @@ loop-part-preserved g c =
     let counted : length (differences_to c.loop-part.from old new) ≡ 48 * (k - 1) = inv.from ∙ omega (arith, c.loop-part-test.true) in
     let is = labelled_as e _ c.parts_for-parts.result c.args.count k refl parts c.requires.count in
     let here : k < size_of e = omega (arith, c.loop-part-test.true, c.requires.count) in
-    let right = later_of e _ k c.as_slice.result.now c.changes_part.result is low here c.changes_part.ensures.label (taken-piece old new c.loop-part.from c.next_changes-changes.result.1 c.next_changes-changes.result.0.items t (k - 1) counted ∙ sym c.as_slice.ensures.value) c.changes_part.ensures.changes in
+    let right = later_of e _ k c.as_slice.result.now c.changes_part.result is low here c.changes_part.ensures.label
+    (taken-piece old new c.loop-part.from c.next_changes-changes.result.1 c.next_changes-changes.result.0.items
+    t (k - 1) counted ∙ sym c.as_slice.ensures.value) c.changes_part.ensures.changes in
     let on : k - 1 + 1 ≡ k + 1 - 1 = omega (arith, low) in
     record {
       parts = onto _ inv.parts w.trace (λ r trace. record_more k e _ _ _ _ c.changes_part.result (omega arith) right r trace);
-      from = taken-next old new c.loop-part.from c.next_changes-changes.result.1 c.next_changes-changes.result.0.items t (k - 1) counted ∙ (λ i. min (48 * on i) (sym c.requires.count i));
+      from = taken-next old new c.loop-part.from c.next_changes-changes.result.1
+          c.next_changes-changes.result.0.items t (k - 1) counted ∙ (λ i. min (48 * on i) (sym c.requires.count i));
       within = t.within;
       size = w.call.size ∙ inv.size;
       failures = w.call.failures ∙ inv.failures;

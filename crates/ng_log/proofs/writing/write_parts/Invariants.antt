@@ -7,7 +7,9 @@ use Rattle.ng_log.proofs.writing.write_parts.Given as goal
 
 abbrev pub invariant-loop-part : goal.invariant-loop-part
 invariant-loop-part g l = record {
-  parts : IfHonest (g.R.Rig.seen l.fn.rig) (g.R.Rig.seen l.rig) (RecordTo l.part (record_from l.epoch l.end l.old l.fn.slot l.stored) (g.R.Rig.seen l.fn.rig).trace (g.R.Rig.seen l.rig).trace);
+  parts : IfHonest (g.R.Rig.seen l.fn.rig) (g.R.Rig.seen l.rig)
+      (RecordTo l.part (record_from l.epoch l.end l.old l.fn.slot l.stored) (g.R.Rig.seen l.fn.rig).trace
+      (g.R.Rig.seen l.rig).trace);
   from : length (differences_to l.from l.old l.stored.setup.params) ≡ min (48 * (l.part - 1)) l.count;
   within : l.from ≤ 5399;
   size : (g.R.Rig.seen l.rig).sectors ≡ (g.R.Rig.seen l.fn.rig).sectors;

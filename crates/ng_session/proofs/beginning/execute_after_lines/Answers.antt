@@ -9,8 +9,11 @@ pub returns-in-Ok : goal.returns-in-Ok
 unfolding done_of
 returns-in-Ok g c =
     record {
-      does = ap (λ (t : TermsModel). executed_after t c.args.first c.args.stored.now.setup c.args.text.now) (sym c.terms_over-terms.ensures.terms) ∙ rw (← c.stored.view_is) c.in-Ok.ensures;
-      done = λ program e. rw (← e) (ap (λ (t : TermsModel). executed_after t c.args.first c.args.stored.now.setup c.args.text.now) (sym c.terms_over-terms.ensures.terms) ∙ rw (← c.stored.view_is) c.in-Ok.ensures);
+      does = ap (λ (t : TermsModel). executed_after t c.args.first c.args.stored.now.setup c.args.text.now)
+          (sym c.terms_over-terms.ensures.terms) ∙ rw (← c.stored.view_is) c.in-Ok.ensures;
+      done = λ program e. rw (← e)
+          (ap (λ (t : TermsModel). executed_after t c.args.first c.args.stored.now.setup c.args.text.now)
+          (sym c.terms_over-terms.ensures.terms) ∙ rw (← c.stored.view_is) c.in-Ok.ensures);
       short = after_short (Ok c.in-Ok.effect) _ _ _ c.args.text.now _ c.in-Ok.ensures;
       stands = rw (← c.stored.view_is) (after-stands (Ok c.in-Ok.effect) _ _ _ c.args.text.now _ c.terms_over-terms.ensures.few c.in-Ok.ensures);
     }

@@ -9,7 +9,8 @@ pub returns-in-Ok : goal.returns-in-Ok
 unfolding done_of
 returns-in-Ok g c =
     record {
-      done = λ program. ap (λ (t : TermsModel). executed_unless_deleted t c.args.stored.now.setup c.args.text.now) (sym c.terms_over-terms.ensures.terms) ∙ rw (← c.stored.view_is) c.in-Ok.ensures;
+      done = λ program. ap (λ (t : TermsModel). executed_unless_deleted t c.args.stored.now.setup c.args.text.now)
+          (sym c.terms_over-terms.ensures.terms) ∙ rw (← c.stored.view_is) c.in-Ok.ensures;
       short = alone_short (Ok c.in-Ok.effect) _ _ c.args.text.now _ c.in-Ok.ensures;
       stands = rw (← c.stored.view_is) (alone-stands (Ok c.in-Ok.effect) _ _ c.args.text.now _ c.terms_over-terms.ensures.few c.in-Ok.ensures);
     }

@@ -9,6 +9,7 @@ pub returns-in-Ok : goal.returns-in-Ok
 unfolding done_again
 returns-in-Ok g c =
     rw (← c.half.view_is, ← c.as_slice.ensures.value) (record {
-      done = ap (λ (t : TermsModel). executed c.args.stored.now.setup t.tools t.geometry c.as_slice.result.now) (sym c.terms_over-terms.ensures.terms) ∙ rw (← c.stored.view_is) c.in-Ok.ensures.does;
+      done = ap (λ (t : TermsModel). executed c.args.stored.now.setup t.tools t.geometry c.as_slice.result.now)
+          (sym c.terms_over-terms.ensures.terms) ∙ rw (← c.stored.view_is) c.in-Ok.ensures.does;
       stands = rw (← c.stored.view_is) (again-stands (Ok c.in-Ok.effect) _ _ _ _ _ c.terms_over-terms.ensures.few c.in-Ok.ensures.does);
     })

@@ -8,4 +8,5 @@ use Rattle.ng_session.proofs.planning.stored_at_end.Goals as goal
 pub returns-in-Some : goal.returns-in-Some
 returns-in-Some g c = λ block_delete.
     let base : Base = record { stored = base_after c.args.stored.now (option_map block_of c.args.current.now); block_delete = block_delete } in
-    c.after.ensures ∙ sym (ap (λ (l : List PlannedModel). (base_at_end base l).stored) c.in-Some.ensures.1 ∙ end_more base c.in-Some.ensures.0 c.in-Some.planned.now)
+    c.after.ensures ∙ sym (ap (λ (l : List PlannedModel). (base_at_end base l).stored) c.in-Some.ensures.1
+    ∙ end_more base c.in-Some.ensures.0 c.in-Some.planned.now)

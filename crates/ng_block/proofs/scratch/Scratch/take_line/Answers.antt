@@ -9,4 +9,5 @@ returns-clause-does g c = search rules
 
 pub returns-clause-first : goal.returns-clause-first
 returns-clause-first g c =
-    of_executed c.args.state.now c.args.terms.now.tools c.args.terms.now.geometry c.args.text.now (in_state c.args.state.now c.take_values.new.self.effect) c.take_values.result (returns-clause-does g c)
+    of_executed c.args.state.now c.args.terms.now.tools c.args.terms.now.geometry c.args.text.now
+    (in_state c.args.state.now c.take_values.new.self.effect) c.take_values.result (returns-clause-does g c)

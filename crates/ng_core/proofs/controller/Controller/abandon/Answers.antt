@@ -16,7 +16,9 @@ use Rattle.ng_core.proofs.controller.Controller.abandon.Goals as goal
 pub keep-requires-clause-free : goal.keep-requires-clause-free
 keep-requires-clause-free g c =
     let old : ControllerModel g.row.R.Denot = c.args.self.now in
-    let none : abandon_refusal old.session ≡ None = subst (λ (x : ControllerModel g.row.R.Denot). abandon_refusal x.session ≡ None) c.self.view_is (sym c.in_default.ensures) in
+    let none : abandon_refusal old.session ≡ None =
+    subst (λ (x : ControllerModel g.row.R.Denot). abandon_refusal x.session ≡ None) c.self.view_is
+    (sym c.in_default.ensures) in
     no_block old.session none
 
 pub keep-requires-clause-count : goal.keep-requires-clause-count
@@ -26,13 +28,18 @@ keep-requires-clause-count g c =
 
 pub keep-requires-clause-storable : goal.keep-requires-clause-storable
 keep-requires-clause-storable g c =
-    subst (λ (x : ControllerModel g.row.R.Denot). IsStorable (with_decoded_state x.session.stored c.in-Some-abandoned.report x.session.stored.length)) c.self.view_is c.in-Some-abandoned.ensures.storable
+    subst (λ (x : ControllerModel g.row.R.Denot).
+    IsStorable (with_decoded_state x.session.stored c.in-Some-abandoned.report x.session.stored.length))
+    c.self.view_is c.in-Some-abandoned.ensures.storable
 
 pub returns-in-Some : goal.returns-in-Some
 returns-in-Some g c =
     let old : ControllerModel g.row.R.Denot = c.args.self.now in
-    let refused : Some c.in-Some.fault ≡ abandon_refusal old.session = subst (λ (x : ControllerModel g.row.R.Denot). Some c.in-Some.fault ≡ abandon_refusal x.session) c.self.view_is c.in-Some.ensures in
-    carried_refused g.R.Rig.seen ⊥ (abandon_refusal old.session ≡ None) ⊥ c.in-Some.fault (λ (program : List ℕ). abandon program old.session) old c.requires.whole (λ none. none)
+    let refused : Some c.in-Some.fault ≡ abandon_refusal old.session =
+    subst (λ (x : ControllerModel g.row.R.Denot). Some c.in-Some.fault ≡ abandon_refusal x.session)
+    c.self.view_is c.in-Some.ensures in
+    carried_refused g.R.Rig.seen ⊥ (abandon_refusal old.session ≡ None) ⊥ c.in-Some.fault
+    (λ (program : List ℕ). abandon program old.session) old c.requires.whole (λ none. none)
     (λ program. ap (λ (o : Option Fault). abandon_unless program old.session o) refused)
 
 pub returns-then-is_count_used_up : goal.returns-then-is_count_used_up
@@ -43,20 +50,34 @@ returns-then-is_count_used_up g c =
     let saved = after_abandon session.stored in
     let free : abandon_refusal session ≡ None = sym c.in_default.ensures in
     carried_used g.R.Rig.seen ⊥ (abandon_refusal old.session ≡ None) ⊥ (λ (program : List ℕ). abandon program old.session) old c.requires.whole
-    (subst (λ (x : ControllerModel g.row.R.Denot). IsCausedBy ⊥ (abandon_refusal x.session ≡ None) (ledger_of x.journal) (λ (program : List ℕ). abandon program x.session) CountersUsed) c.self.view_is
+    (subst (λ (x : ControllerModel g.row.R.Denot). IsCausedBy ⊥ (abandon_refusal x.session ≡ None)
+    (ledger_of x.journal) (λ (program : List ℕ). abandon program x.session) CountersUsed) c.self.view_is
     (hindered_count ledger (λ program. abandon program session) saved (abandon_refusal session ≡ None)
-    (c.counters.ensures.past ledger saved (past_abandoned session.stored (has_half session free) c.if-is_count_used_up.ensures)) (λ program. stored_abandon program session free)))
+    (c.counters.ensures.past ledger saved
+    (past_abandoned session.stored (has_half session free) c.if-is_count_used_up.ensures))
+    (λ program. stored_abandon program session free)))
 
 pub returns-in-Some-abandoned : goal.returns-in-Some-abandoned
 returns-in-Some-abandoned g c =
     let old : ControllerModel g.row.R.Denot = c.args.self.now in
-    let none : abandon_refusal old.session ≡ None = subst (λ (x : ControllerModel g.row.R.Denot). abandon_refusal x.session ≡ None) c.self.view_is (sym c.in_default.ensures) in
+    let none : abandon_refusal old.session ≡ None =
+    subst (λ (x : ControllerModel g.row.R.Denot). abandon_refusal x.session ≡ None) c.self.view_is
+    (sym c.in_default.ensures) in
     let is : with_decoded_state old.session.stored c.in-Some-abandoned.report old.session.stored.length ≡ after_abandon old.session.stored =
-    subst (λ (x : ControllerModel g.row.R.Denot). with_decoded_state x.session.stored c.in-Some-abandoned.report x.session.stored.length ≡ after_abandon x.session.stored) c.self.view_is c.in-Some-abandoned.ensures.value in
+    subst (λ (x : ControllerModel g.row.R.Denot). with_decoded_state x.session.stored c.in-Some-abandoned.report
+    x.session.stored.length ≡ after_abandon x.session.stored) c.self.view_is
+    c.in-Some-abandoned.ensures.value in
     carried_to g.R.Rig.seen ⊥ ⊥ (Unit {0}) (abandon_refusal old.session ≡ None) ⊥ ⊥
-    (λ (program : List ℕ). commits program Abandoned (record old.session { stored = with_decoded_state old.session.stored c.in-Some-abandoned.report old.session.stored.length })) (λ (program : List ℕ). abandon program old.session)
+    (λ (program : List ℕ).
+    commits program Abandoned
+    (record old.session {
+      stored = with_decoded_state old.session.stored c.in-Some-abandoned.report
+          old.session.stored.length;
+    })) (λ (program : List ℕ). abandon program old.session)
     c.keep.result old c.keep.new.self (λ m. m) (λ u. none) (λ e. e) (λ e. e)
-    (λ program. ap (λ (y : StoredModel). commits program Abandoned (let s : SessionModel = record old.session { stored = y } in s)) is ∙ sym (ap (λ (o : Option Fault). abandon_unless program old.session o) none))
+    (λ program. ap (λ (y : StoredModel).
+    commits program Abandoned (let s : SessionModel = record old.session { stored = y } in s)) is
+    ∙ sym (ap (λ (o : Option Fault). abandon_unless program old.session o) none))
     (c.keep.ensures Abandoned (λ saved. refl))
 
 pub returns-in-None : goal.returns-in-None

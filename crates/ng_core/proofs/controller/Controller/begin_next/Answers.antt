@@ -22,8 +22,12 @@ pub returns-in_err-plan-in-Begun : goal.returns-in_err-plan-in-Begun
 returns-in_err-plan-in-Begun g c =
     let p = err_from_is_err_and c.from_residual-in_err-plan-in-Begun.result c.from_residual-in_err-plan-in-Begun.ensures.1 in
     let old : ControllerModel g.row.R.Denot = c.args.self.now in
-    let begun = subst (λ (r : Reply). CarriesOut g.R.Rig.seen needs_line (λ (program : List ℕ). begin old.geometry program old.session (program_line_at program old.session.stored.place)) (Ok r) old c.begin.new.self) c.in-Begun.is c.in_ok-reply.ensures in
-    rw (p.1) (carried_unplanned g.R.Rig.seen p.0 c.in_err-plan-in-Begun.field-0.0 old c.begin.new.self c.plan.new.self p.2 c.requires.runs begun c.in_err-plan-in-Begun.ensures)
+    let begun = subst (λ (r : Reply). CarriesOut g.R.Rig.seen needs_line
+    (λ (program : List ℕ). begin old.geometry program old.session
+    (program_line_at program old.session.stored.place)) (Ok r) old c.begin.new.self) c.in-Begun.is
+    c.in_ok-reply.ensures in
+    rw (p.1) (carried_unplanned g.R.Rig.seen p.0 c.in_err-plan-in-Begun.field-0.0 old c.begin.new.self
+    c.plan.new.self p.2 c.requires.runs begun c.in_err-plan-in-Begun.ensures)
 
 pub returns-in_err-plan-in-Begun-2 : goal.returns-in_err-plan-in-Begun-2
 returns-in_err-plan-in-Begun-2 g c =
@@ -31,13 +35,19 @@ returns-in_err-plan-in-Begun-2 g c =
     let old : ControllerModel g.row.R.Denot = c.args.self.now in
     let begins : List ℕ → Transition = λ program. begin old.geometry program old.session (program_line_at program old.session.stored.place) in
     let begun = subst (λ (r : Reply). CarriesOut g.R.Rig.seen needs_line begins (Ok r) old c.begin.new.self) c.in-Begun.is c.in_ok-reply.ensures in
-    let once = carried_planned g.R.Rig.seen (Unit {0}) (Unit {0}) (Unit {0}) reply.Begun c.in_ok-plan-in-Begun.field-0 begins old c.begin.new.self c.plan.new.self begun c.in_ok-plan-in-Begun.ensures in
-    rw (p.1) (carried_unplanned g.R.Rig.seen p.0 c.in_err-plan-in-Begun-2.field-0.0 old c.plan.new.self c.plan-in-Begun.new.self p.2 c.requires.runs once c.in_err-plan-in-Begun-2.ensures)
+    let once = carried_planned g.R.Rig.seen (Unit {0}) (Unit {0}) (Unit {0}) reply.Begun
+    c.in_ok-plan-in-Begun.field-0 begins old c.begin.new.self c.plan.new.self begun
+    c.in_ok-plan-in-Begun.ensures in
+    rw (p.1) (carried_unplanned g.R.Rig.seen p.0 c.in_err-plan-in-Begun-2.field-0.0 old c.plan.new.self
+    c.plan-in-Begun.new.self p.2 c.requires.runs once c.in_err-plan-in-Begun-2.ensures)
 
 pub returns-in_ok-plan-in-Begun-2 : goal.returns-in_ok-plan-in-Begun-2
 returns-in_ok-plan-in-Begun-2 g c =
     let old : ControllerModel g.row.R.Denot = c.args.self.now in
     let begins : List ℕ → Transition = λ program. begin old.geometry program old.session (program_line_at program old.session.stored.place) in
     let begun = subst (λ (r : Reply). CarriesOut g.R.Rig.seen needs_line begins (Ok r) old c.begin.new.self) c.in-Begun.is c.in_ok-reply.ensures in
-    let once = carried_planned g.R.Rig.seen (Unit {0}) (Unit {0}) (Unit {0}) reply.Begun c.in_ok-plan-in-Begun.field-0 begins old c.begin.new.self c.plan.new.self begun c.in_ok-plan-in-Begun.ensures in
-    carried_planned g.R.Rig.seen (Unit {0}) (Unit {0}) (Unit {0}) reply.Begun c.in_ok-plan-in-Begun-2.field-0 begins old c.plan.new.self c.plan-in-Begun.new.self once c.in_ok-plan-in-Begun-2.ensures
+    let once = carried_planned g.R.Rig.seen (Unit {0}) (Unit {0}) (Unit {0}) reply.Begun
+    c.in_ok-plan-in-Begun.field-0 begins old c.begin.new.self c.plan.new.self begun
+    c.in_ok-plan-in-Begun.ensures in
+    carried_planned g.R.Rig.seen (Unit {0}) (Unit {0}) (Unit {0}) reply.Begun c.in_ok-plan-in-Begun-2.field-0 begins
+    old c.plan.new.self c.plan-in-Begun.new.self once c.in_ok-plan-in-Begun-2.ensures

@@ -7,7 +7,8 @@ use Rattle.ng_core.proofs.controller.Controller.carry_out.Goals as goal
 
 pub returns-in-Load : goal.returns-in-Load
 returns-in-Load g c =
-    subst (λ (e : Event _). CarriesOutEvent g.R.Rig.seen e c.load.result c.args.self.now c.load.new.self) (ap (λ (text : List ℕ). event.Load text) c.bytes.ensures ∙ sym c.in-Load.is) c.load.ensures
+    subst (λ (e : Event _). CarriesOutEvent g.R.Rig.seen e c.load.result c.args.self.now c.load.new.self)
+    (ap (λ (text : List ℕ). event.Load text) c.bytes.ensures ∙ sym c.in-Load.is) c.load.ensures
 
 pub returns-in-Reference : goal.returns-in-Reference
 returns-in-Reference g c =

@@ -20,32 +20,53 @@ pub returns-then-is_some : goal.returns-then-is_some
 returns-then-is_some g c =
     let old : ControllerModel g.row.R.Denot = c.args.self.now in
     let found = by_some _ _ c.after.result c.if-is_some.ensures c.after.ensures.after in
-    let block : is_some old.session.current ≡ true = sym (ap (λ (x : ControllerModel g.row.R.Denot). is_some x.session.current) c.self.view_is) ∙ ap (λ (o : Option CurrentBlockModel). is_some o) found.1.1 in
-    carried_to g.R.Rig.seen ⊥ (IsBetweenLines old.session) (Unit {0}) (has_work old.session ≡ true) ⊥ (IsBetweenLines old.session) (λ (program : List ℕ). end old.geometry program old.session old.session.current) (λ (program : List ℕ). end old.geometry program old.session old.session.current) c.commit.result old c.commit.new.self
-    (λ none. absurd none) (λ u. busy_block (is_running old.session.activity) old.session.current block) (λ none. absurd none) (busy_unread old.session block) (λ program. refl) c.commit.ensures
+    let block : is_some old.session.current ≡ true =
+    sym (ap (λ (x : ControllerModel g.row.R.Denot). is_some x.session.current) c.self.view_is)
+    ∙ ap (λ (o : Option CurrentBlockModel). is_some o) found.1.1 in
+    carried_to g.R.Rig.seen ⊥ (IsBetweenLines old.session) (Unit {0}) (has_work old.session ≡ true) ⊥
+    (IsBetweenLines old.session)
+    (λ (program : List ℕ). end old.geometry program old.session old.session.current)
+    (λ (program : List ℕ). end old.geometry program old.session old.session.current) c.commit.result old
+    c.commit.new.self
+    (λ none. absurd none) (λ u. busy_block (is_running old.session.activity) old.session.current block)
+    (λ none. absurd none) (busy_unread old.session block) (λ program. refl) c.commit.ensures
 
 pub returns-then-is_running : goal.returns-then-is_running
 returns-then-is_running g c =
     let old : ControllerModel g.row.R.Denot = c.args.self.now in
-    let none = sym (ap (λ (x : ControllerModel g.row.R.Denot). x.session.current) c.self.view_is) ∙ by_none _ c.after.result c.if-is_some.ensures c.after.ensures.after in
+    let none = sym (ap (λ (x : ControllerModel g.row.R.Denot). x.session.current) c.self.view_is)
+    ∙ by_none _ c.after.result c.if-is_some.ensures c.after.ensures.after in
     let runs = sym (ap (λ (x : ControllerModel g.row.R.Denot). is_running x.session.activity) c.self.view_is) ∙ sym c.if-is_running.ensures in
     carried_to g.R.Rig.seen (Unit {0}) (IsBetweenLines old.session) (Unit {0}) (has_work old.session ≡ true) (Unit {0}) (IsBetweenLines old.session)
-    (λ (program : List ℕ). begin old.geometry program old.session (program_line_at program old.session.stored.place)) (λ (program : List ℕ). end old.geometry program old.session old.session.current) c.begin_next.result old c.begin_next.new.self
+    (λ (program : List ℕ). begin old.geometry program old.session
+    (program_line_at program old.session.stored.place))
+    (λ (program : List ℕ). end old.geometry program old.session old.session.current) c.begin_next.result old
+    c.begin_next.new.self
     (λ u. (none, runs)) (λ u. busy_running (is_running old.session.activity) (is_some old.session.current) runs) (λ u. (none, runs)) (λ between. tt)
     (λ program. sym (begins_there old.geometry program old.session none runs)) c.begin_next.ensures
 
 pub returns : goal.returns
 returns g c =
     let geometry : Geometry = c.self.inside.geometry in
-    let old : ControllerModel g.row.R.Denot = record { journal = c.self.inside.journal; session = c.self.inside.session; lines = c.self.inside.lines; geometry = geometry } in
+    let old : ControllerModel g.row.R.Denot =
+    record {
+      journal = c.self.inside.journal;
+      session = c.self.inside.session;
+      lines = c.self.inside.lines;
+      geometry = geometry;
+    } in
     let whole = ap (λ (x : ControllerModel g.row.R.Denot). x.journal.broken) c.self.view_is ∙ c.requires in
     let none = by_none _ c.after.result c.if-is_some.ensures c.after.ensures.after in
-    subst (λ (x : ControllerModel g.row.R.Denot). CarriesOut g.R.Rig.seen (needs_of_work x.session) (λ (program : List ℕ). end x.geometry program x.session x.session.current) (Ok c.rest.result) x x) c.self.view_is
+    subst (λ (x : ControllerModel g.row.R.Denot). CarriesOut g.R.Rig.seen (needs_of_work x.session)
+    (λ (program : List ℕ). end x.geometry program x.session x.session.current) (Ok c.rest.result) x x)
+    c.self.view_is
     (record {
       does = does_rest g.R.Rig.seen c.rest.result old none (sym c.if-is_running.ensures) c.rest.ensures;
-      calls = calls_on g.R.Rig.seen (Ok c.rest.result) (λ (program : List ℕ). rest program old.session) (λ (program : List ℕ). end geometry program old.session old.session.current) old old
+      calls = calls_on g.R.Rig.seen (Ok c.rest.result) (λ (program : List ℕ). rest program old.session)
+          (λ (program : List ℕ). end geometry program old.session old.session.current) old old
           (λ program. sym (rests_there geometry program old.session none (sym c.if-is_running.ensures)))
-          (calls_quiet g.R.Rig.seen c.rest.result (λ (program : List ℕ). rest program old.session) old old (λ program. still_rest program old.session) (λ h. refl));
+          (calls_quiet g.R.Rig.seen c.rest.result (λ (program : List ℕ). rest program old.session) old old
+          (λ program. still_rest program old.session) (λ h. refl));
       reads = reads_on g.R.Rig.seen (Ok c.rest.result) (λ (program : List ℕ). rest program old.session)
           (λ (program : List ℕ). end geometry program old.session old.session.current) old old
           (λ program. sym (rests_there geometry program old.session none (sym c.if-is_running.ensures)))
@@ -53,7 +74,8 @@ returns g c =
           (λ program. still_rest program old.session) refl refl c.rest.ensures (λ program. refl));
       comes = comes_rest (IsBetweenLines old.session) c.rest.result old none (sym c.if-is_running.ensures) c.rest.ensures;
       line = λ read. absurd (let z : false ≡ true = c.if-is_running.ensures ∙ read.1 in cc);
-      ledger = ledger_on g.R.Rig.seen (Ok c.rest.result) (λ (program : List ℕ). rest program old.session) (λ (program : List ℕ). end geometry program old.session old.session.current) old old
+      ledger = ledger_on g.R.Rig.seen (Ok c.rest.result) (λ (program : List ℕ). rest program old.session)
+          (λ (program : List ℕ). end geometry program old.session old.session.current) old old
           (λ program. sym (rests_there geometry program old.session none (sym c.if-is_running.ensures)))
           (ledger_quiet g.R.Rig.seen (λ (program : List ℕ). rest program old.session) old old (λ program. still_rest program old.session) refl);
       hindered = tt;

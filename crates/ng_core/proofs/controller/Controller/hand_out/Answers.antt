@@ -15,20 +15,51 @@ returns-in_err-hand_out g c =
     let p = err_from_is_err_and c.from_residual.result c.from_residual.ensures.1 in
     let e = c.in_err-hand_out.field-0.0 in
     let geometry : Geometry = c.self.inside.geometry in
-    let old : ControllerModel g.row.R.Denot = record { journal = c.self.inside.journal; session = c.self.inside.session; lines = c.self.inside.lines; geometry = geometry } in
-    let new : ControllerModel g.row.R.Denot = record { journal = c.hand_out.new.self; session = c.self.inside.session; lines = c.self.inside.lines; geometry = geometry } in
-    rw (p.1) (carried_as g.R.Rig.seen (λ (x : ControllerModel g.row.R.Denot). ⊥) (λ (x : ControllerModel g.row.R.Denot). Unit {0}) (λ (x : ControllerModel g.row.R.Denot). ⊥) (λ (x : ControllerModel g.row.R.Denot) (program : List ℕ). handing c.args.item program x.session) (Err p.0) c.args.self.now old new c.self.view_is
+    let old : ControllerModel g.row.R.Denot =
+    record {
+      journal = c.self.inside.journal;
+      session = c.self.inside.session;
+      lines = c.self.inside.lines;
+      geometry = geometry;
+    } in
+    let new : ControllerModel g.row.R.Denot =
+    record {
+      journal = c.hand_out.new.self;
+      session = c.self.inside.session;
+      lines = c.self.inside.lines;
+      geometry = geometry;
+    } in
+    rw (p.1) (carried_as g.R.Rig.seen (λ (x : ControllerModel g.row.R.Denot). ⊥)
+    (λ (x : ControllerModel g.row.R.Denot). Unit {0}) (λ (x : ControllerModel g.row.R.Denot). ⊥)
+    (λ (x : ControllerModel g.row.R.Denot) (program : List ℕ). handing c.args.item program x.session) (Err p.0)
+    c.args.self.now old new c.self.view_is
     (carried_lost g.R.Rig.seen ⊥ (Unit {0}) ⊥ p.0 e (λ (program : List ℕ). handing c.args.item program old.session) old new p.2
     (hands_none g.R.Rig.seen e e c.args.item old new refl c.in_err-hand_out.ensures.errors c.in_err-hand_out.ensures.stops)
     (λ h program. record { calls = c.in_err-hand_out.ensures.hands.holds h; unchanged = λ other. absurd (other c.in_err-hand_out.ensures.errors) })
-    c.in_err-hand_out.ensures.errors tt (λ program used. used) refl refl c.in_err-hand_out.ensures.broken c.in_err-hand_out.ensures.size c.in_err-hand_out.ensures.failures))
+    c.in_err-hand_out.ensures.errors tt (λ program used. used) refl refl c.in_err-hand_out.ensures.broken
+    c.in_err-hand_out.ensures.size c.in_err-hand_out.ensures.failures))
 
 pub returns : goal.returns
 returns g c =
     let geometry : Geometry = c.self.inside.geometry in
-    let old : ControllerModel g.row.R.Denot = record { journal = c.self.inside.journal; session = c.self.inside.session; lines = c.self.inside.lines; geometry = geometry } in
-    let new : ControllerModel g.row.R.Denot = record { journal = c.hand_out.new.self; session = c.self.inside.session; lines = c.self.inside.lines; geometry = geometry } in
-    carried_as g.R.Rig.seen (λ (x : ControllerModel g.row.R.Denot). ⊥) (λ (x : ControllerModel g.row.R.Denot). Unit {0}) (λ (x : ControllerModel g.row.R.Denot). ⊥) (λ (x : ControllerModel g.row.R.Denot) (program : List ℕ). handing c.args.item program x.session) (Ok reply.Moved) c.args.self.now old new c.self.view_is (record {
+    let old : ControllerModel g.row.R.Denot =
+    record {
+      journal = c.self.inside.journal;
+      session = c.self.inside.session;
+      lines = c.self.inside.lines;
+      geometry = geometry;
+    } in
+    let new : ControllerModel g.row.R.Denot =
+    record {
+      journal = c.hand_out.new.self;
+      session = c.self.inside.session;
+      lines = c.self.inside.lines;
+      geometry = geometry;
+    } in
+    carried_as g.R.Rig.seen (λ (x : ControllerModel g.row.R.Denot). ⊥) (λ (x : ControllerModel g.row.R.Denot).
+    Unit {0}) (λ (x : ControllerModel g.row.R.Denot). ⊥)
+    (λ (x : ControllerModel g.row.R.Denot) (program : List ℕ). handing c.args.item program x.session)
+    (Ok reply.Moved) c.args.self.now old new c.self.view_is (record {
       does = hands_item g.R.Rig.seen c.in_ok-hand_out.field-0 c.args.item old new refl c.in_ok-hand_out.ensures.stops refl;
       calls = λ h program. record { calls = c.in_ok-hand_out.ensures.hands.holds h; unchanged = tt };
       reads = reads_answered g.R.Rig.seen reply.Moved

@@ -23,10 +23,15 @@ use Rattle.ng_core.proofs.controller.Controller.load.Goals as goal
 pub invariant_of-self : goal.invariant_of-self
 invariant_of-self g c =
     let whole = ap (λ (x : ControllerModel g.row.R.Denot). x.journal.broken) c.self.view_is ∙ c.requires.whole in
-    let small : length c.args.text.now ≤ c.self.inside.journal.saved.room = subst (λ (x : StoredModel). length c.args.text.now ≤ x.room) (c.self.invariant.saved whole) c.in_default.ensures.none.1 in
-    let which = not_too_long (Unit {0}) c.in_err-load_program.field-0.0 c.self.inside.journal.saved.room (length c.args.text.now) small c.in_err-load_program.ensures.errors c.in_err-load_program.ensures.too_long in
+    let small : length c.args.text.now ≤ c.self.inside.journal.saved.room =
+    subst (λ (x : StoredModel). length c.args.text.now ≤ x.room) (c.self.invariant.saved whole)
+    c.in_default.ensures.none.1 in
+    let which = not_too_long (Unit {0}) c.in_err-load_program.field-0.0 c.self.inside.journal.saved.room
+    (length c.args.text.now) small c.in_err-load_program.ensures.errors
+    c.in_err-load_program.ensures.too_long in
     record {
-      saved = kept_failed Reply c.in_err-load_program.field-0.0 c.self.inside.journal c.load_program.new.self c.self.inside.session.stored which c.in_err-load_program.ensures.broken
+      saved = kept_failed Reply c.in_err-load_program.field-0.0 c.self.inside.journal c.load_program.new.self
+          c.self.inside.session.stored which c.in_err-load_program.ensures.broken
           (λ used. c.in_err-load_program.ensures.unchanged (inl (ap (λ (f : Fault). Err f) used))) (c.self.invariant.saved whole);
       plan = c.self.invariant.plan;
     }
@@ -35,7 +40,8 @@ pub invariant_of-self-2 : goal.invariant_of-self-2
 invariant_of-self-2 g c =
     let stored : c.load.new.self.stored ≡ c.in_ok-stored.stored = ap (λ (s : SessionModel). s.stored) c.load.ensures.next in
     let before = ap (λ (x : ControllerModel g.row.R.Denot). x.journal.broken) c.self.view_is ∙ c.requires.whole in
-    let kept = kept_whole c.self.inside.journal c.in_ok-stored.stored c.self.inside.session.stored (c.self.invariant.saved before) (ap (λ (x : StoredModel). x.room) c.in_ok-stored.ensures.value) in
+    let kept = kept_whole c.self.inside.journal c.in_ok-stored.stored c.self.inside.session.stored
+    (c.self.invariant.saved before) (ap (λ (x : StoredModel). x.room) c.in_ok-stored.ensures.value) in
     record { saved = λ whole. stored ∙ sym kept ∙ sym c.in_ok-load_program.ensures.saved; plan = plan_none _ _ c.forget.new.self.ahead c.forget.ensures.ahead }
 
 pub returns-in-Some : goal.returns-in-Some
@@ -44,13 +50,16 @@ returns-in-Some g c =
     let refused : Some c.in-Some.fault ≡ load_refusal old.session c.args.text.now =
     subst (λ (x : ControllerModel g.row.R.Denot). Some c.in-Some.fault ≡ load_refusal x.session c.args.text.now) c.self.view_is c.in-Some.ensures.value in
     carried_refused g.R.Rig.seen (load_refusal old.session c.args.text.now ≡ None) (load_refusal old.session c.args.text.now ≡ None) ⊥ c.in-Some.fault
-    (λ (program : List ℕ). load program old.session c.args.text.now) old c.requires.whole (λ none. none) (λ program. ap (λ (o : Option Fault). load_unless program old.session c.args.text.now o) refused)
+    (λ (program : List ℕ). load program old.session c.args.text.now) old c.requires.whole (λ none. none)
+    (λ program. ap (λ (o : Option Fault). load_unless program old.session c.args.text.now o) refused)
 
 pub returns-in_err-stored : goal.returns-in_err-stored
 returns-in_err-stored g c =
     let p = err_from_is_err_and c.from_residual.result c.from_residual.ensures.1 in
     let old : ControllerModel g.row.R.Denot = c.args.self.now in
-    let free : load_refusal old.session c.args.text.now ≡ None = subst (λ (x : ControllerModel g.row.R.Denot). load_refusal x.session c.args.text.now ≡ None) c.self.view_is (sym c.in_default.ensures.value) in
+    let free : load_refusal old.session c.args.text.now ≡ None =
+    subst (λ (x : ControllerModel g.row.R.Denot). load_refusal x.session c.args.text.now ≡ None) c.self.view_is
+    (sym c.in_default.ensures.value) in
     rw (p.1) (carried_short g.R.Rig.seen (load_refusal old.session c.args.text.now ≡ None) (load_refusal old.session c.args.text.now ≡ None) ⊥ p.0
     (λ (program : List ℕ). load program old.session c.args.text.now) old old c.requires.whole p.2 free refl refl refl refl)
 
@@ -59,44 +68,90 @@ returns-in_err-load_program g c =
     let p = err_from_is_err_and c.from_residual-in_err-load_program.result c.from_residual-in_err-load_program.ensures.1 in
     let e = c.in_err-load_program.field-0.0 in
     let geometry : Geometry = c.self.inside.geometry in
-    let old : ControllerModel g.row.R.Denot = record { journal = c.self.inside.journal; session = c.self.inside.session; lines = c.self.inside.lines; geometry = geometry } in
-    let new : ControllerModel g.row.R.Denot = record { journal = c.load_program.new.self; session = c.self.inside.session; lines = c.self.inside.lines; geometry = geometry } in
+    let old : ControllerModel g.row.R.Denot =
+    record {
+      journal = c.self.inside.journal;
+      session = c.self.inside.session;
+      lines = c.self.inside.lines;
+      geometry = geometry;
+    } in
+    let new : ControllerModel g.row.R.Denot =
+    record {
+      journal = c.load_program.new.self;
+      session = c.self.inside.session;
+      lines = c.self.inside.lines;
+      geometry = geometry;
+    } in
     let free : load_refusal old.session c.args.text.now ≡ None = sym c.in_default.ensures.value in
     let whole = ap (λ (x : ControllerModel g.row.R.Denot). x.journal.broken) c.self.view_is ∙ c.requires.whole in
-    let small : length c.args.text.now ≤ c.self.inside.journal.saved.room = subst (λ (x : StoredModel). length c.args.text.now ≤ x.room) (c.self.invariant.saved whole) c.in_default.ensures.none.1 in
-    let which : (e ≡ CountersUsed) ⊎ (e ≡ DeviceFailed) = not_too_long (Unit {0}) e c.self.inside.journal.saved.room (length c.args.text.now) small c.in_err-load_program.ensures.errors c.in_err-load_program.ensures.too_long in
-    let kept = kept_whole old.journal c.in_ok-stored.stored old.session.stored (c.self.invariant.saved whole) (ap (λ (x : StoredModel). x.room) c.in_ok-stored.ensures.value) in
+    let small : length c.args.text.now ≤ c.self.inside.journal.saved.room =
+    subst (λ (x : StoredModel). length c.args.text.now ≤ x.room) (c.self.invariant.saved whole)
+    c.in_default.ensures.none.1 in
+    let which : (e ≡ CountersUsed) ⊎ (e ≡ DeviceFailed) = not_too_long (Unit {0}) e c.self.inside.journal.saved.room
+    (length c.args.text.now) small c.in_err-load_program.ensures.errors
+    c.in_err-load_program.ensures.too_long in
+    let kept = kept_whole old.journal c.in_ok-stored.stored old.session.stored (c.self.invariant.saved whole)
+    (ap (λ (x : StoredModel). x.room) c.in_ok-stored.ensures.value) in
     let unchanged : e ≡ CountersUsed → new.journal ≡ old.journal = λ used. c.in_err-load_program.ensures.unchanged (inl (ap (λ (f : Fault). Err f) used)) in
-    rw (p.1) (carried_as g.R.Rig.seen (λ (x : ControllerModel g.row.R.Denot). load_refusal x.session c.args.text.now ≡ None) (λ (x : ControllerModel g.row.R.Denot). load_refusal x.session c.args.text.now ≡ None) (λ (x : ControllerModel g.row.R.Denot). ⊥) (λ (x : ControllerModel g.row.R.Denot) (program : List ℕ). load program x.session c.args.text.now) (Err p.0) c.args.self.now old new c.self.view_is
+    rw (p.1) (carried_as g.R.Rig.seen (λ (x : ControllerModel g.row.R.Denot).
+    load_refusal x.session c.args.text.now ≡ None) (λ (x : ControllerModel g.row.R.Denot).
+    load_refusal x.session c.args.text.now ≡ None) (λ (x : ControllerModel g.row.R.Denot). ⊥)
+    (λ (x : ControllerModel g.row.R.Denot) (program : List ℕ). load program x.session c.args.text.now) (Err p.0)
+    c.args.self.now old new c.self.view_is
     (carried_failed g.R.Rig.seen (load_refusal old.session c.args.text.now ≡ None) (load_refusal old.session c.args.text.now ≡ None) ⊥ p.0 e
     (λ (program : List ℕ). load program old.session c.args.text.now) old new p.2
-    (does_not_load g.R.Rig.seen e e (kept_by old.journal c.in_ok-stored.stored) c.args.text.now old new free (kept ∙ c.in_ok-stored.ensures.value) refl which unchanged c.in_err-load_program.ensures.stops refl)
-    (makes_load {T = Unit {0}} g.R.Rig.seen (Err e) reply.Idle (kept_by old.journal c.in_ok-stored.stored) c.args.text.now old new free (kept ∙ c.in_ok-stored.ensures.value) c.in_err-load_program.ensures.stores)
+    (does_not_load g.R.Rig.seen e e (kept_by old.journal c.in_ok-stored.stored) c.args.text.now old new free
+    (kept ∙ c.in_ok-stored.ensures.value) refl which unchanged c.in_err-load_program.ensures.stops refl)
+    (makes_load {T = Unit {0}} g.R.Rig.seen (Err e) reply.Idle (kept_by old.journal c.in_ok-stored.stored)
+    c.args.text.now old new free (kept ∙ c.in_ok-stored.ensures.value) c.in_err-load_program.ensures.stores)
     which unchanged refl refl refl
-    (hindered_load (Unit {0}) e c.self.inside.journal.saved.room old.session c.in_ok-stored.stored c.args.text.now (ledger_of old.journal) free small c.in_ok-stored.ensures.value which c.in_err-load_program.ensures.used_up)
+    (hindered_load (Unit {0}) e c.self.inside.journal.saved.room old.session c.in_ok-stored.stored c.args.text.now
+    (ledger_of old.journal) free small c.in_ok-stored.ensures.value which c.in_err-load_program.ensures.used_up)
     c.in_err-load_program.ensures.broken c.in_err-load_program.ensures.size c.in_err-load_program.ensures.failures))
 
 pub returns : goal.returns
 returns g c =
     let geometry : Geometry = c.self.inside.geometry in
-    let old : ControllerModel g.row.R.Denot = record { journal = c.self.inside.journal; session = c.self.inside.session; lines = c.self.inside.lines; geometry = geometry } in
-    let new : ControllerModel g.row.R.Denot = record { journal = c.load_program.new.self; session = c.load.new.self; lines = c.forget.new.self; geometry = geometry } in
+    let old : ControllerModel g.row.R.Denot =
+    record {
+      journal = c.self.inside.journal;
+      session = c.self.inside.session;
+      lines = c.self.inside.lines;
+      geometry = geometry;
+    } in
+    let new : ControllerModel g.row.R.Denot = record {
+      journal = c.load_program.new.self;
+      session = c.load.new.self;
+      lines = c.forget.new.self;
+      geometry = geometry;
+    } in
     let free : load_refusal old.session c.args.text.now ≡ None = sym c.in_default.ensures.value in
     let whole = ap (λ (x : ControllerModel g.row.R.Denot). x.journal.broken) c.self.view_is ∙ c.requires.whole in
-    let kept = kept_whole old.journal c.in_ok-stored.stored old.session.stored (c.self.invariant.saved whole) (ap (λ (x : StoredModel). x.room) c.in_ok-stored.ensures.value) in
-    carried_as g.R.Rig.seen (λ (x : ControllerModel g.row.R.Denot). load_refusal x.session c.args.text.now ≡ None) (λ (x : ControllerModel g.row.R.Denot). load_refusal x.session c.args.text.now ≡ None) (λ (x : ControllerModel g.row.R.Denot). ⊥) (λ (x : ControllerModel g.row.R.Denot) (program : List ℕ). load program x.session c.args.text.now) (Ok c.load.result) c.args.self.now old new c.self.view_is (record {
-      does = does_load g.R.Rig.seen c.in_ok-load_program.field-0 c.load.result (kept_by old.journal c.in_ok-stored.stored) c.args.text.now old new free (kept ∙ c.in_ok-stored.ensures.value)
-          c.load.ensures.reply (c.load.ensures.next ∙ ap (loaded old.session) (sym kept)) c.in_ok-load_program.ensures.stops (c.forget.ensures.holds c.args.text.now);
+    let kept = kept_whole old.journal c.in_ok-stored.stored old.session.stored (c.self.invariant.saved whole)
+    (ap (λ (x : StoredModel). x.room) c.in_ok-stored.ensures.value) in
+    carried_as g.R.Rig.seen (λ (x : ControllerModel g.row.R.Denot). load_refusal x.session c.args.text.now ≡ None)
+    (λ (x : ControllerModel g.row.R.Denot). load_refusal x.session c.args.text.now ≡ None)
+    (λ (x : ControllerModel g.row.R.Denot). ⊥) (λ (x : ControllerModel g.row.R.Denot) (program : List ℕ).
+    load program x.session c.args.text.now) (Ok c.load.result) c.args.self.now old new c.self.view_is (record {
+      does = does_load g.R.Rig.seen c.in_ok-load_program.field-0 c.load.result
+          (kept_by old.journal c.in_ok-stored.stored) c.args.text.now old new free
+          (kept ∙ c.in_ok-stored.ensures.value)
+          c.load.ensures.reply (c.load.ensures.next ∙ ap (loaded old.session) (sym kept))
+          c.in_ok-load_program.ensures.stops (c.forget.ensures.holds c.args.text.now);
       calls = calls_made g.R.Rig.seen c.load.result (λ (program : List ℕ). load program old.session c.args.text.now) old new
-          (makes_load g.R.Rig.seen (Ok c.in_ok-load_program.field-0) c.load.result (kept_by old.journal c.in_ok-stored.stored) c.args.text.now old new free (kept ∙ c.in_ok-stored.ensures.value) c.in_ok-load_program.ensures.stores);
+          (makes_load g.R.Rig.seen (Ok c.in_ok-load_program.field-0) c.load.result
+          (kept_by old.journal c.in_ok-stored.stored) c.args.text.now old new free
+          (kept ∙ c.in_ok-stored.ensures.value) c.in_ok-load_program.ensures.stores);
       reads = reads_load g.R.Rig.seen c.load.result (kept_by old.journal c.in_ok-stored.stored) c.args.text.now old new
           free (kept ∙ c.in_ok-stored.ensures.value)
           (c.load.ensures.reply ∙ ap (λ (x : StoredModel). reply.Done x.entries) (sym kept))
           (c.load.ensures.next ∙ ap (loaded old.session) (sym kept))
           c.in_ok-load_program.ensures.holds (c.forget.ensures.holds c.args.text.now);
-      comes = comes_load ⊥ c.load.result c.in_ok-stored.stored c.args.text.now old new free c.in_ok-stored.ensures.value c.load.ensures.reply c.load.ensures.next;
+      comes = comes_load ⊥ c.load.result c.in_ok-stored.stored c.args.text.now old new free
+          c.in_ok-stored.ensures.value c.load.ensures.reply c.load.ensures.next;
       line = λ none. absurd none;
-      ledger = ledger_load g.R.Rig.seen (kept_by old.journal c.in_ok-stored.stored) c.args.text.now old new free (kept ∙ c.in_ok-stored.ensures.value) c.in_ok-load_program.ensures.ledger;
+      ledger = ledger_load g.R.Rig.seen (kept_by old.journal c.in_ok-stored.stored) c.args.text.now old new free
+          (kept ∙ c.in_ok-stored.ensures.value) c.in_ok-load_program.ensures.ledger;
       hindered = tt;
       broken = c.in_ok-load_program.ensures.broken;
       geometry = refl;

@@ -25,38 +25,74 @@ returns-in_err-open_segment g c =
     let p = err_from_is_err_and c.from_residual.result c.from_residual.ensures.1 in
     let e = c.in_err-open_segment.field-0.0 in
     let geometry : Geometry = c.self.inside.geometry in
-    let old : ControllerModel g.row.R.Denot = record { journal = c.self.inside.journal; session = c.self.inside.session; lines = c.self.inside.lines; geometry = geometry } in
-    let new : ControllerModel g.row.R.Denot = record { journal = c.open_segment.new.self; session = c.self.inside.session; lines = c.self.inside.lines; geometry = geometry } in
+    let old : ControllerModel g.row.R.Denot =
+    record {
+      journal = c.self.inside.journal;
+      session = c.self.inside.session;
+      lines = c.self.inside.lines;
+      geometry = geometry;
+    } in
+    let new : ControllerModel g.row.R.Denot =
+    record {
+      journal = c.open_segment.new.self;
+      session = c.self.inside.session;
+      lines = c.self.inside.lines;
+      geometry = geometry;
+    } in
     let whole = ap (λ (x : ControllerModel g.row.R.Denot). x.journal.broken) c.self.view_is ∙ c.requires.whole in
     let unchanged : e ≡ CountersUsed → new.journal ≡ old.journal = λ used. c.in_err-open_segment.ensures.unchanged (ap (λ (f : Fault). Err f) used) in
-    rw (p.1) (carried_as g.R.Rig.seen (λ (x : ControllerModel g.row.R.Denot). ⊥) (λ (x : ControllerModel g.row.R.Denot). Unit {0}) (λ (x : ControllerModel g.row.R.Denot). ⊥) (λ (x : ControllerModel g.row.R.Denot) (program : List ℕ). opening c.args.half program x.geometry x.session) (Err p.0) c.args.self.now old new c.self.view_is
+    rw (p.1) (carried_as g.R.Rig.seen (λ (x : ControllerModel g.row.R.Denot). ⊥)
+    (λ (x : ControllerModel g.row.R.Denot). Unit {0}) (λ (x : ControllerModel g.row.R.Denot). ⊥)
+    (λ (x : ControllerModel g.row.R.Denot) (program : List ℕ). opening c.args.half program x.geometry x.session)
+    (Err p.0) c.args.self.now old new c.self.view_is
     (carried_failed g.R.Rig.seen ⊥ (Unit {0}) ⊥ p.0 e (λ (program : List ℕ). opening c.args.half program geometry old.session) old new p.2
-    (opens_none g.R.Rig.seen e e c.args.half old new refl (c.self.invariant.saved whole) c.in_err-open_segment.ensures.errors unchanged c.in_err-open_segment.ensures.stops refl)
+    (opens_none g.R.Rig.seen e e c.args.half old new refl (c.self.invariant.saved whole)
+    c.in_err-open_segment.ensures.errors unchanged c.in_err-open_segment.ensures.stops refl)
     (makes_opening {T = Unit {0}} g.R.Rig.seen (Err e) reply.Idle c.args.half (λ (program : List ℕ). opening c.args.half program geometry old.session) old new
     (λ program. stored_opening (opening c.args.half program geometry old.session) c.args.half.index c.args.half.opened) c.in_err-open_segment.ensures.stores)
     c.in_err-open_segment.ensures.errors unchanged refl refl refl
-    (hindered_opening (Unit {0}) e geometry old.session (ledger_of old.journal) c.args.half c.in_err-open_segment.ensures.errors c.in_err-open_segment.ensures.used_up)
+    (hindered_opening (Unit {0}) e geometry old.session (ledger_of old.journal) c.args.half
+    c.in_err-open_segment.ensures.errors c.in_err-open_segment.ensures.used_up)
     c.in_err-open_segment.ensures.broken c.in_err-open_segment.ensures.size c.in_err-open_segment.ensures.failures))
 
 pub returns : goal.returns
 returns g c =
     let geometry : Geometry = c.self.inside.geometry in
-    let old : ControllerModel g.row.R.Denot = record { journal = c.self.inside.journal; session = c.self.inside.session; lines = c.self.inside.lines; geometry = geometry } in
-    let new : ControllerModel g.row.R.Denot = record { journal = c.open_segment.new.self; session = c.open.new.self; lines = c.self.inside.lines; geometry = geometry } in
+    let old : ControllerModel g.row.R.Denot =
+    record {
+      journal = c.self.inside.journal;
+      session = c.self.inside.session;
+      lines = c.self.inside.lines;
+      geometry = geometry;
+    } in
+    let new : ControllerModel g.row.R.Denot = record {
+      journal = c.open_segment.new.self;
+      session = c.open.new.self;
+      lines = c.self.inside.lines;
+      geometry = geometry;
+    } in
     let whole = ap (λ (x : ControllerModel g.row.R.Denot). x.journal.broken) c.self.view_is ∙ c.requires.whole in
-    carried_as g.R.Rig.seen (λ (x : ControllerModel g.row.R.Denot). ⊥) (λ (x : ControllerModel g.row.R.Denot). Unit {0}) (λ (x : ControllerModel g.row.R.Denot). ⊥) (λ (x : ControllerModel g.row.R.Denot) (program : List ℕ). opening c.args.half program x.geometry x.session) (Ok c.open.result) c.args.self.now old new c.self.view_is (record {
-      does = opens g.R.Rig.seen c.in_ok-open_segment.field-0 c.open.result c.args.half old new c.open.ensures.reply c.open.ensures.next (c.self.invariant.saved whole) c.in_ok-open_segment.ensures.stops refl;
+    carried_as g.R.Rig.seen (λ (x : ControllerModel g.row.R.Denot). ⊥) (λ (x : ControllerModel g.row.R.Denot).
+    Unit {0}) (λ (x : ControllerModel g.row.R.Denot). ⊥)
+    (λ (x : ControllerModel g.row.R.Denot) (program : List ℕ). opening c.args.half program x.geometry x.session)
+    (Ok c.open.result) c.args.self.now old new c.self.view_is (record {
+      does = opens g.R.Rig.seen c.in_ok-open_segment.field-0 c.open.result c.args.half old new c.open.ensures.reply
+          c.open.ensures.next (c.self.invariant.saved whole) c.in_ok-open_segment.ensures.stops refl;
       calls = calls_made g.R.Rig.seen c.open.result (λ (program : List ℕ). opening c.args.half program geometry old.session) old new
-          (makes_opening g.R.Rig.seen (Ok c.in_ok-open_segment.field-0) c.open.result c.args.half (λ (program : List ℕ). opening c.args.half program geometry old.session) old new
-          (λ program. stored_opening (opening c.args.half program geometry old.session) c.args.half.index c.args.half.opened) c.in_ok-open_segment.ensures.stores);
+          (makes_opening g.R.Rig.seen (Ok c.in_ok-open_segment.field-0) c.open.result c.args.half
+          (λ (program : List ℕ). opening c.args.half program geometry old.session) old new
+          (λ program. stored_opening (opening c.args.half program geometry old.session) c.args.half.index
+          c.args.half.opened) c.in_ok-open_segment.ensures.stores);
       reads = reads_answered g.R.Rig.seen c.open.result
           (λ (program : List ℕ). opening c.args.half program geometry old.session) old new
           c.in_ok-open_segment.ensures.holds
           (λ program. refl) (λ program known. known) (λ program. c.open.ensures.reply) (λ program. c.open.ensures.next);
-      comes = comes_by ⊥ c.open.result (λ program. opening c.args.half program geometry old.session) old new (λ program. c.open.ensures.reply) (λ program. c.open.ensures.next);
+      comes = comes_by ⊥ c.open.result (λ program. opening c.args.half program geometry old.session) old new
+          (λ program. c.open.ensures.reply) (λ program. c.open.ensures.next);
       line = λ none. absurd none;
       ledger = ledger_opening g.R.Rig.seen c.args.half (λ (program : List ℕ). opening c.args.half program geometry old.session) old new
-          (λ program. stored_opening (opening c.args.half program geometry old.session) c.args.half.index c.args.half.opened) c.in_ok-open_segment.ensures.ledger;
+          (λ program. stored_opening (opening c.args.half program geometry old.session) c.args.half.index
+          c.args.half.opened) c.in_ok-open_segment.ensures.ledger;
       hindered = tt;
       broken = c.in_ok-open_segment.ensures.broken;
       geometry = refl;
@@ -71,6 +107,8 @@ invariant_of-self-2 g c =
     let same = ap base_of c.open.ensures.next ∙ opened_base c.self.inside.geometry session c.args.half block.0 block.1 in
     let whole = ap (λ (x : ControllerModel g.row.R.Denot). x.journal.broken) c.self.view_is ∙ c.requires.whole in
     record {
-      saved = λ after. ap (λ (s : SessionModel). s.stored) c.open.ensures.next ∙ ap (λ (x : StoredModel). (let y : StoredModel = record x { half = Some c.args.half } in y)) (c.self.invariant.saved whole) ∙ sym c.in_ok-open_segment.ensures.saved;
+      saved = λ after. ap (λ (s : SessionModel). s.stored) c.open.ensures.next
+          ∙ ap (λ (x : StoredModel). (let y : StoredModel = record x { half = Some c.args.half } in y))
+          (c.self.invariant.saved whole) ∙ sym c.in_ok-open_segment.ensures.saved;
       plan = plan_as _ (base_of session) (base_of c.open.new.self) c.self.inside.lines.ahead same c.self.invariant.plan;
     }

@@ -17,8 +17,11 @@ pub returns-in-Some : goal.returns-in-Some
 returns-in-Some g c =
     let old : ControllerModel g.row.R.Denot = c.args.self.now in
     let refused : Some c.in-Some.fault ≡ reference_refusal old.geometry old.session c.args.point.now =
-    subst (λ (x : ControllerModel g.row.R.Denot). Some c.in-Some.fault ≡ reference_refusal x.geometry x.session c.args.point.now) c.self.view_is c.in-Some.ensures in
-    carried_refused g.R.Rig.seen ⊥ (reference_refusal old.geometry old.session c.args.point.now ≡ None) ⊥ c.in-Some.fault (λ (program : List ℕ). reference old.geometry program old.session c.args.point.now) old c.requires.whole (λ none. none)
+    subst (λ (x : ControllerModel g.row.R.Denot). Some c.in-Some.fault ≡ reference_refusal x.geometry x.session
+    c.args.point.now) c.self.view_is c.in-Some.ensures in
+    carried_refused g.R.Rig.seen ⊥ (reference_refusal old.geometry old.session c.args.point.now ≡ None) ⊥
+    c.in-Some.fault (λ (program : List ℕ). reference old.geometry program old.session c.args.point.now) old
+    c.requires.whole (λ none. none)
     (λ program. ap (λ (o : Option Fault). reference_unless program old.session c.args.point.now o) refused)
 
 pub returns-then-is_count_used_up : goal.returns-then-is_count_used_up
@@ -29,8 +32,11 @@ returns-then-is_count_used_up g c =
     let ledger = ledger_of c.self.inside.journal in
     let saved = after_reference session.stored c.args.point.now in
     let free : reference_refusal geometry session c.args.point.now ≡ None = sym c.in_default.ensures in
-    carried_used g.R.Rig.seen ⊥ (reference_refusal old.geometry old.session c.args.point.now ≡ None) ⊥ (λ (program : List ℕ). reference old.geometry program old.session c.args.point.now) old c.requires.whole
-    (subst (λ (x : ControllerModel g.row.R.Denot). IsCausedBy ⊥ (reference_refusal x.geometry x.session c.args.point.now ≡ None) (ledger_of x.journal) (λ (program : List ℕ). reference x.geometry program x.session c.args.point.now) CountersUsed) c.self.view_is
+    carried_used g.R.Rig.seen ⊥ (reference_refusal old.geometry old.session c.args.point.now ≡ None) ⊥
+    (λ (program : List ℕ). reference old.geometry program old.session c.args.point.now) old c.requires.whole
+    (subst (λ (x : ControllerModel g.row.R.Denot).
+    IsCausedBy ⊥ (reference_refusal x.geometry x.session c.args.point.now ≡ None) (ledger_of x.journal)
+    (λ (program : List ℕ). reference x.geometry program x.session c.args.point.now) CountersUsed) c.self.view_is
     (hindered_count ledger (λ program. reference geometry program session c.args.point.now) saved (reference_refusal geometry session c.args.point.now ≡ None)
     (c.counters.ensures.past ledger saved (past_referenced session.stored c.args.point.now c.if-is_count_used_up.ensures))
     (λ program. stored_reference geometry program session c.args.point.now free)))
@@ -41,9 +47,18 @@ returns g c =
     let none : reference_refusal old.geometry old.session c.args.point.now ≡ None =
     subst (λ (x : ControllerModel g.row.R.Denot). reference_refusal x.geometry x.session c.args.point.now ≡ None) c.self.view_is (sym c.in_default.ensures) in
     let is : with_decoded_state old.session.stored c.referenced-report.result old.session.stored.length ≡ after_reference old.session.stored c.args.point.now =
-    subst (λ (x : ControllerModel g.row.R.Denot). with_decoded_state x.session.stored c.referenced-report.result x.session.stored.length ≡ after_reference x.session.stored c.args.point.now) c.self.view_is c.referenced-report.ensures.value in
+    subst (λ (x : ControllerModel g.row.R.Denot). with_decoded_state x.session.stored c.referenced-report.result
+    x.session.stored.length ≡ after_reference x.session.stored c.args.point.now) c.self.view_is
+    c.referenced-report.ensures.value in
     carried_to g.R.Rig.seen ⊥ ⊥ (Unit {0}) (reference_refusal old.geometry old.session c.args.point.now ≡ None) ⊥ ⊥
-    (λ (program : List ℕ). commits program (Referenced c.args.point.now) (record old.session { stored = with_decoded_state old.session.stored c.referenced-report.result old.session.stored.length })) (λ (program : List ℕ). reference old.geometry program old.session c.args.point.now)
+    (λ (program : List ℕ). commits program (Referenced c.args.point.now)
+    (record old.session {
+      stored = with_decoded_state old.session.stored c.referenced-report.result
+          old.session.stored.length;
+    }))
+    (λ (program : List ℕ). reference old.geometry program old.session c.args.point.now)
     c.keep.result old c.keep.new.self (λ m. m) (λ u. none) (λ e. e) (λ e. e)
-    (λ program. ap (λ (y : StoredModel). commits program (Referenced c.args.point.now) (let s : SessionModel = record old.session { stored = y } in s)) is ∙ sym (ap (λ (o : Option Fault). reference_unless program old.session c.args.point.now o) none))
+    (λ program. ap (λ (y : StoredModel). commits program (Referenced c.args.point.now)
+    (let s : SessionModel = record old.session { stored = y } in s)) is
+    ∙ sym (ap (λ (o : Option Fault). reference_unless program old.session c.args.point.now o) none))
     (c.keep.ensures (Referenced c.args.point.now) (λ saved. refl))

@@ -12,25 +12,52 @@ use Rattle.ng_core.proofs.HonestCallLemmas.{calls_none, calls_on, calls_quiet, l
 use Rattle.ng_core.proofs.InForce.{keeps_unwritten}
 use Rattle.ng_core.proofs.QuietEventLemmas.{still}
 use Rattle.ng_core.proofs.EventCauseLemmas.{unused_resume}
-use Rattle.ng_core.proofs.ResumeLemmas.{still_resume, does_not_resume, reads_not_resumed, comes_not_resumed, does_resume, reads_resume, comes_resume, refused_unread, resumed_line, does_resume_short, does_resume_unread}
+use Rattle.ng_core.proofs.ResumeLemmas.{still_resume, does_not_resume, reads_not_resumed, comes_not_resumed}
+use Rattle.ng_core.proofs.ResumeLemmas.{does_resume, reads_resume, comes_resume, refused_unread, resumed_line}
+use Rattle.ng_core.proofs.ResumeLemmas.{does_resume_short, does_resume_unread}
 use Rattle.ng_core.proofs.controller.Controller.resume.Goals as goal
 
 pub returns-in-Some : goal.returns-in-Some
 returns-in-Some g c =
     let geometry : Geometry = c.self.inside.geometry in
-    let old : ControllerModel g.row.R.Denot = record { journal = c.self.inside.journal; session = c.self.inside.session; lines = c.self.inside.lines; geometry = geometry } in
-    let new : ControllerModel g.row.R.Denot = record { journal = c.self.inside.journal; session = c.resume_refusal.new.self; lines = c.self.inside.lines; geometry = geometry } in
+    let old : ControllerModel g.row.R.Denot =
+    record {
+      journal = c.self.inside.journal;
+      session = c.self.inside.session;
+      lines = c.self.inside.lines;
+      geometry = geometry;
+    } in
+    let new : ControllerModel g.row.R.Denot =
+    record {
+      journal = c.self.inside.journal;
+      session = c.resume_refusal.new.self;
+      lines = c.self.inside.lines;
+      geometry = geometry;
+    } in
     let whole = ap (λ (x : ControllerModel g.row.R.Denot). x.journal.broken) c.self.view_is ∙ c.requires.whole in
-    carried_as g.R.Rig.seen (λ (x : ControllerModel g.row.R.Denot). resume_refusal x.geometry x.session ≡ None) (λ (x : ControllerModel g.row.R.Denot). (resume_refusal x.geometry x.session ≡ None) × IsProgramsLine x.session.stored.half) (λ (x : ControllerModel g.row.R.Denot). (resume_refusal x.geometry x.session ≡ None) × IsProgramsLine x.session.stored.half) (λ (x : ControllerModel g.row.R.Denot) (program : List ℕ). resume x.geometry program x.session) (Ok (reply.Refused c.in-Some.fault)) c.args.self.now old new c.self.view_is (record {
+    carried_as g.R.Rig.seen (λ (x : ControllerModel g.row.R.Denot). resume_refusal x.geometry x.session ≡ None)
+    (λ (x : ControllerModel g.row.R.Denot). (resume_refusal x.geometry x.session ≡ None)
+    × IsProgramsLine x.session.stored.half) (λ (x : ControllerModel g.row.R.Denot).
+    (resume_refusal x.geometry x.session ≡ None) × IsProgramsLine x.session.stored.half)
+    (λ (x : ControllerModel g.row.R.Denot) (program : List ℕ). resume x.geometry program x.session)
+    (Ok (reply.Refused c.in-Some.fault)) c.args.self.now old new c.self.view_is (record {
       does = does_not_resume g.R.Rig.seen c.in-Some.fault old new c.in-Some.ensures.refusal refl refl c.in-Some.ensures.same;
-      calls = calls_on g.R.Rig.seen (Ok (reply.Refused c.in-Some.fault)) (λ (program : List ℕ). refuses program c.in-Some.fault old.session) (λ (program : List ℕ). resume geometry program old.session) old new
+      calls = calls_on g.R.Rig.seen (Ok (reply.Refused c.in-Some.fault))
+          (λ (program : List ℕ). refuses program c.in-Some.fault old.session)
+          (λ (program : List ℕ). resume geometry program old.session) old new
           (λ program. sym (refused_again geometry program old.session c.in-Some.fault c.in-Some.ensures.refusal))
-          (calls_quiet g.R.Rig.seen (reply.Refused c.in-Some.fault) (λ (program : List ℕ). refuses program c.in-Some.fault old.session) old new (λ program. still refl refl refl refl) (λ h. refl));
+          (calls_quiet g.R.Rig.seen (reply.Refused c.in-Some.fault)
+          (λ (program : List ℕ). refuses program c.in-Some.fault old.session) old new
+          (λ program. still refl refl refl refl) (λ h. refl));
       reads = reads_not_resumed g.R.Rig.seen c.in-Some.fault old new c.in-Some.ensures.refusal refl refl
           c.in-Some.ensures.same;
-      comes = comes_not_resumed ((resume_refusal geometry old.session ≡ None) × IsProgramsLine old.session.stored.half) c.in-Some.fault old new c.in-Some.ensures.refusal c.in-Some.ensures.same;
+      comes = comes_not_resumed ((resume_refusal geometry old.session ≡ None)
+          × IsProgramsLine old.session.stored.half) c.in-Some.fault old new c.in-Some.ensures.refusal
+          c.in-Some.ensures.same;
       line = λ read. absurd (refused_unread (resume_refusal geometry old.session) c.in-Some.fault c.in-Some.ensures.refusal read.0);
-      ledger = ledger_on g.R.Rig.seen (Ok (reply.Refused c.in-Some.fault)) (λ (program : List ℕ). refuses program c.in-Some.fault old.session) (λ (program : List ℕ). resume geometry program old.session) old new
+      ledger = ledger_on g.R.Rig.seen (Ok (reply.Refused c.in-Some.fault))
+          (λ (program : List ℕ). refuses program c.in-Some.fault old.session)
+          (λ (program : List ℕ). resume geometry program old.session) old new
           (λ program. sym (refused_again geometry program old.session c.in-Some.fault c.in-Some.ensures.refusal)) (λ program. refl);
       hindered = tt;
       broken = whole;
@@ -44,50 +71,124 @@ returns-in_err-next g c =
     let p = err_from_is_err_and c.from_residual.result c.from_residual.ensures.1 in
     let e = c.in_err-next.field-0.0 in
     let geometry : Geometry = c.self.inside.geometry in
-    let old : ControllerModel g.row.R.Denot = record { journal = c.self.inside.journal; session = c.self.inside.session; lines = c.self.inside.lines; geometry = geometry } in
-    let new : ControllerModel g.row.R.Denot = record { journal = c.next_line.new.journal; session = c.resume_refusal.new.self; lines = c.self.inside.lines; geometry = geometry } in
-    let line : IsProgramsLine old.session.stored.half = subst (λ (s : SessionModel). IsProgramsLine s.stored.half) c.in_default.ensures.same c.in_err-next.ensures.errors.1 in
-    rw (p.1) (carried_as g.R.Rig.seen (λ (x : ControllerModel g.row.R.Denot). resume_refusal x.geometry x.session ≡ None) (λ (x : ControllerModel g.row.R.Denot). (resume_refusal x.geometry x.session ≡ None) × IsProgramsLine x.session.stored.half) (λ (x : ControllerModel g.row.R.Denot). (resume_refusal x.geometry x.session ≡ None) × IsProgramsLine x.session.stored.half) (λ (x : ControllerModel g.row.R.Denot) (program : List ℕ). resume x.geometry program x.session) (Err p.0) c.args.self.now old new c.self.view_is
-    (carried_lost g.R.Rig.seen (resume_refusal geometry old.session ≡ None) ((resume_refusal geometry old.session ≡ None) × IsProgramsLine old.session.stored.half) ((resume_refusal geometry old.session ≡ None) × IsProgramsLine old.session.stored.half) p.0 e (λ (program : List ℕ). resume geometry program old.session) old new p.2
-    (does_resume_unread {E = Fault} g.R.Rig.seen e e c.resume_refusal.new.self (λ (program : List ℕ). resume geometry program old.session) old new c.in_err-next.ensures.next c.in_err-next.ensures.errors.0 c.in_default.ensures.same)
+    let old : ControllerModel g.row.R.Denot =
+    record {
+      journal = c.self.inside.journal;
+      session = c.self.inside.session;
+      lines = c.self.inside.lines;
+      geometry = geometry;
+    } in
+    let new : ControllerModel g.row.R.Denot =
+    record {
+      journal = c.next_line.new.journal;
+      session = c.resume_refusal.new.self;
+      lines =
+          c.self.inside.lines;
+      geometry = geometry;
+    } in
+    let line : IsProgramsLine old.session.stored.half = subst (λ (s : SessionModel). IsProgramsLine s.stored.half)
+    c.in_default.ensures.same c.in_err-next.ensures.errors.1 in
+    rw (p.1) (carried_as g.R.Rig.seen (λ (x : ControllerModel g.row.R.Denot).
+    resume_refusal x.geometry x.session ≡ None) (λ (x : ControllerModel g.row.R.Denot).
+    (resume_refusal x.geometry x.session ≡ None) × IsProgramsLine x.session.stored.half)
+    (λ (x : ControllerModel g.row.R.Denot). (resume_refusal x.geometry x.session ≡ None)
+    × IsProgramsLine x.session.stored.half) (λ (x : ControllerModel g.row.R.Denot) (program : List ℕ).
+    resume x.geometry program x.session) (Err p.0) c.args.self.now old new c.self.view_is
+    (carried_lost g.R.Rig.seen (resume_refusal geometry old.session ≡ None)
+    ((resume_refusal geometry old.session ≡ None) × IsProgramsLine old.session.stored.half)
+    ((resume_refusal geometry old.session ≡ None) × IsProgramsLine old.session.stored.half) p.0 e
+    (λ (program : List ℕ). resume geometry program old.session) old new p.2
+    (does_resume_unread {E = Fault} g.R.Rig.seen e e c.resume_refusal.new.self
+    (λ (program : List ℕ). resume geometry program old.session) old new c.in_err-next.ensures.next
+    c.in_err-next.ensures.errors.0 c.in_default.ensures.same)
     (calls_none g.R.Rig.seen e (λ (program : List ℕ). resume geometry program old.session) old new c.in_err-next.ensures.unwritten.holds)
-    c.in_err-next.ensures.errors.0 (sym c.in_default.ensures.refusal, line) (λ program used. unused_resume geometry program old.session (ledger_of old.journal) used)
+    c.in_err-next.ensures.errors.0 (sym c.in_default.ensures.refusal, line)
+    (λ program used. unused_resume geometry program old.session (ledger_of old.journal) used)
     refl c.in_default.ensures.same c.in_err-next.ensures.broken c.in_err-next.ensures.size c.in_err-next.ensures.failures))
 
 pub returns-in_err-resume : goal.returns-in_err-resume
 returns-in_err-resume g c =
     let p = err_from_is_err_and c.from_residual-in_err-resume.result c.from_residual-in_err-resume.ensures.1 in
     let geometry : Geometry = c.self.inside.geometry in
-    let old : ControllerModel g.row.R.Denot = record { journal = c.self.inside.journal; session = c.self.inside.session; lines = c.self.inside.lines; geometry = geometry } in
-    let new : ControllerModel g.row.R.Denot = record { journal = c.next_line.new.journal; session = c.resume.new.self; lines = c.self.inside.lines; geometry = geometry } in
+    let old : ControllerModel g.row.R.Denot =
+    record {
+      journal = c.self.inside.journal;
+      session = c.self.inside.session;
+      lines = c.self.inside.lines;
+      geometry = geometry;
+    } in
+    let new : ControllerModel g.row.R.Denot =
+    record {
+      journal = c.next_line.new.journal;
+      session = c.resume.new.self;
+      lines = c.self.inside.lines;
+      geometry = geometry;
+    } in
     let same = c.in_err-resume.ensures.err ∙ c.in_default.ensures.same in
-    rw (p.1) (carried_as g.R.Rig.seen (λ (x : ControllerModel g.row.R.Denot). resume_refusal x.geometry x.session ≡ None) (λ (x : ControllerModel g.row.R.Denot). (resume_refusal x.geometry x.session ≡ None) × IsProgramsLine x.session.stored.half) (λ (x : ControllerModel g.row.R.Denot). (resume_refusal x.geometry x.session ≡ None) × IsProgramsLine x.session.stored.half) (λ (x : ControllerModel g.row.R.Denot) (program : List ℕ). resume x.geometry program x.session) (Err p.0) c.args.self.now old new c.self.view_is
-    (carried_read g.R.Rig.seen (resume_refusal geometry old.session ≡ None) ((resume_refusal geometry old.session ≡ None) × IsProgramsLine old.session.stored.half) ((resume_refusal geometry old.session ≡ None) × IsProgramsLine old.session.stored.half) p.0 (λ (program : List ℕ). resume geometry program old.session) old new p.2 (sym c.in_default.ensures.refusal)
-    (does_resume_short {E = Fault} g.R.Rig.seen p.0 c.in_ok-next.next c.resume_refusal.new.self (λ (program : List ℕ). resume geometry program old.session) old new c.in_ok-next.ensures.next p.2 same refl)
+    rw (p.1) (carried_as g.R.Rig.seen (λ (x : ControllerModel g.row.R.Denot).
+    resume_refusal x.geometry x.session ≡ None) (λ (x : ControllerModel g.row.R.Denot).
+    (resume_refusal x.geometry x.session ≡ None) × IsProgramsLine x.session.stored.half)
+    (λ (x : ControllerModel g.row.R.Denot). (resume_refusal x.geometry x.session ≡ None)
+    × IsProgramsLine x.session.stored.half) (λ (x : ControllerModel g.row.R.Denot) (program : List ℕ).
+    resume x.geometry program x.session) (Err p.0) c.args.self.now old new c.self.view_is
+    (carried_read g.R.Rig.seen (resume_refusal geometry old.session ≡ None)
+    ((resume_refusal geometry old.session ≡ None) × IsProgramsLine old.session.stored.half)
+    ((resume_refusal geometry old.session ≡ None) × IsProgramsLine old.session.stored.half) p.0
+    (λ (program : List ℕ). resume geometry program old.session) old new p.2 (sym c.in_default.ensures.refusal)
+    (does_resume_short {E = Fault} g.R.Rig.seen p.0 c.in_ok-next.next c.resume_refusal.new.self
+    (λ (program : List ℕ). resume geometry program old.session) old new c.in_ok-next.ensures.next p.2 same refl)
     c.in_ok-next.ensures.unwritten.holds
     refl same refl c.in_ok-next.ensures.ledger
-    (λ none. (c.in_ok-next.ensures.unread (λ line. none (sym c.in_default.ensures.refusal, subst (λ (s : SessionModel). IsProgramsLine s.stored.half) c.in_default.ensures.same line))).0)
+    (λ none. (c.in_ok-next.ensures.unread
+    (λ line. none (
+      sym c.in_default.ensures.refusal,
+      subst (λ (s : SessionModel). IsProgramsLine s.stored.half)
+          c.in_default.ensures.same line,
+    ))).0)
     c.in_ok-next.ensures.broken c.in_ok-next.ensures.size c.in_ok-next.ensures.failures))
 
 pub returns : goal.returns
 returns g c =
     let geometry : Geometry = c.self.inside.geometry in
-    let old : ControllerModel g.row.R.Denot = record { journal = c.self.inside.journal; session = c.self.inside.session; lines = c.self.inside.lines; geometry = geometry } in
-    let new : ControllerModel g.row.R.Denot = record { journal = c.next_line.new.journal; session = c.resume.new.self; lines = c.self.inside.lines; geometry = geometry } in
-    carried_as g.R.Rig.seen (λ (x : ControllerModel g.row.R.Denot). resume_refusal x.geometry x.session ≡ None) (λ (x : ControllerModel g.row.R.Denot). (resume_refusal x.geometry x.session ≡ None) × IsProgramsLine x.session.stored.half) (λ (x : ControllerModel g.row.R.Denot). (resume_refusal x.geometry x.session ≡ None) × IsProgramsLine x.session.stored.half) (λ (x : ControllerModel g.row.R.Denot) (program : List ℕ). resume x.geometry program x.session) (Ok c.in_ok-resume.field-0) c.args.self.now old new c.self.view_is (record {
-      does = does_resume {E = Fault} g.R.Rig.seen c.in_ok-resume.field-0 c.in_ok-next.next old new c.resume_refusal.new.self c.in_default.ensures.same c.in_ok-next.ensures.next refl
+    let old : ControllerModel g.row.R.Denot =
+    record {
+      journal = c.self.inside.journal;
+      session = c.self.inside.session;
+      lines = c.self.inside.lines;
+      geometry = geometry;
+    } in
+    let new : ControllerModel g.row.R.Denot =
+    record {
+      journal = c.next_line.new.journal;
+      session = c.resume.new.self;
+      lines = c.self.inside.lines;
+      geometry = geometry;
+    } in
+    carried_as g.R.Rig.seen (λ (x : ControllerModel g.row.R.Denot). resume_refusal x.geometry x.session ≡ None)
+    (λ (x : ControllerModel g.row.R.Denot). (resume_refusal x.geometry x.session ≡ None)
+    × IsProgramsLine x.session.stored.half) (λ (x : ControllerModel g.row.R.Denot).
+    (resume_refusal x.geometry x.session ≡ None) × IsProgramsLine x.session.stored.half)
+    (λ (x : ControllerModel g.row.R.Denot) (program : List ℕ). resume x.geometry program x.session)
+    (Ok c.in_ok-resume.field-0) c.args.self.now old new c.self.view_is (record {
+      does = does_resume {E = Fault} g.R.Rig.seen c.in_ok-resume.field-0 c.in_ok-next.next old new
+          c.resume_refusal.new.self c.in_default.ensures.same c.in_ok-next.ensures.next refl
           (λ program is. (c.in_ok-resume.ensures.reply program is, c.in_ok-resume.ensures.next program is));
-      calls = calls_quiet g.R.Rig.seen c.in_ok-resume.field-0 (λ (program : List ℕ). resume geometry program old.session) old new (λ program. still_resume geometry program old.session) c.in_ok-next.ensures.unwritten.holds;
+      calls = calls_quiet g.R.Rig.seen c.in_ok-resume.field-0
+          (λ (program : List ℕ). resume geometry program old.session) old new
+          (λ program. still_resume geometry program old.session) c.in_ok-next.ensures.unwritten.holds;
       reads = reads_resume g.R.Rig.seen c.in_ok-resume.field-0 c.in_ok-next.next old new c.resume_refusal.new.self
           c.in_default.ensures.same c.in_ok-next.ensures.reads
           (keeps_unwritten g.R.Rig.seen old.journal new.journal c.in_ok-next.ensures.unwritten.holds
           c.in_ok-next.ensures.ledger) refl
           (λ program is. (c.in_ok-resume.ensures.reply program is, c.in_ok-resume.ensures.next program is));
-      comes = comes_resume c.in_ok-resume.field-0 c.in_ok-next.next old new c.resume_refusal.new.self c.in_default.ensures.same c.in_default.ensures.refusal (λ other. (c.in_ok-next.ensures.unread other).1)
+      comes = comes_resume c.in_ok-resume.field-0 c.in_ok-next.next old new c.resume_refusal.new.self
+          c.in_default.ensures.same c.in_default.ensures.refusal (λ other. (c.in_ok-next.ensures.unread other).1)
           (λ program is. (c.in_ok-resume.ensures.reply program is, c.in_ok-resume.ensures.next program is));
-      line = λ read. resumed_line c.in_ok-resume.field-0 c.in_ok-next.next old new c.resume_refusal.new.self c.in_default.ensures.same read.0 read.1 c.in_ok-next.ensures.beyond
+      line = λ read. resumed_line c.in_ok-resume.field-0 c.in_ok-next.next old new c.resume_refusal.new.self
+          c.in_default.ensures.same read.0 read.1 c.in_ok-next.ensures.beyond
           (λ program is. (c.in_ok-resume.ensures.reply program is, c.in_ok-resume.ensures.next program is)) c.in_ok-next.ensures.ledger;
-      ledger = ledger_quiet g.R.Rig.seen (λ (program : List ℕ). resume geometry program old.session) old new (λ program. still_resume geometry program old.session) c.in_ok-next.ensures.ledger;
+      ledger = ledger_quiet g.R.Rig.seen (λ (program : List ℕ). resume geometry program old.session) old new
+          (λ program. still_resume geometry program old.session) c.in_ok-next.ensures.ledger;
       hindered = tt;
       broken = c.in_ok-next.ensures.broken;
       geometry = refl;

@@ -17,19 +17,24 @@ loop-event-preserved g c = record {
   room = omega (arith, c.push_reserved.ensures.capacity, c.loop-event.invariant.room);
   count = omega (arith, c.push_reserved.ensures.len, c.loop-event.invariant.count);
   size = c.reply-reply.ensures.size ∙ c.loop-event.invariant.size;
-  turns = rw c.push_reserved.ensures.items (turns_more g.R.Rig.seen c.args.events.now c.loop-event.event-index c.event-item.result c.loop-event.replies.items c.reply-reply.result
+  turns = rw c.push_reserved.ensures.items (turns_more g.R.Rig.seen c.args.events.now c.loop-event.event-index
+      c.event-item.result c.loop-event.replies.items c.reply-reply.result
       c.args.self.now c.loop-event.self c.reply-reply.new.self (omega arith) c.event-item.is c.loop-event.invariant.turns
       (record { serves = c.reply-reply.ensures.serves; refuses = c.reply-reply.ensures.broken }));
 }
 
 pub returns-clause-runs : goal.returns-clause-runs
 returns-clause-runs g c =
-    let all : AreAnsweredEvents g.R.Rig.seen c.args.events.now c.loop-event.replies.items c.args.self.now c.loop-event.self = turns_all g.R.Rig.seen c.args.events.now c.loop-event.event-index c.loop-event.replies.items c.args.self.now c.loop-event.self (omega arith) c.loop-event.invariant.turns in
+    let all : AreAnsweredEvents g.R.Rig.seen c.args.events.now c.loop-event.replies.items c.args.self.now
+    c.loop-event.self = turns_all g.R.Rig.seen c.args.events.now c.loop-event.event-index
+    c.loop-event.replies.items c.args.self.now c.loop-event.self (omega arith) c.loop-event.invariant.turns in
     let moments = answered_at g.R.Rig.seen c.args.events.now c.loop-event.replies.items c.args.self.now c.loop-event.self all in
     (moments, are_run g.R.Rig.seen c.args.events.now c.loop-event.replies.items moments c.args.self.now c.loop-event.self all refl)
 
 pub returns-clause-failures : goal.returns-clause-failures
-returns-clause-failures g c = turns_fail g.R.Rig.seen c.args.events.now c.loop-event.replies.items c.args.self.now c.loop-event.self (returns-clause-runs g c).1.turns
+returns-clause-failures g c = turns_fail g.R.Rig.seen c.args.events.now c.loop-event.replies.items c.args.self.now
+    c.loop-event.self (returns-clause-runs g c).1.turns
 
 pub returns-clause-geometry : goal.returns-clause-geometry
-returns-clause-geometry g c = turns_geometry g.R.Rig.seen c.args.events.now c.loop-event.replies.items c.args.self.now c.loop-event.self (returns-clause-runs g c).1.turns
+returns-clause-geometry g c = turns_geometry g.R.Rig.seen c.args.events.now c.loop-event.replies.items
+    c.args.self.now c.loop-event.self (returns-clause-runs g c).1.turns

@@ -26,8 +26,11 @@ pub returns-in-Some : goal.returns-in-Some
 returns-in-Some g c =
     let old : ControllerModel g.row.R.Denot = c.args.self.now in
     let refused : Some c.in-Some.fault ≡ tool_refusal old.session c.args.slot c.args.tool_length =
-    subst (λ (x : ControllerModel g.row.R.Denot). Some c.in-Some.fault ≡ tool_refusal x.session c.args.slot c.args.tool_length) c.self.view_is c.in-Some.ensures.value in
-    carried_refused g.R.Rig.seen ⊥ (tool_refusal old.session c.args.slot c.args.tool_length ≡ None) ⊥ c.in-Some.fault (λ (program : List ℕ). tool program old.session c.args.slot c.args.tool_length) old c.requires.whole (λ none. none)
+    subst (λ (x : ControllerModel g.row.R.Denot). Some c.in-Some.fault ≡ tool_refusal x.session c.args.slot
+    c.args.tool_length) c.self.view_is c.in-Some.ensures.value in
+    carried_refused g.R.Rig.seen ⊥ (tool_refusal old.session c.args.slot c.args.tool_length ≡ None) ⊥
+    c.in-Some.fault (λ (program : List ℕ). tool program old.session c.args.slot c.args.tool_length) old
+    c.requires.whole (λ none. none)
     (λ program. ap (λ (o : Option Fault). tool_unless program old.session c.args.slot c.args.tool_length o) refused)
 
 pub returns-then-is_count_used_up : goal.returns-then-is_count_used_up
@@ -37,8 +40,11 @@ returns-then-is_count_used_up g c =
     let ledger = ledger_of c.self.inside.journal in
     let saved = after_tool session.stored c.args.slot c.args.tool_length in
     let free : tool_refusal session c.args.slot c.args.tool_length ≡ None = sym c.in_default.ensures.value in
-    carried_used g.R.Rig.seen ⊥ (tool_refusal old.session c.args.slot c.args.tool_length ≡ None) ⊥ (λ (program : List ℕ). tool program old.session c.args.slot c.args.tool_length) old c.requires.whole
-    (subst (λ (x : ControllerModel g.row.R.Denot). IsCausedBy ⊥ (tool_refusal x.session c.args.slot c.args.tool_length ≡ None) (ledger_of x.journal) (λ (program : List ℕ). tool program x.session c.args.slot c.args.tool_length) CountersUsed) c.self.view_is
+    carried_used g.R.Rig.seen ⊥ (tool_refusal old.session c.args.slot c.args.tool_length ≡ None) ⊥
+    (λ (program : List ℕ). tool program old.session c.args.slot c.args.tool_length) old c.requires.whole
+    (subst (λ (x : ControllerModel g.row.R.Denot).
+    IsCausedBy ⊥ (tool_refusal x.session c.args.slot c.args.tool_length ≡ None) (ledger_of x.journal)
+    (λ (program : List ℕ). tool program x.session c.args.slot c.args.tool_length) CountersUsed) c.self.view_is
     (hindered_count ledger (λ program. tool program session c.args.slot c.args.tool_length) saved (tool_refusal session c.args.slot c.args.tool_length ≡ None)
     (c.counters.ensures.past ledger saved (past_tooled session.stored c.args.slot c.args.tool_length c.if-is_count_used_up.ensures))
     (λ program. stored_tool program session c.args.slot c.args.tool_length free)))
@@ -47,13 +53,20 @@ pub returns : goal.returns
 returns g c =
     let old : ControllerModel g.row.R.Denot = c.args.self.now in
     let none : tool_refusal old.session c.args.slot c.args.tool_length ≡ None =
-    subst (λ (x : ControllerModel g.row.R.Denot). tool_refusal x.session c.args.slot c.args.tool_length ≡ None) c.self.view_is (sym c.in_default.ensures.value) in
-    let kept : ControllerModel g.row.R.Denot → StoredModel = λ x. record x.session.stored { entries = x.session.stored.entries + 1; tools = c.tools_with-tools.result } in
+    subst (λ (x : ControllerModel g.row.R.Denot). tool_refusal x.session c.args.slot c.args.tool_length ≡ None)
+    c.self.view_is (sym c.in_default.ensures.value) in
+    let kept : ControllerModel g.row.R.Denot → StoredModel = λ x.
+    record x.session.stored { entries = x.session.stored.entries + 1; tools = c.tools_with-tools.result } in
     let is : kept old ≡ after_tool old.session.stored c.args.slot c.args.tool_length =
     subst (λ (x : ControllerModel g.row.R.Denot). kept x ≡ after_tool x.session.stored c.args.slot c.args.tool_length) c.self.view_is
-    (λ i. let y : StoredModel = record c.self.inside.session.stored { entries = c.self.inside.session.stored.entries + 1; tools = c.tools_with-tools.ensures.value i } in y) in
+    (λ i. let y : StoredModel = record c.self.inside.session.stored
+    { entries = c.self.inside.session.stored.entries + 1; tools = c.tools_with-tools.ensures.value i } in y) in
     carried_to g.R.Rig.seen ⊥ ⊥ (Unit {0}) (tool_refusal old.session c.args.slot c.args.tool_length ≡ None) ⊥ ⊥
-    (λ (program : List ℕ). commits program (Tooled c.args.slot c.args.tool_length) (record old.session { stored = kept old })) (λ (program : List ℕ). tool program old.session c.args.slot c.args.tool_length)
+    (λ (program : List ℕ). commits program (Tooled c.args.slot c.args.tool_length)
+    (record old.session { stored = kept old }))
+    (λ (program : List ℕ). tool program old.session c.args.slot c.args.tool_length)
     c.keep_tools.result old c.keep_tools.new.self (λ m. m) (λ u. none) (λ e. e) (λ e. e)
-    (λ program. ap (λ (y : StoredModel). commits program (Tooled c.args.slot c.args.tool_length) (let s : SessionModel = record old.session { stored = y } in s)) is ∙ sym (ap (λ (o : Option Fault). tool_unless program old.session c.args.slot c.args.tool_length o) none))
+    (λ program. ap (λ (y : StoredModel). commits program (Tooled c.args.slot c.args.tool_length)
+    (let s : SessionModel = record old.session { stored = y } in s)) is
+    ∙ sym (ap (λ (o : Option Fault). tool_unless program old.session c.args.slot c.args.tool_length o) none))
     (c.keep_tools.ensures (Tooled c.args.slot c.args.tool_length) (λ saved. refl))

@@ -11,7 +11,10 @@ loop-line-preserved g c =
     let parts = c.in-Some.ensures.1 in
     let size = simp length-append at (ap length parts) in
     record {
-      goes = LineStepSpec-next _ _ _ here.run here.kept.items c.loop-line.left.now c.in-Some.line.now c.in-Some.after.now (λ more. rest_of start.run start.kept.items (c.args.bytes.now ++ more)) (λ more. rest_of next.run next.kept.items more) (Ok None) c.loop-line.invariant.goes parts (rw c.in-Ok-None.field-0-is at c.in-Ok-None.ensures.step);
+      goes = LineStepSpec-next _ _ _ here.run here.kept.items c.loop-line.left.now c.in-Some.line.now
+          c.in-Some.after.now (λ more. rest_of start.run start.kept.items (c.args.bytes.now ++ more))
+          (λ more. rest_of next.run next.kept.items more) (Ok None) c.loop-line.invariant.goes parts
+          (rw c.in-Ok-None.field-0-is at c.in-Ok-None.ensures.step);
       kept = c.end_line.ensures.kept;
       number = omega (arith, c.end_line.ensures.number, size);
     }
@@ -21,14 +24,20 @@ returns-in-Ok-Some-clause-step g c =
     let start = c.args.self.now in
     let here = c.loop-line.self in
     let next = c.end_line.new.self in
-    LineStepSpec-next _ _ _ here.run here.kept.items c.loop-line.left.now c.in-Some.line.now c.in-Some.after.now (λ more. rest_of start.run start.kept.items (c.args.bytes.now ++ more)) (λ more. rest_of next.run next.kept.items more) (Ok (Some c.in-Ok-Some.ended)) c.loop-line.invariant.goes c.in-Some.ensures.1 (rw c.in-Ok-Some.field-0-is at c.in-Ok-Some.ensures.step)
+    LineStepSpec-next _ _ _ here.run here.kept.items c.loop-line.left.now c.in-Some.line.now c.in-Some.after.now
+    (λ more. rest_of start.run start.kept.items (c.args.bytes.now ++ more))
+    (λ more. rest_of next.run next.kept.items more) (Ok (Some c.in-Ok-Some.ended)) c.loop-line.invariant.goes
+    c.in-Some.ensures.1 (rw c.in-Ok-Some.field-0-is at c.in-Ok-Some.ensures.step)
 
 pub returns-in-Err-clause-step : goal.returns-in-Err-clause-step
 returns-in-Err-clause-step g c =
     let start = c.args.self.now in
     let here = c.loop-line.self in
     let next = c.end_line.new.self in
-    LineStepSpec-next _ _ _ here.run here.kept.items c.loop-line.left.now c.in-Some.line.now c.in-Some.after.now (λ more. rest_of start.run start.kept.items (c.args.bytes.now ++ more)) (λ more. rest_of next.run next.kept.items more) (Err c.in-Err.broken) c.loop-line.invariant.goes c.in-Some.ensures.1 c.in-Err.ensures.step
+    LineStepSpec-next _ _ _ here.run here.kept.items c.loop-line.left.now c.in-Some.line.now c.in-Some.after.now
+    (λ more. rest_of start.run start.kept.items (c.args.bytes.now ++ more))
+    (λ more. rest_of next.run next.kept.items more) (Err c.in-Err.broken) c.loop-line.invariant.goes
+    c.in-Some.ensures.1 c.in-Err.ensures.step
 
 pub returns-clause-step : goal.returns-clause-step
 returns-clause-step g c = LineStepSpec-after _ _ _ _ _ _ _ c.loop-line.invariant.goes c.keep.ensures.step

@@ -26,7 +26,9 @@ returns-in-Ok-clause-stops g c =
     let kept = with_room inside.stored.room c.args.stored.now in
     let after : DurableState = record { saved = kept; program = c.args.text.now } in
     let next_is = c.next_header-next.ensures ∙ (λ i. next_header header area (c.stored.view_is i).length) in
-    let used = subst (λ (v : JournalModel g.row.R.Denot). (c.is_used_up.result ≡ true) ↔ ((greatest_count < c.stored.inside.entries) ⊎ (greatest_count ≤ v.header.epoch))) (sym c.self.view_is) c.is_used_up.ensures in
+    let used = subst (λ (v : JournalModel g.row.R.Denot).
+    (c.is_used_up.result ≡ true) ↔ ((greatest_count < c.stored.inside.entries)
+    ⊎ (greatest_count ≤ v.header.epoch))) (sym c.self.view_is) c.is_used_up.ensures in
     let more = more_epochs c.is_used_up.result c.stored.inside.entries header used c.if-is_used_up.false in
     let has = subst (λ (n : ℕ). area ≤ greatest_area (is_large_size n)) c.size.ensures.value c.spare_area-area.ensures.most in
     let room_is = ap (λ s. s.stored.room) c.self-inside.view_is in
@@ -34,7 +36,9 @@ returns-in-Ok-clause-stops g c =
     let longest = subst (λ (n : ℕ). longest_in area ≡ program_room (is_large_size n)) c.size.ensures.value c.spare_area-area.ensures.room in
     rw (← c.self.view_is) (meaning c.in-Ok.ensures.stops (λ f. λ before rest.
     let fits = fits_load _ area inside.stored kept rest.at rest.saved_is c.self.invariant more.0 has longest short refl in
-    loaded _ _ _ area header c.next_header-next.result inside.tip.end before after _ _ c.beginning-self-inside.ensures next_is c.take_state.ensures rest.at (f inside.stored.room (own rest.at) fits)))
+    loaded _ _ _ area header c.next_header-next.result inside.tip.end before after _ _
+    c.beginning-self-inside.ensures next_is c.take_state.ensures rest.at
+    (f inside.stored.room (own rest.at) fits)))
 
 pub returns-in-Err-clause-stops : goal.returns-in-Err-clause-stops
 returns-in-Err-clause-stops g c =
@@ -43,7 +47,9 @@ returns-in-Err-clause-stops g c =
     let area = c.spare_area-area.result in
     let kept = with_room inside.stored.room c.args.stored.now in
     let after : DurableState = record { saved = kept; program = c.args.text.now } in
-    let used = subst (λ (v : JournalModel g.row.R.Denot). (c.is_used_up.result ≡ true) ↔ ((greatest_count < c.stored.inside.entries) ⊎ (greatest_count ≤ v.header.epoch))) (sym c.self.view_is) c.is_used_up.ensures in
+    let used = subst (λ (v : JournalModel g.row.R.Denot).
+    (c.is_used_up.result ≡ true) ↔ ((greatest_count < c.stored.inside.entries)
+    ⊎ (greatest_count ≤ v.header.epoch))) (sym c.self.view_is) c.is_used_up.ensures in
     let more = more_epochs c.is_used_up.result c.stored.inside.entries header used c.if-is_used_up.false in
     let has = subst (λ (n : ℕ). area ≤ greatest_area (is_large_size n)) c.size.ensures.value c.spare_area-area.ensures.most in
     let room_is = ap (λ s. s.stored.room) c.self-inside.view_is in
@@ -58,16 +64,26 @@ returns-in-Ok-clause-stores g c =
     let inside = c.self.inside in
     let header = inside.tip.header in
     let area = c.spare_area-area.result in
-    let area_is : area ≡ spare_area (is_large_size (g.R.Rig.seen inside.rig).sectors) header.area = c.spare_area-area.ensures.is ∙ ap (λ (n : ℕ). spare_area (is_large_size n) header.area) c.size.ensures.value in
-    rw (← c.self.view_is) (meaning c.in-Ok.ensures.stores (λ s. loaded_as area _ header _ _ _ area_is (load_kept inside.stored.room _ area header c.args.stored.now c.args.text.now _ _ s)))
+    let area_is : area ≡ spare_area (is_large_size (g.R.Rig.seen inside.rig).sectors) header.area =
+    c.spare_area-area.ensures.is ∙ ap (λ (n : ℕ). spare_area (is_large_size n) header.area)
+    c.size.ensures.value in
+    rw (← c.self.view_is)
+    (meaning c.in-Ok.ensures.stores
+    (λ s. loaded_as area _ header _ _ _ area_is
+    (load_kept inside.stored.room _ area header c.args.stored.now c.args.text.now _ _ s)))
 
 pub returns-in-Err-clause-stores : goal.returns-in-Err-clause-stores
 returns-in-Err-clause-stores g c =
     let inside = c.self.inside in
     let header = inside.tip.header in
     let area = c.spare_area-area.result in
-    let area_is : area ≡ spare_area (is_large_size (g.R.Rig.seen inside.rig).sectors) header.area = c.spare_area-area.ensures.is ∙ ap (λ (n : ℕ). spare_area (is_large_size n) header.area) c.size.ensures.value in
-    rw (← c.self.view_is) (meaning c.load.ensures.stores (λ s. not_loaded_as area _ _ c.load.result header _ _ _ area_is (load_kept inside.stored.room c.load.result area header c.args.stored.now c.args.text.now _ _ s)))
+    let area_is : area ≡ spare_area (is_large_size (g.R.Rig.seen inside.rig).sectors) header.area =
+    c.spare_area-area.ensures.is ∙ ap (λ (n : ℕ). spare_area (is_large_size n) header.area)
+    c.size.ensures.value in
+    rw (← c.self.view_is)
+    (meaning c.load.ensures.stores
+    (λ s. not_loaded_as area _ _ c.load.result header _ _ _ area_is
+    (load_kept inside.stored.room c.load.result area header c.args.stored.now c.args.text.now _ _ s)))
 
 pub returns-in-Ok-clause-holds : goal.returns-in-Ok-clause-holds
 returns-in-Ok-clause-holds g c =
@@ -79,16 +95,34 @@ returns-in-Ok-clause-holds g c =
     let longest = subst (λ (n : ℕ). longest_in area ≡ program_room (is_large_size n)) c.size.ensures.value c.spare_area-area.ensures.room in
     let short : length c.args.text.now ≤ longest_in area = omega (arith, c.if-text-self.false, room_is, c.self.invariant.limit, longest) in
     rw (← c.self.view_is) (λ h.
-    holds_load _ area header _ (record { saved = c.args.stored.now; program = c.args.text.now }) _ _ c.requires.long short (c.in-Ok.ensures.stores.holds h) (ap (λ (t : Tip). t.header) c.beginning-self-inside.ensures ∙ next_is))
+    holds_load _ area header _ (record { saved = c.args.stored.now; program = c.args.text.now }) _ _ c.requires.long
+    short (c.in-Ok.ensures.stores.holds h) (ap (λ (t : Tip). t.header) c.beginning-self-inside.ensures
+    ∙ next_is))
 
 pub returns-in-Ok-clause-ledger : goal.returns-in-Ok-clause-ledger
 returns-in-Ok-clause-ledger g c =
     let inside = c.self.inside in
     let header = inside.tip.header in
     let area = c.spare_area-area.result in
-    let area_is : area ≡ spare_area (is_large_size (g.R.Rig.seen inside.rig).sectors) header.area = c.spare_area-area.ensures.is ∙ ap (λ (n : ℕ). spare_area (is_large_size n) header.area) c.size.ensures.value in
+    let area_is : area ≡ spare_area (is_large_size (g.R.Rig.seen inside.rig).sectors) header.area =
+    c.spare_area-area.ensures.is ∙ ap (λ (n : ℕ). spare_area (is_large_size n) header.area)
+    c.size.ensures.value in
     let next_is = c.next_header-next.ensures ∙ (λ i. next_header header (area_is i) (c.stored.view_is i).length) in
-    let ledger_is : ◌≡◌ {A = Ledger} (record { header = c.beginning-self-inside.result.header; end = c.beginning-self-inside.result.end; saved = c.take_state.new.stored }) (with_program (spare_area (is_large_size (g.R.Rig.seen inside.rig).sectors) header.area) (ledger inside.tip inside.stored) (with_room inside.stored.room c.args.stored.now)) = λ i. record { header = ((c.beginning-self-inside.ensures ∙ ap (λ (h : Header). (let t : Tip = record { header = h; end = no_records } in t)) next_is) i).header; end = (c.beginning-self-inside.ensures i).end; saved = c.take_state.ensures i } in
+    let ledger_is : ◌≡◌ {A = Ledger}
+    (record {
+      header = c.beginning-self-inside.result.header;
+      end = c.beginning-self-inside.result.end;
+      saved =
+          c.take_state.new.stored;
+    })
+    (with_program (spare_area (is_large_size (g.R.Rig.seen inside.rig).sectors) header.area)
+    (ledger inside.tip inside.stored) (with_room inside.stored.room c.args.stored.now)) = λ i.
+    record {
+      header = ((c.beginning-self-inside.ensures
+          ∙ ap (λ (h : Header). (let t : Tip = record { header = h; end = no_records } in t)) next_is) i).header;
+      end = (c.beginning-self-inside.ensures i).end;
+      saved = c.take_state.ensures i;
+    } in
     rw (← c.self.view_is) ledger_is
 
 pub invariant_of-self : goal.invariant_of-self
@@ -96,7 +130,9 @@ invariant_of-self g c =
     let inside = c.self.inside in
     let header = inside.tip.header in
     let area = c.spare_area-area.result in
-    let used = subst (λ (v : JournalModel g.row.R.Denot). (c.is_used_up.result ≡ true) ↔ ((greatest_count < c.stored.inside.entries) ⊎ (greatest_count ≤ v.header.epoch))) (sym c.self.view_is) c.is_used_up.ensures in
+    let used = subst (λ (v : JournalModel g.row.R.Denot).
+    (c.is_used_up.result ≡ true) ↔ ((greatest_count < c.stored.inside.entries)
+    ⊎ (greatest_count ≤ v.header.epoch))) (sym c.self.view_is) c.is_used_up.ensures in
     let more = more_epochs c.is_used_up.result c.stored.inside.entries header used c.if-is_used_up.false in
     let has = subst (λ (n : ℕ). area ≤ greatest_area (is_large_size n)) c.size.ensures.value c.spare_area-area.ensures.most in
     let room_is = ap (λ s. s.stored.room) c.self-inside.view_is in
@@ -104,6 +140,12 @@ invariant_of-self g c =
     let longest = subst (λ (n : ℕ). longest_in area ≡ program_room (is_large_size n)) c.size.ensures.value c.spare_area-area.ensures.room in
     let next_is = c.next_header-next.ensures ∙ (λ i. next_header header area (c.stored.view_is i).length) in
     let now_is = ap (λ (v : JournalModel g.row.R.Denot). v.saved.room) c.self.view_is in
-    let storable = storable_kept inside.stored c.args.stored.now c.self.invariant.storable (c.requires.storable (omega (arith, c.if-text-self.false, room_is, now_is))) short in
-    let steady = steady_loaded _ _ area header c.next_header-next.result inside.tip.end inside.stored (with_room inside.stored.room c.args.stored.now) c.self.invariant c.in-Ok.ensures.call.size more.0 has longest short refl storable (subst (λ (s : StoredModel). s.entries ≤ greatest_count) c.stored.view_is more.1) next_is in
-    rw c.beginning-self-inside.ensures (subst (λ (x : StoredModel). IsSteady (g.R.Rig.seen c.load.new.rig).sectors c.next_header-next.result no_records x) (sym c.take_state.ensures) steady)
+    let storable = storable_kept inside.stored c.args.stored.now c.self.invariant.storable
+    (c.requires.storable (omega (arith, c.if-text-self.false, room_is, now_is))) short in
+    let steady = steady_loaded _ _ area header c.next_header-next.result inside.tip.end inside.stored
+    (with_room inside.stored.room c.args.stored.now) c.self.invariant c.in-Ok.ensures.call.size more.0 has
+    longest short refl storable (subst (λ (s : StoredModel). s.entries ≤ greatest_count) c.stored.view_is
+    more.1) next_is in
+    rw c.beginning-self-inside.ensures
+    (subst (λ (x : StoredModel). IsSteady (g.R.Rig.seen c.load.new.rig).sectors c.next_header-next.result
+    no_records x) (sym c.take_state.ensures) steady)

@@ -10,7 +10,9 @@ returns-clause-ready g c =
     let text : c.args.half.now.text ≡ c.text_from.result.items = rw (← c.half.view_is) (sym (c.text_from.ensures ∙ c.as_slice.ensures.value)) in
     let source : c.args.half.now.source ≡ c.half.inside.source = ap (λ (h : HalfModel). h.source) (sym c.half.view_is) in
     let index : c.args.half.now.index ≡ c.half.inside.index = ap (λ (h : HalfModel). h.index) (sym c.half.view_is) in
-    let point : c.block_segments_from-left.result.standing.point ≡ (stance_before c.args.stored.now.setup (in_state c.args.stored.now.setup c.args.effect.now) c.args.half.now.index).point =
+    let point : c.block_segments_from-left.result.standing.point
+    ≡ (stance_before c.args.stored.now.setup (in_state c.args.stored.now.setup c.args.effect.now)
+    c.args.half.now.index).point =
     rw (← c.half.view_is, ← c.start_of.ensures) (ap (λ (t : Stance). t.point) c.block_segments_from-left.ensures.standing) in
     record {
       between = c.in_ok-between.between;
@@ -21,5 +23,15 @@ returns-clause-ready g c =
       });
       first = c.in_ok-between.ensures.next;
       second = c.in_ok-after.ensures.next;
-      after_is = λ i. record { entries = c.in_ok-after.ensures.next.count i; setup = c.in_ok-after.after.setup; place = c.in_ok-after.after.place; length = c.in_ok-after.ensures.next.same i; half = ap (λ (y : StoredModel). y.half) c.in_ok-after.ensures.value i; tools = c.in_ok-after.ensures.next.tools i; room = c.in_ok-after.ensures.next.room i };
+      after_is = λ i. record {
+        entries = c.in_ok-after.ensures.next.count i;
+        setup = c.in_ok-after.after.setup;
+        place = c.in_ok-after.after.place;
+        length = c.in_ok-after.ensures.next.same i;
+        half =
+            ap (λ (y : StoredModel). y.half) c.in_ok-after.ensures.value i;
+        tools =
+            c.in_ok-after.ensures.next.tools i;
+        room = c.in_ok-after.ensures.next.room i;
+      };
     }
