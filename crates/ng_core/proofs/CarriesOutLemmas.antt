@@ -22,7 +22,7 @@ use Rattle.ng_core.proofs.AnyDeviceLemmas.{stays_same, unless_lost, comes_by, co
 use Rattle.ng_core.proofs.HonestCallLemmas.{MakesIfHonest, calls_none, calls_on, calls_quiet, ledger_on, ledger_quiet}
 use Rattle.ng_core.proofs.TickChoiceLemmas.{with_session, does_item}
 use Rattle.ng_core.proofs.HonestEventLemmas.{does_still, does_aside}
-use Rattle.ng_core.proofs.InForce.{keeps_same, keeps_unwritten, reads_on, reads_still, reads_aside, reads_lost, reads_unstored, reads_item}
+use Rattle.ng_core.proofs.ProgramInForceLemmas.{keeps_same, keeps_unwritten, reads_on, reads_still, reads_aside, reads_lost, reads_unstored, reads_item}
 use Rattle.ng_core.proofs.EventCauseLemmas.{hindered_as, busy_block, busy_unread}
 use Rattle.ng_core.proofs.QuietEventLemmas.{IsStill, still}
 use Rattle.ng_core.proofs.TickLemmas.{does_on, does_held, tick_held, tick_item, tick_none}

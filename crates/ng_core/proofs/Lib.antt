@@ -20,7 +20,7 @@ pub mod FailureLemmas
 pub mod AnyDeviceLemmas
 pub mod EventCauseLemmas
 pub mod HonestCallLemmas
-pub mod InForce
+pub mod ProgramInForceLemmas
 pub mod CarriesOutLemmas
 pub mod LoadEventLemmas
 pub mod PowerOnLemmas

@@ -35,7 +35,7 @@ use Rattle.ng_core.proofs.EventCallLemmas.{acts_unread}
 use Rattle.ng_core.proofs.HonestCallLemmas.{calls_none, calls_quiet, quiet_calls, ledger_quiet}
 use Rattle.ng_core.proofs.LineBeginLemmas.{FindingBoth, does_begin, begun_line, by_running}
 use Rattle.ng_core.proofs.ProgramExistsLemmas.{has_kind}
-use Rattle.ng_core.proofs.InForce.{FindingInForce, keeps_same, keeps_unwritten, reads_lost, reads_begin}
+use Rattle.ng_core.proofs.ProgramInForceLemmas.{FindingInForce, keeps_same, keeps_unwritten, reads_lost, reads_begin}
 use Rattle.ng_core.proofs.EventCauseLemmas.{unused_begin}
 use Rattle.ng_core.proofs.QuietEventLemmas.{still_begin}
 

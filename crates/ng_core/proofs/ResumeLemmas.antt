@@ -37,7 +37,7 @@ use Rattle.ng_core.proofs.HonestEventLemmas.{does_still}
 use Rattle.ng_core.proofs.TickLemmas.{does_on}
 use Rattle.ng_core.proofs.TickChoiceLemmas.{with_session}
 use Rattle.ng_core.proofs.AnyDeviceLemmas.{comes_by, comes_to}
-use Rattle.ng_core.proofs.InForce.{KeepsProgram, ReadingInForce, reads_on, reads_still}
+use Rattle.ng_core.proofs.ProgramInForceLemmas.{KeepsProgram, ReadingInForce, reads_on, reads_still}
 
 next_by : (program : List ℕ) (half : Option HalfModel) (place next : ℕ) → IsProgramsLine half
     → next ≡ next_line_start program place → IfSome half (λ h. next ≡ next_place_after program place h.source)

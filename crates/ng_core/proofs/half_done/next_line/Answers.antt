@@ -4,7 +4,7 @@ use Rattle.ng_num.specs.declared.fault.Fault.{Fault}
 use Rattle.ng_rig.proofs.GuaranteeLemmas.{meaning}
 use Rattle.ng_text.specs.Programs.{ProgramLineModel}
 use Rattle.ng_core.proofs.LineBeginLemmas.{Reading}
-use Rattle.ng_core.proofs.InForce.{ReadingInForce}
+use Rattle.ng_core.proofs.ProgramInForceLemmas.{ReadingInForce}
 use Rattle.ng_core.proofs.ResumeLemmas.{finds_next, next_in_force}
 use Rattle.ng_text.proofs.PlaceLemmas.{line_next, after_end}
 use Rattle.ng_core.proofs.half_done.next_line.Goals as goal

@@ -12,7 +12,7 @@ use Rattle.ng_session.specs.declared.reply.Reply.{Reply}
 use Rattle.ng_core.specs.Model.{ControllerModel}
 use Rattle.ng_core.proofs.LineBeginLemmas.{Reading, finding_both, does_begin, does_begin_short, does_begin_unfound, does_begin_unread, begun_line, known_after}
 use Rattle.ng_core.proofs.CarriesOutLemmas.{carried_as, carried_lost, carried_read}
-use Rattle.ng_core.proofs.InForce.{keeps_unwritten, finds_in_force, reads_begin}
+use Rattle.ng_core.proofs.ProgramInForceLemmas.{keeps_unwritten, finds_in_force, reads_begin}
 use Rattle.ng_core.proofs.HonestCallLemmas.{calls_none, calls_quiet, ledger_quiet}
 use Rattle.ng_core.proofs.QuietEventLemmas.{still_begin}
 use Rattle.ng_core.proofs.EventCauseLemmas.{unused_begin}

@@ -12,7 +12,7 @@ use Rattle.ng_session.specs.declared.reply.Reply.TheVariants as reply
 use Rattle.ng_core.specs.Model.{ControllerModel}
 use Rattle.ng_core.proofs.AnyDeviceLemmas.{comes_commit}
 use Rattle.ng_core.proofs.CarriesOutLemmas.{carried_as, carried_failed}
-use Rattle.ng_core.proofs.InForce.{reads_commit}
+use Rattle.ng_core.proofs.ProgramInForceLemmas.{reads_commit}
 use Rattle.ng_core.proofs.HonestCallLemmas.{calls_made, makes_entry, ledger_entry}
 use Rattle.ng_core.proofs.EventCauseLemmas.{hindered_entry, stored_end}
 use Rattle.ng_core.proofs.StoredJournalLemmas.{kept_whole}

@@ -11,7 +11,7 @@ use Rattle.ng_core.proofs.CarriesOutLemmas.{carried_to, by_some}
 use Rattle.ng_core.proofs.TickChoiceLemmas.{begins_there, by_none}
 use Rattle.ng_core.proofs.EventCauseLemmas.{busy_block, busy_unread, busy_running}
 use Rattle.ng_core.proofs.HonestCallLemmas.{calls_on, calls_quiet, ledger_on, ledger_quiet}
-use Rattle.ng_core.proofs.InForce.{reads_on, reads_still}
+use Rattle.ng_core.proofs.ProgramInForceLemmas.{reads_on, reads_still}
 use Rattle.ng_core.proofs.QuietEventLemmas.{still_rest}
 use Rattle.ng_core.proofs.TickLemmas.{does_rest, rests_there}
 use Rattle.ng_core.proofs.controller.Controller.end.Goals as goal

@@ -6,7 +6,7 @@ use Rattle.ng_core.specs.Events.{handing}
 use Rattle.ng_core.specs.Model.{ControllerModel}
 use Rattle.ng_core.proofs.AnyDeviceLemmas.{comes_by}
 use Rattle.ng_core.proofs.CarriesOutLemmas.{carried_as, carried_lost}
-use Rattle.ng_core.proofs.InForce.{keeps_handed, reads_answered}
+use Rattle.ng_core.proofs.ProgramInForceLemmas.{keeps_handed, reads_answered}
 use Rattle.ng_core.proofs.TickLemmas.{hands_item, hands_none}
 use Rattle.ng_core.proofs.controller.Controller.hand_out.Goals as goal
 

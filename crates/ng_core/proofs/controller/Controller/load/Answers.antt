@@ -17,7 +17,7 @@ use Rattle.ng_core.proofs.EventCauseLemmas.{hindered_load}
 use Rattle.ng_core.proofs.StoredJournalLemmas.{kept_whole, kept_failed}
 use Rattle.ng_core.proofs.AnyDeviceLemmas.{comes_load}
 use Rattle.ng_core.proofs.CarriesOutLemmas.{carried_as, carried_refused, carried_short, carried_failed}
-use Rattle.ng_core.proofs.InForce.{reads_load}
+use Rattle.ng_core.proofs.ProgramInForceLemmas.{reads_load}
 use Rattle.ng_core.proofs.controller.Controller.load.Goals as goal
 
 pub invariant_of-self : goal.invariant_of-self

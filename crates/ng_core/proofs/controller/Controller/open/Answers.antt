@@ -14,7 +14,7 @@ use Rattle.ng_session.specs.declared.reply.Reply.TheVariants as reply
 use Rattle.ng_core.specs.Model.{ControllerModel}
 use Rattle.ng_core.proofs.AnyDeviceLemmas.{comes_by}
 use Rattle.ng_core.proofs.CarriesOutLemmas.{carried_as, carried_failed}
-use Rattle.ng_core.proofs.InForce.{reads_answered}
+use Rattle.ng_core.proofs.ProgramInForceLemmas.{reads_answered}
 use Rattle.ng_core.proofs.HonestCallLemmas.{calls_made, makes_opening, ledger_opening}
 use Rattle.ng_core.proofs.EventCauseLemmas.{hindered_opening, stored_opening}
 use Rattle.ng_core.proofs.TickLemmas.{opening, opens, opens_none}

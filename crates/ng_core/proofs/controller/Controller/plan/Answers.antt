@@ -12,7 +12,7 @@ use Rattle.ng_core.specs.Model.{ControllerModel}
 use Rattle.ng_core.specs.Private.Ahead.{PlansAhead}
 use Rattle.ng_core.proofs.ReadAheadLemmas.{plans_found, plans_lost}
 use Rattle.ng_core.proofs.LineBeginLemmas.{Reading, finding_both}
-use Rattle.ng_core.proofs.InForce.{finds_in_force}
+use Rattle.ng_core.proofs.ProgramInForceLemmas.{finds_in_force}
 use Rattle.ng_core.proofs.controller.Controller.plan.Goals as goal
 
 pub returns-in_err-first : goal.returns-in_err-first

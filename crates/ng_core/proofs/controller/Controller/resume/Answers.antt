@@ -9,7 +9,7 @@ use Rattle.ng_core.specs.Model.{ControllerModel}
 use Rattle.ng_core.proofs.CarriesOutLemmas.{carried_as, carried_lost, carried_read}
 use Rattle.ng_session.proofs.RefusalLemmas.{refused_again}
 use Rattle.ng_core.proofs.HonestCallLemmas.{calls_none, calls_on, calls_quiet, ledger_on, ledger_quiet}
-use Rattle.ng_core.proofs.InForce.{keeps_unwritten}
+use Rattle.ng_core.proofs.ProgramInForceLemmas.{keeps_unwritten}
 use Rattle.ng_core.proofs.QuietEventLemmas.{still}
 use Rattle.ng_core.proofs.EventCauseLemmas.{unused_resume}
 use Rattle.ng_core.proofs.ResumeLemmas.{still_resume, does_not_resume, reads_not_resumed, comes_not_resumed}
