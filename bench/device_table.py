@@ -232,8 +232,8 @@ for byte, (_, word) in NAMES.items():
 # The codes, in the order in which the document names them.
 codes = (layout / "specs/Codes.antt").read_text()
 known = {
-    name: numbers(" ".join(re.findall(r"\((\d+),", line)))
-    for name, line in re.findall(r"\n(\w+)_of code = (.*)", codes)
+    name: numbers(" ".join(re.findall(r"\((\d+),", equation)))
+    for name, equation in re.findall(r"\n(\w+)_of code = ((?:.+\n)+)", codes)
 }
 ranges = {numbers(row[0])[0]: row[3] for row in fields}
 for byte, name in [
@@ -368,7 +368,7 @@ for name, wanted, given in (
 # How many changes fit into a part, and where the first one stands.
 row = rows("Log")[-1]
 most, index, _, _, value_bits = numbers(row[2])
-in_part = re.search(r"change_at \(row \(at \+ 1 \+ n / (\d+)\)\) \((\d+) \+ (\d+) \*", log)
+in_part = re.search(r"change_at \(row \(at \+ 1 \+ n / (\d+)\)\) \((\d+) \+ (\d+) \*", " ".join(log.split()))
 same(
     "changes of a part",
     ("docs", [most, numbers(row[0])[0], (index + value_bits) // 8]),
