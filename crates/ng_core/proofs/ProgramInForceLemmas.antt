@@ -7,14 +7,12 @@ use Rattle.ng_num.specs.declared.fault.Fault.TheVariants.{DeviceFailed, Counters
 use Rattle.ng_canon.specs.declared.item.Item.{Item}
 use Rattle.ng_words.specs.declared.start.LineKind.{LineKind}
 use Rattle.ng_rig.specs.Rig.{Device}
-use Rattle.ng_rig.specs.Trace.{Handed}
-use Rattle.ng_rig.specs.Calls.{IfHonest}
+use Rattle.ng_rig.specs.Trace.{Handed, reads}
 use Rattle.ng_text.specs.LinesBefore.{IsTrueOf}
 use Rattle.ng_text.specs.Percent.{first_kind}
 use Rattle.ng_text.specs.Programs.{ProgramLineModel, program_line_at, lines_before}
 use Rattle.ng_layout.specs.Stands.{program_under}
 use Rattle.ng_layout.specs.Stored.{StoredModel}
-use Rattle.ng_log.specs.Reading.{ReadSpec}
 use Rattle.ng_journal.specs.Journal.{JournalModel, HoldsProgram}
 use Rattle.ng_journal.specs.Storing.{Ledger, ledger_of}
 use Rattle.ng_journal.proofs.ProgramHeldLemmas.{holds_same, holds_handed}
@@ -44,13 +42,11 @@ FindingInForce seen first line known place journal =
     → IsKnownOf program known
     → (first ≡ first_kind (lines_before program place)) × (line ≡ program_line_at program place)
 
--- the contract of `program_line`
-abbrev pub ReadingInForce : {R E : Type 0} → (R → Device) → Result (Option ProgramLineModel) E → ℕ → JournalModel R
-    → JournalModel R → Type 0
-ReadingInForce seen result place old new =
-    IfHonest (seen old.rig) (seen new.rig)
-    (ReadSpec result (λ image line. line ≡ program_line_at (program_under old.header image) place)
-    (seen old.rig).trace (seen new.rig).trace)
+-- what `program_line` finds of the program in force
+abbrev pub ReadingInForce : {R : Type 0} → (R → Device) → Option ProgramLineModel → ℕ → JournalModel R → Type 0
+ReadingInForce seen line place journal =
+    (seen journal.rig).honest
+    → line ≡ program_line_at (program_under journal.header (reads (seen journal.rig).trace)) place
 
 module _ {R : Type 0} (seen : R → Device) where
   -- ---- the program in force stays the same
@@ -187,18 +183,17 @@ module _ {R : Type 0} (seen : R → Device) where
   -- ---- a line is begun
 
   -- both reads succeeded
-  pub finds_in_force : {E : Type 0} (first : LineKind) (found line : Option ProgramLineModel) (known : KnownModel)
-      (place : ℕ) (old mid new : JournalModel R)
+  pub finds_in_force : (first : LineKind) (found line : Option ProgramLineModel) (known : KnownModel)
+      (place : ℕ) (old mid : JournalModel R)
       → ((seen old.rig).honest → (program : List ℕ) → HoldsProgram (seen old.rig).trace old program
       → IsTrueOf program known.before → first ≡ first_kind (lines_before program place))
       → ((seen old.rig).honest → (seen mid.rig).honest)
       → ((seen old.rig).honest → (seen mid.rig).trace ≡ (seen old.rig).trace) → ledger_of mid ≡ ledger_of old
-      → found ≡ line → ReadingInForce {E = E} seen (Ok found) place mid new
-      → FindingInForce seen first line known place old
-  finds_in_force first found line known place old mid new kind honest unwritten ledger is read =
+      → found ≡ line → ReadingInForce seen found place mid → FindingInForce seen first line known place old
+  finds_in_force first found line known place old mid kind honest unwritten ledger is read =
       λ h program held true_of.
       let held_on = keeps_unwritten old mid unwritten ledger h program held in
-      let there = (read.holds (honest h)).right ∙ ap (λ (p : List ℕ). program_line_at p place) held_on.program_is in
+      let there = read (honest h) ∙ ap (λ (p : List ℕ). program_line_at p place) held_on.program_is in
       (kind h program held true_of.0, sym is ∙ there)
 
   pub reads_begin : (r : Reply) (first : LineKind) (line : Option ProgramLineModel) (place : ℕ)

@@ -61,16 +61,16 @@ finds_next seen line next s old new half later p =
     record { same = r.same; at = r.at; next = next_by standing.program s.stored.half s.stored.place next half (later standing.program r.line) })
 
 -- that line is of the program in force
-pub next_in_force : {R E : Type 0} (seen : R → Device) (line : Option ProgramLineModel) (next : ℕ) (s : SessionModel)
-    (old new : JournalModel R) → IsProgramsLine s.stored.half
+pub next_in_force : {R : Type 0} (seen : R → Device) (line : Option ProgramLineModel) (next : ℕ) (s : SessionModel)
+    (journal : JournalModel R) → IsProgramsLine s.stored.half
     → ((program : List ℕ) → line ≡ program_line_at program s.stored.place
     → next ≡ next_line_start program s.stored.place)
-    → ReadingInForce {E = E} seen (Ok line) s.stored.place old new
-    → (seen old.rig).honest → (program : List ℕ) → HoldsProgram (seen old.rig).trace old program
+    → ReadingInForce seen line s.stored.place journal
+    → (seen journal.rig).honest → (program : List ℕ) → HoldsProgram (seen journal.rig).trace journal program
     → IsNextLineAt program s next
-next_in_force seen line next s old new half later read h program held =
+next_in_force seen line next s journal half later read h program held =
     next_by program s.stored.half s.stored.place next half
-    (later program ((read.holds h).right ∙ ap (λ (p : List ℕ). program_line_at p s.stored.place) held.program_is))
+    (later program (read h ∙ ap (λ (p : List ℕ). program_line_at p s.stored.place) held.program_is))
 
 -- ---- nothing is stored
 

@@ -51,24 +51,22 @@ returns-in-Some-clause-reads g c =
     let place = c.place-place.result in
     let at : place ≡ c.args.session.now.stored.place = c.place-place.ensures.value in
     let journal = c.args.journal.now in
-    let new = c.program_line.new.self in
-    let reading = subst (λ (l : Option ProgramLineModel). ReadingInForce {E = Fault} g.R.Rig.seen (Ok l) place journal new)
-    c.in-Some.is c.in_ok-line.ensures.reads in
-    next_in_force {E = Fault} g.R.Rig.seen (Some c.in-Some.line) c.line.inside.next c.args.session.now journal new
+    let reading = subst (λ (l : Option ProgramLineModel). ReadingInForce g.R.Rig.seen l place journal)
+    c.in-Some.is (λ h. (c.in_ok-line.ensures.reads.holds h).right) in
+    next_in_force g.R.Rig.seen (Some c.in-Some.line) c.line.inside.next c.args.session.now journal
     (c.is_programs_line.ensures.yes c.if-not-is_programs_line.false)
     (λ program found. ap (λ (l : ProgramLineModel). l.next) c.line.view_is
     ∙ line_next program c.args.session.now.stored.place c.in-Some.line (sym found))
-    (subst (λ (n : ℕ). ReadingInForce {E = Fault} g.R.Rig.seen (Ok (Some c.in-Some.line)) n journal new) at reading)
+    (subst (λ (n : ℕ). ReadingInForce g.R.Rig.seen (Some c.in-Some.line) n journal) at reading)
 
 pub returns-in-None-clause-reads : goal.returns-in-None-clause-reads
 returns-in-None-clause-reads g c =
     let place = c.place-place.result in
     let at : place ≡ c.args.session.now.stored.place = c.place-place.ensures.value in
     let journal = c.args.journal.now in
-    let new = c.program_line.new.self in
-    let reading = subst (λ (l : Option ProgramLineModel). ReadingInForce {E = Fault} g.R.Rig.seen (Ok l) place journal new)
-    c.in-None.is c.in_ok-line.ensures.reads in
-    next_in_force {E = Fault} g.R.Rig.seen None place c.args.session.now journal new
+    let reading = subst (λ (l : Option ProgramLineModel). ReadingInForce g.R.Rig.seen l place journal)
+    c.in-None.is (λ h. (c.in_ok-line.ensures.reads.holds h).right) in
+    next_in_force g.R.Rig.seen None place c.args.session.now journal
     (c.is_programs_line.ensures.yes c.if-not-is_programs_line.false)
     (λ program end. at ∙ after_end program c.args.session.now.stored.place end)
-    (subst (λ (n : ℕ). ReadingInForce {E = Fault} g.R.Rig.seen (Ok None) n journal new) at reading)
+    (subst (λ (n : ℕ). ReadingInForce g.R.Rig.seen None n journal) at reading)

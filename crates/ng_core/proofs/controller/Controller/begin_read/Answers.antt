@@ -194,10 +194,11 @@ returns-in_ok-reply-in-Some g c =
           (λ h. (c.in_ok-line.ensures.reads.holds (c.in_ok-first.ensures.kind.keeps h)).same ∙ c.in_ok-first.ensures.unwritten.holds h);
       reads = reads_begin g.R.Rig.seen c.in_ok-reply-in-Some.reply c.in_ok-first.first (Some line) c.place-place.result
           old new c.place-place.ensures.value
-          (finds_in_force {E = Fault} g.R.Rig.seen c.in_ok-first.first c.in_ok-line.field-0 (Some line) old.lines c.place-place.result
-          old.journal c.first_kind_before.new.journal new.journal c.in_ok-first.ensures.reads
+          (finds_in_force g.R.Rig.seen c.in_ok-first.first c.in_ok-line.field-0 (Some line) old.lines
+          c.place-place.result old.journal c.first_kind_before.new.journal c.in_ok-first.ensures.reads
           c.in_ok-first.ensures.kind.keeps c.in_ok-first.ensures.unwritten.holds c.in_ok-first.ensures.ledger
-          (c.in-Some.is ∙ ap (λ (l : ProgramLineModel). Some l) (sym read)) c.in_ok-line.ensures.reads)
+          (c.in-Some.is ∙ ap (λ (l : ProgramLineModel). Some l) (sym read))
+          (λ h. (c.in_ok-line.ensures.reads.holds h).right))
           (keeps_unwritten g.R.Rig.seen old.journal new.journal
           (λ h. (c.in_ok-line.ensures.reads.holds (c.in_ok-first.ensures.kind.keeps h)).same ∙ c.in_ok-first.ensures.unwritten.holds h)
           (c.in_ok-line.ensures.ledger ∙ c.in_ok-first.ensures.ledger))
@@ -259,10 +260,10 @@ returns-in-None g c =
           (λ h. (c.in_ok-line.ensures.reads.holds (c.in_ok-first.ensures.kind.keeps h)).same ∙ c.in_ok-first.ensures.unwritten.holds h);
       reads = reads_begin g.R.Rig.seen c.break_off.result c.in_ok-first.first None c.place-place.result
           old new c.place-place.ensures.value
-          (finds_in_force {E = Fault} g.R.Rig.seen c.in_ok-first.first c.in_ok-line.field-0 None old.lines c.place-place.result
-          old.journal c.first_kind_before.new.journal new.journal c.in_ok-first.ensures.reads
+          (finds_in_force g.R.Rig.seen c.in_ok-first.first c.in_ok-line.field-0 None old.lines c.place-place.result
+          old.journal c.first_kind_before.new.journal c.in_ok-first.ensures.reads
           c.in_ok-first.ensures.kind.keeps c.in_ok-first.ensures.unwritten.holds c.in_ok-first.ensures.ledger
-          c.in-None.is c.in_ok-line.ensures.reads)
+          c.in-None.is (λ h. (c.in_ok-line.ensures.reads.holds h).right))
           (keeps_unwritten g.R.Rig.seen old.journal new.journal
           (λ h. (c.in_ok-line.ensures.reads.holds (c.in_ok-first.ensures.kind.keeps h)).same ∙ c.in_ok-first.ensures.unwritten.holds h)
           (c.in_ok-line.ensures.ledger ∙ c.in_ok-first.ensures.ledger))

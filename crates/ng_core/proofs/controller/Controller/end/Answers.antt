@@ -16,6 +16,17 @@ use Rattle.ng_core.proofs.QuietEventLemmas.{still_rest}
 use Rattle.ng_core.proofs.TickLemmas.{does_rest, rests_there}
 use Rattle.ng_core.proofs.controller.Controller.end.Goals as goal
 
+pub commit-requires-clause-block : goal.commit-requires-clause-block
+commit-requires-clause-block g c =
+    let found = by_some _ _ c.after.result c.if-is_some.ensures c.after.ensures.after in
+    sym (ap (λ (x : ControllerModel g.row.R.Denot). is_some x.session.current) c.self.view_is)
+    ∙ ap (λ (o : Option CurrentBlockModel). is_some o) found.1.1
+
+pub begin_next-requires-clause-free : goal.begin_next-requires-clause-free
+begin_next-requires-clause-free g c =
+    sym (ap (λ (x : ControllerModel g.row.R.Denot). x.session.current) c.self.view_is)
+    ∙ by_none _ c.after.result c.if-is_some.ensures c.after.ensures.after
+
 pub returns-then-is_some : goal.returns-then-is_some
 returns-then-is_some g c =
     let old : ControllerModel g.row.R.Denot = c.args.self.now in

@@ -91,10 +91,11 @@ returns-in-Some-2 g c =
     (finding_both {E = Fault} {F = Fault} g.R.Rig.seen c.in_ok-first.first (Some line) c.self.inside.lines
     c.in-Some.place c.self.inside.journal c.first_kind_before.new.journal c.program_line.new.self
     c.in_ok-first.ensures.kind reading)
-    (finds_in_force {E = Fault} g.R.Rig.seen c.in_ok-first.first c.in_ok-line.field-0 (Some line) old.lines c.in-Some.place
-    old.journal c.first_kind_before.new.journal new.journal c.in_ok-first.ensures.reads
+    (finds_in_force g.R.Rig.seen c.in_ok-first.first c.in_ok-line.field-0 (Some line) old.lines c.in-Some.place
+    old.journal c.first_kind_before.new.journal c.in_ok-first.ensures.reads
     c.in_ok-first.ensures.kind.keeps c.in_ok-first.ensures.unwritten.holds c.in_ok-first.ensures.ledger
-    (c.in-Some-2.is ∙ ap (λ (l : ProgramLineModel). Some l) (sym read)) c.in_ok-line.ensures.reads)
+    (c.in-Some-2.is ∙ ap (λ (l : ProgramLineModel). Some l) (sym read))
+    (λ h. (c.in_ok-line.ensures.reads.holds h).right))
     (λ program known at kind.
     let between : IsLineBetween program c.in-Some.place c.in_ok-first.first line.text line.next = record { line = sym at; kind = kind } in
     let before = c.lines_after-before.ensures program (subst (λ (k : LinesBefore). IsTrueOf program k) (sym c.plan.ensures.before) known.0) between in
@@ -130,10 +131,10 @@ returns-in-None g c =
     (finding_both {E = Fault} {F = Fault} g.R.Rig.seen c.in_ok-first.first None c.self.inside.lines c.in-Some.place
     c.self.inside.journal c.first_kind_before.new.journal c.program_line.new.self
     c.in_ok-first.ensures.kind reading)
-    (finds_in_force {E = Fault} g.R.Rig.seen c.in_ok-first.first c.in_ok-line.field-0 None old.lines c.in-Some.place
-    old.journal c.first_kind_before.new.journal new.journal c.in_ok-first.ensures.reads
+    (finds_in_force g.R.Rig.seen c.in_ok-first.first c.in_ok-line.field-0 None old.lines c.in-Some.place
+    old.journal c.first_kind_before.new.journal c.in_ok-first.ensures.reads
     c.in_ok-first.ensures.kind.keeps c.in_ok-first.ensures.unwritten.holds c.in_ok-first.ensures.ledger
-    c.in-None.is c.in_ok-line.ensures.reads)
+    c.in-None.is (λ h. (c.in_ok-line.ensures.reads.holds h).right))
     (λ program known at kind. subst (λ (k : KnownModel). IsKnownOf program k) (sym c.end.ensures) known)
     (λ h. (c.in_ok-line.ensures.reads.holds (c.in_ok-first.ensures.kind.keeps h)).same ∙ c.in_ok-first.ensures.unwritten.holds h)
     refl refl (c.in_ok-line.ensures.ledger ∙ c.in_ok-first.ensures.ledger) c.in_ok-line.ensures.broken
