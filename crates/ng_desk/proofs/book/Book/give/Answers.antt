@@ -65,3 +65,16 @@ invariant_of-self-2 g c =
           (subst (λ (l : List ℕ). RunsFrom g.R.Rig.seen g.O.Origin.start (old ++ call ∷ []) l is) (sym c.push.ensures)
           (runs_more g.R.Rig.seen g.O.Origin.start old c.self.inside.moments call was is c.self.invariant.3 turn c.on-reply.ensures.size)),
     )
+
+pub returns-clause-turn : goal.returns-clause-turn
+returns-clause-turn g c =
+    let was = c.self.inside.controller in
+    let is = c.on-reply.new.self in
+    let given : IsAnsweredEvent g.R.Rig.seen c.in_ok-given.given c.on-reply.result was is =
+    record { serves = c.on-reply.ensures.serves; refuses = c.on-reply.ensures.broken } in
+    let reply : c.on-reply.result ≡ c.of-2.result.reply =
+    sym (ap (λ (x : Call g.row.A.Denot). x.reply) c.of-2.ensures) in
+    let turn : IsAnsweredEvent g.R.Rig.seen c.args.event.now c.of-2.result.reply was is =
+    subst (λ (r : Reply). IsAnsweredEvent g.R.Rig.seen c.args.event.now r was is) reply
+    (subst (λ (e : Event g.row.A.Denot). IsAnsweredEvent g.R.Rig.seen e c.on-reply.result was is) c.in_ok-given.ensures given) in
+    rw (← c.self.view_is) turn
