@@ -6,6 +6,7 @@ import signal
 import socket
 import subprocess
 import sys
+import threading
 import time
 import unittest
 from collections.abc import Callable
@@ -720,6 +721,28 @@ class Given(unittest.TestCase):
         session.face.give_aside("percent 50")
         session._do(SessionCommand("reference", lambda: done.append("reference"), 0, 0))
         self.assertEqual((done, session.face.asides()), (["reference", "percent 50"], []))
+
+    def test_late(self) -> None:
+        """What is given once a command is through, while the session looks how all stands, is done then, before the
+        next one."""
+        session, done = PageSession.__new__(PageSession), []
+        session.face, session.stand = PageFace(), SimpleNamespace(status=None)
+        session.operator = SimpleNamespace(do=done.append, over=False)
+        session.ended, session.over, session._wake = "", threading.Event(), threading.Condition()
+        session.under = session._next = None
+
+        def look() -> None:
+            """Something is given, and then the next command."""
+            if done == ["reference"]:
+                session.tell("single on")
+                session._next = SessionCommand("run", lambda: done.append("run"), 0, 0)
+            elif "run" in done:
+                session.over.set()
+
+        session._look, session._see_end, session._look_at_way = look, lambda *_: None, lambda _: None
+        session.give("reference", lambda: done.append("reference"))
+        session._work()
+        self.assertEqual(done, ["reference", "single on", "run"])
 
 
 class HeldJogs(unittest.TestCase):

@@ -82,6 +82,13 @@ class SessionCommand:
     result: Any = None
     failed: Failure | OSError | None = None
 
+    def awaited(self, patience_s: float = 10.0) -> Any:
+        """Waits until it is done: its result. Raises what it failed by."""
+        self.done.wait(patience_s)
+        if self.failed:
+            raise self.failed
+        return self.result
+
 
 class PageSession:
     """All that pages may do. `name` is that of the program that was loaded last, `program_id` grows with each. `ended`
@@ -122,6 +129,7 @@ class PageSession:
         self.settings = Settings.read(console.settings)
         self.most_percents = _most_percents(self.machine, self.settings)
         self.face.begin(self.face.holds)
+        self.face.asides()  # none of the last session counts
         operator.begin(self.opened.bound, self.opened.found)
         self.operator, self.ident = operator, secrets.token_hex(8)  # a page that saw another one begins anew
         self.stand, self.kept = Stand(console.status()), Kept(console.device)
@@ -167,17 +175,16 @@ class PageSession:
                 raise Busy(self.ended or "the session is over")
             if self.is_busy:
                 raise Busy("something runs: hold first")
-            command = self._next = SessionCommand(word, does, self.face.holds, self.face.last_id())
+            command = self._next = self._command(word, does)
             self._wake.notify_all()
         return command
 
+    def _command(self, word: str, does: Callable[[], Any]) -> SessionCommand:
+        return SessionCommand(word, does, self.face.holds, self.face.last_id())
+
     def ask(self, word: str, does: Callable[[], Any], patience_s: float = 10.0) -> Any:
         """Gives it something to do, and waits for the result. Raises Busy, and what it failed by."""
-        command = self.give(word, does)
-        command.done.wait(patience_s)
-        if command.failed:
-            raise command.failed
-        return command.result
+        return self.give(word, does).awaited(patience_s)
 
     def type(self, line: str) -> None:
         """Does a command of the operator's core, as a person types it. Raises Busy."""
@@ -185,11 +192,14 @@ class PageSession:
 
     def tell(self, line: str) -> None:
         """Does a short command, and waits for it; one that may come while something runs is given then. Raises Busy."""
-        word = line.split()[0]
-        if word in _ASIDES and self.is_busy:
-            self.face.give_aside(line)
-        else:
-            self.ask(word, lambda: self.operator.do(line))
+        word, command = line.split()[0], None
+        with self._wake:
+            if word in _ASIDES and self.is_busy:
+                self.face.give_aside(line)
+            else:
+                command = self.give(word, lambda: self.operator.do(line))
+        if command:
+            command.awaited()
         if word == "delete":
             self.drawer.leave_out(line.endswith(" on"))
 
@@ -298,9 +308,11 @@ class PageSession:
     def _work(self) -> None:
         while not self.over.is_set() and not self.ended:
             with self._wake:
-                if self._next is None:
-                    self._wake.wait(_LOOK_S)
-                self.under, self._next = self._next, None
+                self.under = self._late()
+                if self.under is None:
+                    if self._next is None:
+                        self._wake.wait(_LOOK_S)
+                    self.under, self._next = self._next, None
             try:
                 if self.under:
                     self._do(self.under)
@@ -315,6 +327,11 @@ class PageSession:
                 if command:
                     command.done.set()
                     self.face.publish()
+
+    def _late(self) -> SessionCommand | None:
+        """What was given while a command ran, and came too late for it: it is done before the next one."""
+        lines = self.face.asides()
+        return self._command(lines[0].split()[0], lambda: list(map(self.operator.do, lines))) if lines else None
 
     def _do(self, command: SessionCommand) -> None:
         """Does a command, and sees how it ended."""
