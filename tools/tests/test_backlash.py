@@ -411,7 +411,7 @@ class OverSink(InC, PlayerTest):
         child.communicate(timeout=PATIENCE_S)
         sink.tell("tempo 0")
         self.assertRegex(self.play_over(), "^(out: the sink made [0-9]+ lines after the record of a player that was"
-                                           " killed: they are counted\n)?$")
+                                           " killed: they are counted\n)?(the sink ran dry [^\n]+\n)?$")
         screws = Screws()
         path(self.made(sink), screws)
         self.assertEqual(record().splitlines()[0], "lines 6000")

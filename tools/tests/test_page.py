@@ -203,18 +203,19 @@ class Work(Served):
     def test_tool(self) -> None:
         """While a tool is wanted what is in force is that of the tool before, though `ngc` is some lines ahead."""
         page = self.page()
-        for slot, length in ((1, "50"), (2, "62.5")):
+        for slot, length in ((1, "0.5"), (2, "0.625")):
             self.assertEqual(page.post("tool", {"slot": slot, "length": length}), (200, {}))
-        self.load(page, "G17 G21 G90 G94\nT1 M6\nG43 H1\nG0 Z1\nT2 M6\nG43 H2\nG0 Z1.05\nM0\nM2\n")
+        self.load(page, "G17 G21 G90 G94\nT1 M6\nG43 H1\nG0 Z0.1\nT2 M6\nG43 H2\nG0 Z0.15\nM0\nM2\n")
         page.until("it is drawn", lambda state: page.job())
         self.assertEqual(page.post("run"), (200, {}))
-        for line, length, z, tool in ((2, "0.000000", "0.000000", 1), (5, "50.000000", "1.000000", 2)):
+        for line, length, z, tool in ((2, "0.000000", "0.000000", 1), (5, "0.500000", "0.100000", 2)):
             state = page.until("it waits", lambda state, tool=tool: state["waits"] and state["waits_tool"] == tool and
                                state["half"] == "program")
             self.assertEqual((state["line"], state["tool_length"], state["work"][2]), (line, length, z))
             self.assertEqual(page.post("go"), (200, {}))
-        state = page.until("it stopped", lambda state: state["does"] == "stopped" and not state["busy"])
-        self.assertEqual((state["tool_length"], state["work"][2]), ("62.500000", "1.050000"))
+        state = page.until("it stopped", lambda state: state["does"] == "stopped" and not state["busy"]
+                           and not state["behind"])
+        self.assertEqual((state["tool_length"], state["work"][2]), ("0.625000", "0.150000"))
 
     def test_hold(self) -> None:
         """Hold is heeded within a line; what is asked meanwhile is refused; it goes on."""
