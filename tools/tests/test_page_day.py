@@ -10,7 +10,7 @@ from pathlib import Path
 
 sys.path.insert(0, str(Path(__file__).resolve().parent))
 
-from browser_support import Browser  # noqa: E402
+from browser_support import LONG, Browser  # noqa: E402
 from firefox_support import MISSING, PATH, start  # noqa: E402
 from page_support import OTHER, Served  # noqa: E402
 from session_support import PATIENCE_S, TOOLS, ngc  # noqa: E402
@@ -353,6 +353,13 @@ class Loss(Walk):
     def stored(self) -> None:
         """Step 1 says what was stored."""
         self.browser.wait("document.querySelector('#over .facts')?.textContent.includes('It begins at')")
+        self.fits("stored")
+
+    def fits(self, step: str) -> None:
+        """A step is shown whole, in a small window too."""
+        for size in ((1024, 768), (1280, 800)):
+            self.browser.size(*size)
+            self.assertLessEqual(self.browser.js(LONG), 0, (step, size))
 
     def gives_up(self) -> None:
         """The session ends within a line, and begins again: the line counts as not begun."""
@@ -372,9 +379,12 @@ class Loss(Walk):
         self.browser.press("Next", "#over button")
         for _ in "XYZ":
             self.browser.press("Confirm", "#over button")
+        self.fits("where it stands")
         self.browser.press("Next", "#over button")
         self.browser.wait("document.querySelector('#over details')")
+        self.fits("the rehearsal")
         self.browser.press("Next", "#over button")
+        self.fits("the choice")
 
     def agrees(self) -> None:
         """Answers what is asked: a height where it is one; once the outputs are on what was seen is ticked. Nothing
