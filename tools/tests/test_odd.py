@@ -227,17 +227,22 @@ class Odd(InFolder):
         Path("part.ngc").write_bytes(TEXT.replace("M2\n", "G1 X1 F600\nX2\nX1\n" * 60 + "M2\n").encode())
         Path("part.txt").write_bytes(subprocess.run([ngc(), "dry", "part.ngc"], capture_output=True).stdout)
         self.run_ngc("load 16\nG0 X1\nG0 X2\nM2\n\nquit\n")
+        stops = "ngc-check", "ngc-page", "ngc-plot", "ngc-adapt", "ngc-split"
         for name, words in GOOD.items():
-            took, stopped = self._lasts(name, words), 0
-            for moment in range(10):
-                end = self.ended(name, *words, interrupted_s=took * moment / 10)
-                if end.status != -signal.SIGINT:  # its work was done, and it was about to end
-                    self.check_end(name, end, (name, moment))
-                self.assertFalse("Traceback" in end.error, (name, moment))
-                stopped += "stopped" in end.error
-            self.assertGreater(stopped, 0 if name in ("ngc-check", "ngc-page", "ngc-plot", "ngc-adapt", "ngc-split")
-                               else -1, name)
+            tries = 5 if name in stops else 1  # where others work too, what it took once tells little
+            self.assertTrue(any(self._interrupted(name, words) for _ in range(tries)) or name not in stops, name)
         self.assertEqual([path for path in self.folders() if os.path.exists(path)] + os.listdir("tmp"), [])
+
+    def _interrupted(self, name: str, words: tuple[str, ...]) -> int:
+        """How often a tool was stopped, of ten moments."""
+        took, stopped = self._lasts(name, words), 0
+        for moment in range(10):
+            end = self.ended(name, *words, interrupted_s=took * moment / 10)
+            if end.status != -signal.SIGINT:  # its work was done, and it was about to end
+                self.check_end(name, end, (name, moment))
+            self.assertFalse("Traceback" in end.error, (name, moment))
+            stopped += "stopped" in end.error
+        return stopped
 
     def _lasts(self, name: str, words: tuple[str, ...]) -> float:
         """How long a tool takes."""
