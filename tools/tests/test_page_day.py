@@ -5,6 +5,7 @@ import re
 import subprocess
 import sys
 import unittest
+from collections.abc import Callable
 from functools import reduce
 from pathlib import Path
 
@@ -342,8 +343,9 @@ class Loss(Walk):
     def along(self) -> None:
         """Along the path, to the end."""
         self.stored()
+        self.fits("stored")
         self.done.append("Stored")
-        self.confirmed()
+        self.confirmed(self.fits)
         self.done += ["Where it stands", "Rehearsal"]
         self.press("Go along the path", "#over button")
         self.agrees()
@@ -353,7 +355,6 @@ class Loss(Walk):
     def stored(self) -> None:
         """Step 1 says what was stored."""
         self.browser.wait("document.querySelector('#over .facts')?.textContent.includes('It begins at')")
-        self.fits("stored")
 
     def fits(self, step: str) -> None:
         """A step is shown whole, in a small window too."""
@@ -374,17 +375,17 @@ class Loss(Walk):
         self.browser.press("Yes, give it up", "#over button")
         self.rests("s.half === 'none' && s.line === 5 && !s.spindle")
 
-    def confirmed(self) -> None:
-        """From step 1 to step 4: each axis is confirmed."""
+    def confirmed(self, looks: Callable[[str], None] = lambda _: None) -> None:
+        """From step 1 to step 4: each axis is confirmed. `looks` is told of each step."""
         self.browser.press("Next", "#over button")
         for _ in "XYZ":
             self.browser.press("Confirm", "#over button")
-        self.fits("where it stands")
+        looks("where it stands")
         self.browser.press("Next", "#over button")
         self.browser.wait("document.querySelector('#over details')")
-        self.fits("the rehearsal")
+        looks("the rehearsal")
         self.browser.press("Next", "#over button")
-        self.fits("the choice")
+        looks("the choice")
 
     def agrees(self) -> None:
         """Answers what is asked: a height where it is one; once the outputs are on what was seen is ticked. Nothing
