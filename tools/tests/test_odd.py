@@ -189,8 +189,8 @@ class Odd(InFolder):
         return Ended(status, *(Path(path).read_text(errors="replace") for path in ("tool.out", "tool.err")))
 
     def check_end(self, name: str, end: Ended, what: object) -> None:
-        """No traceback, a status of the page, and for status 2 the tool's line, with no other behind it: what belongs to
-        it is indented, and a name may have a newline in it."""
+        """No traceback, a status of the page, and for status 2 the tool's line, with no other behind it: what belongs
+        to it is indented, and a name may have a newline in it."""
         for sign in ("Traceback", "internal error", "Exception ignored"):
             self.assertFalse(sign in end.out + end.error, (what, end.error[-400:]))
         self.assertIn(end.status, (0, 1, 2), (what, end.error[-400:]))

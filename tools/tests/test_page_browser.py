@@ -153,8 +153,8 @@ class InBrowser(Served):
         self.browser.wait(f"ngc.state.program.lines === {count} && ngc.job && !ngc.state.busy")
 
     def look(self, what: str) -> None:
-        """In each size, dark and light, all is in the window, large enough, whole, and has contrast; no step after a loss
-        of power scrolls."""
+        """In each size, dark and light, all is in the window, large enough, whole, and has contrast; no step after a
+        loss of power scrolls."""
         for width, height in SIZES:
             self.browser.size(width, height)
             self.assertEqual(self.browser.js(SIGHT), [], (what, width))

@@ -38,8 +38,8 @@ function verdict({ refusals, warnings, more, unreadable }) {
   if (unreadable) return sheet.warning(unreadable, 'bad');
   if (refusals.length) {
     const count = new Set(refusals.map(one => one.line)).size; // a line may have several faults
-    return sheet.warning(`${counted(count, 'line')} refused${more ? ', and more' : ''}. A refused line stops the program `
-      + 'there. Mend these, and load it again.', 'bad');
+    return sheet.warning(`${counted(count, 'line')} refused${more ? ', and more' : ''}. A refused line stops the `
+      + 'program there. Mend these, and load it again.', 'bad');
   }
   if (!warnings.length) return sheet.warning('No line is refused, and there are no warnings.', 'fine');
   return sheet.warning(`No line is refused. ${counted(warnings.length, 'warning')}: what is valid may be meant `
