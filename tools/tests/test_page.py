@@ -41,6 +41,19 @@ traverse_nm_per_min = 60000000000
 period_us = 50
 tools_nm = [50000000, 62500000, 0]
 """
+INTERRUPTED = """import sys
+import threading
+sys.path.insert(0, sys.argv.pop(1))
+from ngc_tools.cli.page import main
+start = threading.Thread.start
+def interrupted(thread):
+    start(thread)
+    if thread.name == "session":
+        raise KeyboardInterrupt
+threading.Thread.start = interrupted
+sys.exit(main())
+"""
+"""`ngc-page`, to which Ctrl-C comes as the session's thread has started."""
 
 
 class Who(Served):
@@ -806,6 +819,19 @@ class Asides(InFolder):
         pids = Path("pids").read_text().split()
         asking.kill()
         self.wait_for("both are gone", lambda: not any(map(is_alive, pids)))
+
+
+class Interrupted(InFolder):
+    """Ctrl-C at a moment that no signal of a test would meet."""
+
+    def test_as_it_starts(self) -> None:
+        """It comes right as the session's thread has started: that thread ends, and so does the process."""
+        self.device()
+        Path("out").touch()
+        words = ("mill.dev", "first.toml", "out", "--listen", "127.0.0.1:0", "--ngc", ngc())
+        done = subprocess.run([sys.executable, "-c", INTERRUPTED, TOOLS, *words], stdin=subprocess.DEVNULL,
+                              capture_output=True, text=True, timeout=PATIENCE_S)
+        self.assertEqual((done.returncode, done.stdout, done.stderr), (2, "", "ngc-page: stopped\n"))
 
 
 class Words(InFolder):

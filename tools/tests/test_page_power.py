@@ -248,6 +248,7 @@ class Moments(InFolder):
         session = PageSession(Opener(ngc(), make_parser().parse_args(words)), PageFace())
         self.addCleanup(session.leave)
         self.addCleanup(session.operator.console.kill)
+        session.start()
         return session
 
     def lose_power(self, lost_at: int) -> None:

@@ -95,7 +95,8 @@ class PageSession:
     says why `ngc` has ended, if it has; `over` is set once nothing follows."""
 
     def __init__(self, opens: Opens, face: PageFace, machine: str = "") -> None:
-        """Begins it. `machine` is the machine's file, nothing for none. Raises what `opens` raises."""
+        """Begins it; nothing is done before `start`. `machine` is the machine's file, nothing for none. Raises what
+        `opens` raises."""
         self._opens, self.face, self.machine = opens, face, machine
         self.aside, self.jogs = Aside(), HeldJog()
         self.over = threading.Event()
@@ -111,8 +112,12 @@ class PageSession:
         self._restarts = threading.Lock()
         self._begin()
 
+    def start(self) -> None:
+        """Starts its thread, which does what is given. Whoever starts it calls `leave`, whatever comes."""
+        self._thread.start()
+
     def _begin(self) -> None:
-        """Begins a session of `ngc run`, and its thread."""
+        """Begins a session of `ngc run`."""
         self.opened = self._opens(self.face)
         try:
             self._begin_over(self.opened.operator)
@@ -121,7 +126,6 @@ class PageSession:
             raise
         self.ended = ""
         self._thread = threading.Thread(target=self._work, name="session")
-        self._thread.start()
 
     def _begin_over(self, operator: Operator) -> None:
         """Says and sees how all stands at first."""
@@ -282,6 +286,7 @@ class PageSession:
             if self.ended:
                 self.opened.close()
                 self._begin()
+                self.start()
         self.face.publish()
 
     def quit(self) -> None:
@@ -299,7 +304,8 @@ class PageSession:
         self.face.leave()
         with self._wake:
             self._wake.notify_all()
-        self._thread.join(_LEAVE_S)
+        if self._thread.is_alive():  # it may not have been started
+            self._thread.join(_LEAVE_S)
         self.aside.close()
         return not self._thread.is_alive() and not self.face.is_stuck
 
@@ -433,8 +439,8 @@ class PageSession:
 
 
 def _most_percents(path: str, settings: Settings) -> tuple[int, int]:
-    """The most that the overrides of the feed and of the spindle may be by a machine's file; 100 where none is given, or
-    it is wrong: the player says why."""
+    """The most that the overrides of the feed and of the spindle may be by a machine's file; 100 where none is given,
+    or it is wrong: the player says why."""
     if not path:
         return WHOLE, WHOLE
     try:
