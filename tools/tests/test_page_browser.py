@@ -418,7 +418,7 @@ class Power(InBrowser):
         browser.wait(f"ngc.state?.session && ngc.state.session !== '{before}'")
         browser.wait("document.querySelector('#over .facts')?.textContent.includes('It begins at')")
         self.look("what was stored")
-        browser.press("Next", "#over button")
+        self.press_amid_news("Next")
         self.assertTrue(browser.js("document.querySelector('#over .foot .go').disabled"))
         self.assertIn("they make at most", browser.js("document.querySelector('#over .words').textContent"))
         for _ in range(3):
@@ -428,13 +428,21 @@ class Power(InBrowser):
         browser.wait("document.querySelector('#over details')")
         self.assertIn("Back through what was cut", browser.js("document.querySelector('#over h2').textContent"))
         self.look("a rehearsal")
-        browser.press("Next", "#over button")
+        self.press_amid_news("Next")
         self.look("the choice")
         browser.press("Go along the path", "#over button")
         self.agree_to_all()
         browser.wait("ngc.state.does === 'running' && ngc.state.motors[0] > 0.02 && ngc.state.spindle === 1")
         self.assertFalse(browser.js("document.getElementById('over').checkVisibility()"))
         self.no_complaints()
+
+    def press_amid_news(self, says: str) -> None:
+        """Touches a button; while the finger is on it the path is drawn anew, of which the sheet tells."""
+        x, y = self.browser.place(says, "#over button")
+        self.browser.down(x, y)
+        self.browser.js("ngc.job = ngc.jobId = null")
+        self.browser.wait("ngc.job")
+        self.browser.up(x, y)
 
     def agree_to_all(self) -> None:
         """Answers each question by a yes, up to the one before which one has to look."""
