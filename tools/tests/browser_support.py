@@ -25,6 +25,10 @@ _POINT = """(() => {
     return [box.x + box.width / 2, box.y + box.height / 2];
 })()"""
 
+LONG = """Math.max(0, ...[...document.querySelectorAll('#over:has(.steps) .words:not(:has(.warn))')]
+    .map(one => one.scrollHeight - one.clientHeight))"""
+"""By how much a step after a loss of power is longer than its sheet, and scrolls, if nothing is warned of there."""
+
 
 def chromium() -> str | None:
     """The path of Chromium, or None where it isn't installed."""

@@ -10,6 +10,7 @@ from pathlib import Path
 
 from session_support import PATIENCE_S, InFolder, ngc
 
+from ngc_tools.formats.record import Record
 from ngc_tools.player.progress import Link
 
 PAGE, OTHER = "page-number-1", "page-number-2"
@@ -171,13 +172,24 @@ class Served(InFolder):
 
     def cuts(self, page: Page, line: int = 3) -> dict:
         """The state once a program is started, and the motors cut in line 3 of SLOW, or in line 5 of CUT: `ngc` is some
-        lines ahead of them."""
+        lines ahead of them. The record on the disk has them there too: it may be some pulses older than the motors, and
+        after a loss of power it alone tells where they are."""
+        def is_cutting(x_mm: float, z_mm: float) -> bool:
+            return x_mm > 0 if line == 3 else z_mm < 0
+
         def cut(state: dict) -> bool:
             x, _, z = map(float, state["motors"])
-            return state["line"] == line and state["half"] == "program" and (x > 0 if line == 3 else z < 0)
+            return state["line"] == line and state["half"] == "program" and is_cutting(x, z)
 
         self.assertEqual(page.post("run"), (200, {}))
-        return page.until("it cuts", cut)
+        state = page.until("it cuts", cut)
+        self.wait_for("the record has it", lambda: is_cutting(*self.recorded().at_nm[::2]))
+        return state
+
+    @staticmethod
+    def recorded() -> Record:
+        """The player's record, as it is on the disk."""
+        return Record.of_text(Path("position").read_bytes(), "position")
 
     def pull(self) -> None:
         """Power is lost."""

@@ -385,7 +385,7 @@ def pull(options: Options, moments: int, seed: int, blocks: int = 40, seconds: f
     with tempfile.TemporaryDirectory(prefix="ngc-file-", dir=base) as name:
         folder = Path(name)
         (folder / "settings.toml").write_text(FIRST)
-        uncut = run_uncut(options.ngc, folder, program(blocks))
+        uncut = run_uncut(options.ngc, FIRST, program(blocks))
         while result.goes_on(moments):
             Job(folder, uncut, options, chance, result).run(moments)
     return result

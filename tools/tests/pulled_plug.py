@@ -23,11 +23,12 @@ import threading
 import time
 import tomllib
 from dataclasses import dataclass, field
+from functools import cache, cached_property
 from pathlib import Path
 
 sys.path.insert(0, str(Path(__file__).resolve().parent))
 
-from session_support import FIRST  # noqa: E402
+from session_support import FIRST, memory  # noqa: E402
 
 from ngc_tools.ngc.console import Console, Ended, Status  # noqa: E402
 from ngc_tools.operator.meter import LIMITS, Meter  # noqa: E402
@@ -71,9 +72,18 @@ class Uncut:
     segments: dict[tuple[int, int], int]
     places: dict[int, int]
 
+    @cached_property
+    def points(self) -> list[tuple[int, ...]]:
+        """Where the machine stands before each line, and at the end, in steps."""
+        position, found = Position(STEP_NM), [(0, 0, 0)]
+        for number, line in enumerate(self.lines, 1):
+            position.take(read_line(line, number))
+            found.append(tuple(position.steps))
+        return found
+
     def at(self, index: int) -> tuple[int, ...]:
         """Where the machine stands before a line, in steps."""
-        return steps_after(self.lines[:index])
+        return self.points[index]
 
 
 def steps_after(lines: list[bytes], start: tuple[int, ...] = (0, 0, 0)) -> tuple[int, ...]:
@@ -83,11 +93,18 @@ def steps_after(lines: list[bytes], start: tuple[int, ...] = (0, 0, 0)) -> tuple
     return tuple(position.take_all(read_line(line, number) for number, line in enumerate(lines, 1)).steps)
 
 
-def run_uncut(ngc: str, folder: Path, text: bytes) -> Uncut:
-    """Runs it a tick at a time into a file."""
-    device, out = folder / "uncut.dev", folder / "uncut.out"
-    subprocess.run([ngc, "format", device], check=True)
-    console = Console(ngc, device, folder / "settings.toml", out)
+@cache
+def run_uncut(ngc: str, settings: str, text: bytes) -> Uncut:
+    """Runs it a tick at a time into a file, by the text of such settings."""
+    with tempfile.TemporaryDirectory(prefix="ngc-uncut-", dir=memory()) as name:
+        device, out = Path(name, "device"), Path(name, "out")
+        Path(name, "settings.toml").write_text(settings)
+        subprocess.run([ngc, "format", device], check=True)
+        return _by_ticks(Console(ngc, device, Path(name, "settings.toml"), out), out, text)
+
+
+def _by_ticks(console: Console, out: Path, text: bytes) -> Uncut:
+    """Has a console run it so."""
     console.load(text)
     console.ask("start")
     segments: dict[tuple[int, int], int] = {}
@@ -389,7 +406,7 @@ def pull(options: Options, moments: int, seed: int, text: bytes = program(80)) -
     with tempfile.TemporaryDirectory(prefix="ngc-plug-", dir=base) as name:
         folder = Path(name)
         (folder / "settings.toml").write_text(options.settings)
-        uncut = run_uncut(options.ngc, folder, text)
+        uncut = run_uncut(options.ngc, options.settings, text)
         while len(result.lost) < moments:
             for path in ("job.dev", "record"):
                 (folder / path).unlink(missing_ok=True)

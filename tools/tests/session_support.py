@@ -160,19 +160,18 @@ class Terminal:
                 return self.read_to(b"never")
         raise AssertionError(f"it doesn't end by signal {number}")
 
-    def send_to_end(self, key: bytes) -> bytes:
-        """Presses a key again and again until the program ends; returns what is shown meanwhile."""
-        got, until = b"", time.monotonic() + PATIENCE_S
+    def send_to_end(self, key: bytes, times: int) -> bytes:
+        """Presses a key so many times, and once more where the program doesn't end for three seconds after that, as two
+        signals that come at once are one; returns what is shown meanwhile."""
+        got, until, pressed = b"", time.monotonic() + PATIENCE_S, 0
         while time.monotonic() < until:
             try:
                 os.write(self.file, key)
-            except OSError:
-                return got + self.read_to(b"never")
-            while select.select([self.file], [], [], 0.3)[0]:
-                try:
+                pressed += 1
+                while select.select([self.file], [], [], 0.3 if pressed < times else 3)[0]:
                     got += os.read(self.file, 4096)
-                except OSError:
-                    return got
+            except OSError:
+                return got
         raise AssertionError(f"it doesn't end: {got!r}")
 
     def status(self) -> int:

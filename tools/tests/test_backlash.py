@@ -259,8 +259,8 @@ class Same(InC, PlayerTest):
         self.assertEqual(path(steps(Path("c").read_text()), Screws(backlash)), told(Path("out").read_text()), name)
 
     def test_examples(self) -> None:
-        """All examples, with steps of 50 um."""
-        Path("first.toml").write_text(COARSE)
+        """All examples, with steps of 100 um."""
+        Path("first.toml").write_text(COARSE.replace("50000, 50000, 50000", "100000, 100000, 100000"))
         Path("motion.toml").write_text("[motion]\naccel_mm_s2 = [500, 500, 500]\n[backlash]\nsteps = [2, 1, 3]\n")
         for example in EXAMPLES:
             self.hand_out(example.read_text())
@@ -411,7 +411,7 @@ class OverSink(InC, PlayerTest):
         child.communicate(timeout=PATIENCE_S)
         sink.tell("tempo 0")
         self.assertRegex(self.play_over(), "^(out: the sink made [0-9]+ lines after the record of a player that was"
-                                           " killed: they are counted\n)?$")
+                                           " killed: they are counted\n)?(the sink ran dry [^\n]+\n)?$")
         screws = Screws()
         path(self.made(sink), screws)
         self.assertEqual(record().splitlines()[0], "lines 6000")

@@ -2,6 +2,7 @@
 import sys
 import unittest
 from pathlib import Path
+from unittest.mock import patch
 
 sys.path.insert(0, str(Path(__file__).resolve().parent))
 
@@ -10,6 +11,9 @@ from session_support import InFolder, ngc  # noqa: E402
 from ngc_tools.ngc.console import Console, Ended, Status  # noqa: E402
 from ngc_tools.operator.meter import Meter  # noqa: E402
 from ngc_tools.player.progress import Report  # noqa: E402
+
+
+RECEIVED = 10_000
 
 
 class Consoles(InFolder):
@@ -67,7 +71,7 @@ class Consoles(InFolder):
 
 
 class FakeLink:
-    """A player that says what a test has it say."""
+    """A player that says what a test has it say, once RECEIVED lines are handed out."""
 
     def __init__(self, *behind: int, wants: int = 0, held: int = 0) -> None:
         self.behind, self.wants, self.held = list(behind), wants, held
@@ -77,8 +81,8 @@ class FakeLink:
         """The next of its reports, the last of them for ever; of the first `held` it says that it is held."""
         self.held -= 1
         behind = self.behind.pop(0) if len(self.behind) > 1 else self.behind[0]
-        return Report(1000, 1000 + behind, False, "0.000000 0.000000 0.000000", "/axis", is_held=self.held >= 0,
-                      wants=self.wants)
+        return Report(RECEIVED - behind, RECEIVED, False, "0.000000 0.000000 0.000000", "/axis",
+                      is_held=self.held >= 0, wants=self.wants)
 
     def last(self) -> None:
         """Nothing more comes for now."""
@@ -108,6 +112,15 @@ class Meters(unittest.TestCase):
         self.assertEqual(Meter(FakeLink(280, wants=1669), 300).room(), 20)
         self.assertEqual(Meter(FakeLink(7501, 7500, wants=9000)).room(), 200)  # 8,000 at most: 500 of them are free
         self.assertEqual(Meter(FakeLink(0), 150).room(), 150)
+
+    def test_apart(self) -> None:
+        """It asks each half of a millisecond while lines are carried out, and less often while one lasts, or motors
+        stand: 2 ms apart at most, less than 94 lines of 50 us last."""
+        for behind, apart_ms in (((99, 98, 97, 96, 95, 94), [0.5] * 5),
+                                 ((99, 99, 99, 99, 99, 95, 95, 94), [0.5, 1, 2, 2, 2, 0.5, 1])):
+            with patch("ngc_tools.operator.meter.time.sleep") as sleep:
+                Meter(FakeLink(*behind)).room()
+            self.assertEqual([1000 * call.args[0] for call in sleep.call_args_list], apart_ms)
 
     def test_drained(self) -> None:
         """It says that nothing more comes for now, once, and waits until nothing is left, or somebody says no."""

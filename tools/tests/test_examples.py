@@ -18,7 +18,7 @@ from ngc_tools.cli.split import main as split  # noqa: E402
 
 EXAMPLES = TOOLS.parent / "examples"
 NAMES = sorted(path.stem for path in EXAMPLES.glob("*.ngc"))
-STEP_NM = (50_000, 50_000, 50_000)  # so that there are few pulses
+STEP_NM = (100_000, 100_000, 100_000)  # so that there are few pulses
 COARSE = (FIRST.replace("[1000, 1000, 1000]", str(list(STEP_NM))).replace("period_us = 50\n", "period_us = 1\n")
           .replace("[50000000]", "[50000000, 62500000, 0]"))
 HOME, TURN = "relies on", "a full turn of radius"

@@ -189,13 +189,14 @@ class Odd(InFolder):
         return Ended(status, *(Path(path).read_text(errors="replace") for path in ("tool.out", "tool.err")))
 
     def check_end(self, name: str, end: Ended, what: object) -> None:
-        """No traceback, a status of the page, and a line with the tool's name for status 2."""
+        """No traceback, a status of the page, and for status 2 the tool's line, with no other behind it: what belongs
+        to it is indented, and a name may have a newline in it."""
         for sign in ("Traceback", "internal error", "Exception ignored"):
             self.assertFalse(sign in end.out + end.error, (what, end.error[-400:]))
         self.assertIn(end.status, (0, 1, 2), (what, end.error[-400:]))
         if end.status == 2:
-            says = [line for line in end.error.splitlines() if line.startswith((f"{name}: ", "usage: "))]
-            self.assertTrue(says, (what, end.error[-400:]))
+            says = [line for line in end.error.replace("[2J\n", "[2J").splitlines() if line[:1] != " "]
+            self.assertTrue(says and says[-1].startswith(f"{name}: "), (what, end.error[-400:]))
 
     def test_closed_streams(self) -> None:
         """Each tool does its work with some of the streams closed, and what goes to the others is as ever."""
@@ -226,17 +227,22 @@ class Odd(InFolder):
         Path("part.ngc").write_bytes(TEXT.replace("M2\n", "G1 X1 F600\nX2\nX1\n" * 60 + "M2\n").encode())
         Path("part.txt").write_bytes(subprocess.run([ngc(), "dry", "part.ngc"], capture_output=True).stdout)
         self.run_ngc("load 16\nG0 X1\nG0 X2\nM2\n\nquit\n")
+        stops = "ngc-check", "ngc-page", "ngc-plot", "ngc-adapt", "ngc-split"
         for name, words in GOOD.items():
-            took, stopped = self._lasts(name, words), 0
-            for moment in range(10):
-                end = self.ended(name, *words, interrupted_s=took * moment / 10)
-                if end.status != -signal.SIGINT:  # its work was done, and it was about to end
-                    self.check_end(name, end, (name, moment))
-                self.assertFalse("Traceback" in end.error, (name, moment))
-                stopped += "stopped" in end.error
-            self.assertGreater(stopped, 0 if name in ("ngc-check", "ngc-page", "ngc-plot", "ngc-adapt", "ngc-split")
-                               else -1, name)
+            tries = 5 if name in stops else 1  # where others work too, what it took once tells little
+            self.assertTrue(any(self._interrupted(name, words) for _ in range(tries)) or name not in stops, name)
         self.assertEqual([path for path in self.folders() if os.path.exists(path)] + os.listdir("tmp"), [])
+
+    def _interrupted(self, name: str, words: tuple[str, ...]) -> int:
+        """How often a tool was stopped, of ten moments."""
+        took, stopped = self._lasts(name, words), 0
+        for moment in range(10):
+            end = self.ended(name, *words, interrupted_s=took * moment / 10)
+            if end.status != -signal.SIGINT:  # its work was done, and it was about to end
+                self.check_end(name, end, (name, moment))
+            self.assertFalse("Traceback" in end.error, (name, moment))
+            stopped += "stopped" in end.error
+        return stopped
 
     def _lasts(self, name: str, words: tuple[str, ...]) -> float:
         """How long a tool takes."""
@@ -267,7 +273,7 @@ class Odd(InFolder):
                 "binary": bytes(range(256)) * 40, "cr.ngc": TEXT.replace("\n", "\r").encode(), "utf16.ngc": utf16,
                 "utf16le.ngc": utf16[2:], "cut.ngc": utf16[:-1], "latin.ngc": TEXT.encode("latin-1"),
                 "escapes.ngc": b"G0 \x1b[2JX1 ; \x1b]0;x\x07\nM2\n", "zeros": bytes(875_520),
-                "large": b"\xff" * 3_000_000,
+                "large": b"\xff" * 1_100_000,
                 "line": b"G1 X1 " * 10_000, "long.toml": b"a." * 50_000 + b"b = 1\n",
                 "deep.toml": b"period_us = " + b"[" * 5000, "digits": b"period_us = " + b"9" * 5000 + b"\n",
                 "part": b"P 1 0 0 50\nP 1 0", "name\x1b[2J\n": b"G0 X1\n", "surrogate\udcff": b"G0 X1\n",

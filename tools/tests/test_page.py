@@ -6,6 +6,7 @@ import signal
 import socket
 import subprocess
 import sys
+import threading
 import time
 import unittest
 from collections.abc import Callable
@@ -40,6 +41,19 @@ traverse_nm_per_min = 60000000000
 period_us = 50
 tools_nm = [50000000, 62500000, 0]
 """
+INTERRUPTED = """import sys
+import threading
+sys.path.insert(0, sys.argv.pop(1))
+from ngc_tools.cli.page import main
+start = threading.Thread.start
+def interrupted(thread):
+    start(thread)
+    if thread.name == "session":
+        raise KeyboardInterrupt
+threading.Thread.start = interrupted
+sys.exit(main())
+"""
+"""`ngc-page`, to which Ctrl-C comes as the session's thread has started."""
 
 
 class Who(Served):
@@ -202,18 +216,19 @@ class Work(Served):
     def test_tool(self) -> None:
         """While a tool is wanted what is in force is that of the tool before, though `ngc` is some lines ahead."""
         page = self.page()
-        for slot, length in ((1, "50"), (2, "62.5")):
+        for slot, length in ((1, "0.5"), (2, "0.625")):
             self.assertEqual(page.post("tool", {"slot": slot, "length": length}), (200, {}))
-        self.load(page, "G17 G21 G90 G94\nT1 M6\nG43 H1\nG0 Z1\nT2 M6\nG43 H2\nG0 Z1.05\nM0\nM2\n")
+        self.load(page, "G17 G21 G90 G94\nT1 M6\nG43 H1\nG0 Z0.1\nT2 M6\nG43 H2\nG0 Z0.15\nM0\nM2\n")
         page.until("it is drawn", lambda state: page.job())
         self.assertEqual(page.post("run"), (200, {}))
-        for line, length, z, tool in ((2, "0.000000", "0.000000", 1), (5, "50.000000", "1.000000", 2)):
+        for line, length, z, tool in ((2, "0.000000", "0.000000", 1), (5, "0.500000", "0.100000", 2)):
             state = page.until("it waits", lambda state, tool=tool: state["waits"] and state["waits_tool"] == tool and
                                state["half"] == "program")
             self.assertEqual((state["line"], state["tool_length"], state["work"][2]), (line, length, z))
             self.assertEqual(page.post("go"), (200, {}))
-        state = page.until("it stopped", lambda state: state["does"] == "stopped" and not state["busy"])
-        self.assertEqual((state["tool_length"], state["work"][2]), ("62.500000", "1.050000"))
+        state = page.until("it stopped", lambda state: state["does"] == "stopped" and not state["busy"]
+                           and not state["behind"])
+        self.assertEqual((state["tool_length"], state["work"][2]), ("0.625000", "0.150000"))
 
     def test_hold(self) -> None:
         """Hold is heeded within a line; what is asked meanwhile is refused; it goes on."""
@@ -721,6 +736,28 @@ class Given(unittest.TestCase):
         session._do(SessionCommand("reference", lambda: done.append("reference"), 0, 0))
         self.assertEqual((done, session.face.asides()), (["reference", "percent 50"], []))
 
+    def test_late(self) -> None:
+        """What is given once a command is through, while the session looks how all stands, is done then, before the
+        next one."""
+        session, done = PageSession.__new__(PageSession), []
+        session.face, session.stand = PageFace(), SimpleNamespace(status=None)
+        session.operator = SimpleNamespace(do=done.append, over=False)
+        session.ended, session.over, session._wake = "", threading.Event(), threading.Condition()
+        session.under = session._next = None
+
+        def look() -> None:
+            """Something is given, and then the next command."""
+            if done == ["reference"]:
+                session.tell("single on")
+                session._next = SessionCommand("run", lambda: done.append("run"), 0, 0)
+            elif "run" in done:
+                session.over.set()
+
+        session._look, session._see_end, session._look_at_way = look, lambda *_: None, lambda _: None
+        session.give("reference", lambda: done.append("reference"))
+        session._work()
+        self.assertEqual(done, ["reference", "single on", "run"])
+
 
 class HeldJogs(unittest.TestCase):
     """The wish to jog, as pages repeat it."""
@@ -782,6 +819,19 @@ class Asides(InFolder):
         pids = Path("pids").read_text().split()
         asking.kill()
         self.wait_for("both are gone", lambda: not any(map(is_alive, pids)))
+
+
+class Interrupted(InFolder):
+    """Ctrl-C at a moment that no signal of a test would meet."""
+
+    def test_as_it_starts(self) -> None:
+        """It comes right as the session's thread has started: that thread ends, and so does the process."""
+        self.device()
+        Path("out").touch()
+        words = ("mill.dev", "first.toml", "out", "--listen", "127.0.0.1:0", "--ngc", ngc())
+        done = subprocess.run([sys.executable, "-c", INTERRUPTED, TOOLS, *words], stdin=subprocess.DEVNULL,
+                              capture_output=True, text=True, timeout=PATIENCE_S)
+        self.assertEqual((done.returncode, done.stdout, done.stderr), (2, "", "ngc-page: stopped\n"))
 
 
 class Words(InFolder):

@@ -12,7 +12,7 @@ from statistics import median
 
 sys.path.insert(0, str(Path(__file__).resolve().parent))
 
-from browser_support import Browser  # noqa: E402
+from browser_support import LONG, Browser  # noqa: E402
 from firefox_support import IS_FIREFOX, MISSING, PATH, start  # noqa: E402
 from machine_support import SocketMachine  # noqa: E402
 from page_support import OTHER, SHORT, SLOW, Page, Served  # noqa: E402
@@ -153,12 +153,14 @@ class InBrowser(Served):
         self.browser.wait(f"ngc.state.program.lines === {count} && ngc.job && !ngc.state.busy")
 
     def look(self, what: str) -> None:
-        """In each size, dark and light, all is in the window, large enough, whole, and has contrast."""
+        """In each size, dark and light, all is in the window, large enough, whole, and has contrast; no step after a
+        loss of power scrolls."""
         for width, height in SIZES:
             self.browser.size(width, height)
             self.assertEqual(self.browser.js(SIGHT), [], (what, width))
             self.assertEqual(self.browser.js(CUT), [], (what, width))
             self.assertLessEqual(self.browser.js(LOW), 0, (what, width))
+            self.assertLessEqual(self.browser.js(LONG), 0, (what, width))
         for _ in range(2):
             self.assertEqual(self.browser.js(CONTRAST), [], what)
             self.browser.js("document.getElementById('theme').click()")
@@ -207,8 +209,11 @@ class Looks(InBrowser):
             self.assertEqual(browser.js(FAR), [], size)
             digits = browser.js("parseFloat(getComputedStyle(document.querySelector('.axis output')).fontSize)")
             self.assertGreater(digits, 36, size)
-        self.choose("G1 X1 Q2 F10\nM0\nX1\n" + "(a very long comment without an end)" * 6 + "\n")
+        self.choose("G1 X1 Q2 F10 G41\nM0\nX1\n" + "(a very long comment without an end)" * 6 + "\n")
         self.look("findings")
+        count, says = browser.js("""[document.querySelectorAll('#over .finding').length,
+            document.querySelector('#over .warn').textContent]""")
+        self.assertEqual((count, says.partition(".")[0]), (3, "2 lines refused"))  # its first line has two faults
         browser.press("Load it all the same", "#over button")
         browser.wait("ngc.state.question && document.querySelector('#over .asked')")
         self.look("a question")
@@ -413,7 +418,7 @@ class Power(InBrowser):
         browser.wait(f"ngc.state?.session && ngc.state.session !== '{before}'")
         browser.wait("document.querySelector('#over .facts')?.textContent.includes('It begins at')")
         self.look("what was stored")
-        browser.press("Next", "#over button")
+        self.press_amid_news("Next")
         self.assertTrue(browser.js("document.querySelector('#over .foot .go').disabled"))
         self.assertIn("they make at most", browser.js("document.querySelector('#over .words').textContent"))
         for _ in range(3):
@@ -423,13 +428,21 @@ class Power(InBrowser):
         browser.wait("document.querySelector('#over details')")
         self.assertIn("Back through what was cut", browser.js("document.querySelector('#over h2').textContent"))
         self.look("a rehearsal")
-        browser.press("Next", "#over button")
+        self.press_amid_news("Next")
         self.look("the choice")
         browser.press("Go along the path", "#over button")
         self.agree_to_all()
         browser.wait("ngc.state.does === 'running' && ngc.state.motors[0] > 0.02 && ngc.state.spindle === 1")
         self.assertFalse(browser.js("document.getElementById('over').checkVisibility()"))
         self.no_complaints()
+
+    def press_amid_news(self, says: str) -> None:
+        """Touches a button; while the finger is on it the path is drawn anew, of which the sheet tells."""
+        x, y = self.browser.place(says, "#over button")
+        self.browser.down(x, y)
+        self.browser.js("ngc.job = ngc.jobId = null")
+        self.browser.wait("ngc.job")
+        self.browser.up(x, y)
 
     def agree_to_all(self) -> None:
         """Answers each question by a yes, up to the one before which one has to look."""

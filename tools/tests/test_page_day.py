@@ -5,12 +5,13 @@ import re
 import subprocess
 import sys
 import unittest
+from collections.abc import Callable
 from functools import reduce
 from pathlib import Path
 
 sys.path.insert(0, str(Path(__file__).resolve().parent))
 
-from browser_support import Browser  # noqa: E402
+from browser_support import LONG, Browser  # noqa: E402
 from firefox_support import MISSING, PATH, start  # noqa: E402
 from page_support import OTHER, Served  # noqa: E402
 from session_support import PATIENCE_S, TOOLS, ngc  # noqa: E402
@@ -342,8 +343,9 @@ class Loss(Walk):
     def along(self) -> None:
         """Along the path, to the end."""
         self.stored()
+        self.fits("stored")
         self.done.append("Stored")
-        self.confirmed()
+        self.confirmed(self.fits)
         self.done += ["Where it stands", "Rehearsal"]
         self.press("Go along the path", "#over button")
         self.agrees()
@@ -353,6 +355,12 @@ class Loss(Walk):
     def stored(self) -> None:
         """Step 1 says what was stored."""
         self.browser.wait("document.querySelector('#over .facts')?.textContent.includes('It begins at')")
+
+    def fits(self, step: str) -> None:
+        """A step is shown whole, in a small window too."""
+        for size in ((1024, 768), (1280, 800)):
+            self.browser.size(*size)
+            self.assertLessEqual(self.browser.js(LONG), 0, (step, size))
 
     def gives_up(self) -> None:
         """The session ends within a line, and begins again: the line counts as not begun."""
@@ -367,14 +375,17 @@ class Loss(Walk):
         self.browser.press("Yes, give it up", "#over button")
         self.rests("s.half === 'none' && s.line === 5 && !s.spindle")
 
-    def confirmed(self) -> None:
-        """From step 1 to step 4: each axis is confirmed."""
+    def confirmed(self, looks: Callable[[str], None] = lambda _: None) -> None:
+        """From step 1 to step 4: each axis is confirmed. `looks` is told of each step."""
         self.browser.press("Next", "#over button")
         for _ in "XYZ":
             self.browser.press("Confirm", "#over button")
+        looks("where it stands")
         self.browser.press("Next", "#over button")
         self.browser.wait("document.querySelector('#over details')")
+        looks("the rehearsal")
         self.browser.press("Next", "#over button")
+        looks("the choice")
 
     def agrees(self) -> None:
         """Answers what is asked: a height where it is one; once the outputs are on what was seen is ticked. Nothing

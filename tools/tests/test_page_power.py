@@ -1,6 +1,7 @@
 """The page after a loss of power: what was never cut, and the steps back to the job, at many moments of it."""
 import json
 import os
+import subprocess
 import sys
 import unittest
 from collections.abc import Callable
@@ -10,7 +11,8 @@ from unittest.mock import patch
 sys.path.insert(0, str(Path(__file__).resolve().parent))
 
 from page_support import SHORT, Page, Served  # noqa: E402
-from session_support import InFolder, ngc  # noqa: E402
+from player_support import built  # noqa: E402
+from session_support import TOOLS, InFolder, ngc  # noqa: E402
 
 from ngc_tools.cli.page import Opener, make_parser  # noqa: E402
 from ngc_tools.failure import Failure  # noqa: E402
@@ -29,8 +31,8 @@ from ngc_tools.player.progress import Report  # noqa: E402
 
 BACK = "G21 G90 G94\nG1 X0.01 F60\nX0\nX0.02\nM2\n"
 """Ten pulses on, ten back, and twenty on."""
-JOB = "G17 G21 G90 G94\nM3 S100\nG0 X1\nG1 Z-1 F600\nX3\nG2 X1 Y2 I-2 F900\nG1 X0 Y0\nM2\n"
-"""18,000 pulses or so: a traverse, a plunge, lines, an arc."""
+JOB = "G17 G21 G90 G94\nM3 S100\nG0 X0.4\nG1 Z-0.4 F600\nX1.2\nG2 X0.4 Y0.8 I-0.8 F900\nG1 X0 Y0\nM2\n"
+"""7,200 pulses: a traverse, a plunge, lines, an arc."""
 
 
 class Found(InFolder):
@@ -201,7 +203,8 @@ class Here(Aside):
 
 
 class Moments(InFolder):
-    """Power is lost at moments of one job, so many as NGC_PAGE_MOMENTS says, and the four steps lead to its end."""
+    """Power is lost at moments of one job, so many as NGC_PAGE_MOMENTS says, and the four steps lead to its end. Each
+    fourth time the player is ngc-player, else tools/player."""
 
     def setUp(self) -> None:
         """The device with the job, and what OUT is to hold in the end: that of a run that nothing disturbs."""
@@ -220,6 +223,7 @@ class Moments(InFolder):
         halves = 0
         for number in range(count):
             lost_at = len(self.pulses) * (2 * number + 1) // (2 * count)
+            self.command = [sys.executable, str(TOOLS / "ngc-player")] if number % 4 == 0 else [built("-O2")]
             self.begin_anew()
             self.lose_power(lost_at)
             halves += self.go_back()
@@ -234,13 +238,17 @@ class Moments(InFolder):
 
     def session(self) -> PageSession:
         """A player, and a session of a page."""
-        self.player = self.start("ngc-player", "out", "first.toml", "position", "--progress", "progress", "--follow",
-                                 "--untimed")
+        words = ["--progress", "progress", "--follow", "--untimed", "out", "first.toml", "position"]
+        self.player = subprocess.Popen([*self.command, *words], stdin=subprocess.DEVNULL, stdout=subprocess.DEVNULL,
+                                       stderr=subprocess.DEVNULL)
+        self.addCleanup(self.player.wait)
+        self.addCleanup(self.player.kill)
         self.wait_for("the player listens", lambda: os.path.exists("progress"))
         words = ["mill.dev", "first.toml", "out", "--player", "progress", "--ngc", ngc()]
         session = PageSession(Opener(ngc(), make_parser().parse_args(words)), PageFace())
         self.addCleanup(session.leave)
         self.addCleanup(session.operator.console.kill)
+        session.start()
         return session
 
     def lose_power(self, lost_at: int) -> None:
@@ -286,7 +294,7 @@ class Moments(InFolder):
         if not session.is_finished:
             session.run("run")
             self.agrees(session)
-        self.assertEqual(session.face.report.at, "0.000000 0.000000 -1.000000")
+        self.assertEqual(session.face.report.at, "0.000000 0.000000 -0.400000")
         session.quit()
         self.agrees(session)
         self.wait_for("it is over", session.over.is_set)

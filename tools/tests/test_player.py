@@ -416,7 +416,7 @@ class C(Playing, InC, PlayerTest):
         """It is built without a warning, by clang too where that is there."""
         built("-O2")
         if shutil.which("clang"):
-            built("-O2", compiler="clang")
+            built("-O0", compiler="clang")
 
     def test_its_own_words(self) -> None:
         """What it says of words that aren't its own."""
@@ -463,7 +463,7 @@ int pins_off(void) {
     return 0;
 }
 """)
-        program = built("-O0", pins=self.folder / "mine.c")
+        program = built("-O2", pins=self.folder / "mine.c")
         Path("out").write_text("S 1 5.000000 0 0 0 0\nP 1 0 0 50\n")
         words = ["-u", "out", "first.toml", "position"]
         done = subprocess.run([program, *words], capture_output=True, text=True)

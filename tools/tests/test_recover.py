@@ -322,8 +322,7 @@ class Finding(InFolder):
         Path("settings.toml").write_text(FIRST)
         chance = random.Random(5)
         for text, times in ((program(20), 6), (stairs(600), 2)):
-            Path("uncut.out").unlink(missing_ok=True)
-            uncut = run_uncut(ngc(), self.folder, text)
+            uncut = run_uncut(ngc(), FIRST, text)
             for _ in range(times):
                 self.try_one(uncut, chance)
 

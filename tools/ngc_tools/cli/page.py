@@ -89,6 +89,7 @@ def work(args: argparse.Namespace) -> int:
     with listening(host, port) as file:
         session = PageSession(Opener(ngc, args), PageFace(), args.machine or "")
         try:
+            session.start()
             serve(session, host, file, args.address)
         finally:
             status = ended(session)

@@ -9,6 +9,7 @@ LIMIT = 100  # lines, of a player that doesn't say how many it wants
 LIMITS = range(2, 8001)  # what a player can have in hand
 AT_ONCE = 200  # ticks: so many lines fit into the smallest pipe, so that no tick waits for the player
 _PARTS = 16  # of the lines in hand: more are given once one part is carried out
+_APART_S = 0.002  # between two questions at most: the lines in hand last longer, whatever their rate
 _HELD_S = 0.5  # a player that says for so long that it is held isn't about to go on
 
 
@@ -29,7 +30,7 @@ class Meter:
 
     def __init__(self, link: Link, most: int | None = None, look_s: float = 0.0005) -> None:
         """`most` is a bound in lines whatever the player wants; the player is asked each `look_s` seconds while it is
-        too far behind. Raises ValueError as `check_limit`."""
+        too far behind, and less often as long as it carries out no line. Raises ValueError as `check_limit`."""
         if most is not None:
             check_limit(most)
         self.link = link
@@ -50,6 +51,7 @@ class Meter:
     def room(self, go_on: Callable[[Report], bool] = always) -> int:
         """Waits until a sixteenth of the lines is carried out, and returns how many ticks may be given; 0 if `go_on`,
         which sees each report, says no. Raises NoAnswer if the player is gone."""
+        apart_s, carried = self.look_s, -1
         while True:
             report = self.link.ask()
             if not go_on(report):
@@ -61,7 +63,9 @@ class Meter:
             free = limit - report.behind
             if free >= max(1, limit // self.parts):
                 return min(free, self.at_once)
-            time.sleep(self.look_s)
+            apart_s = min(2 * apart_s, _APART_S) if report.carried == carried else self.look_s
+            carried = report.carried
+            time.sleep(apart_s)
 
     def drained(self, go_on: Callable[[Report], bool] = always) -> bool:
         """Tells the player that nothing more comes for now, and waits until it has carried out all that was handed out.

@@ -82,13 +82,21 @@ class SessionCommand:
     result: Any = None
     failed: Failure | OSError | None = None
 
+    def awaited(self, patience_s: float = 10.0) -> Any:
+        """Waits until it is done: its result. Raises what it failed by."""
+        self.done.wait(patience_s)
+        if self.failed:
+            raise self.failed
+        return self.result
+
 
 class PageSession:
     """All that pages may do. `name` is that of the program that was loaded last, `program_id` grows with each. `ended`
     says why `ngc` has ended, if it has; `over` is set once nothing follows."""
 
     def __init__(self, opens: Opens, face: PageFace, machine: str = "") -> None:
-        """Begins it. `machine` is the machine's file, nothing for none. Raises what `opens` raises."""
+        """Begins it; nothing is done before `start`. `machine` is the machine's file, nothing for none. Raises what
+        `opens` raises."""
         self._opens, self.face, self.machine = opens, face, machine
         self.aside, self.jogs = Aside(), HeldJog()
         self.over = threading.Event()
@@ -104,8 +112,12 @@ class PageSession:
         self._restarts = threading.Lock()
         self._begin()
 
+    def start(self) -> None:
+        """Starts its thread, which does what is given. Whoever starts it calls `leave`, whatever comes."""
+        self._thread.start()
+
     def _begin(self) -> None:
-        """Begins a session of `ngc run`, and its thread."""
+        """Begins a session of `ngc run`."""
         self.opened = self._opens(self.face)
         try:
             self._begin_over(self.opened.operator)
@@ -114,7 +126,6 @@ class PageSession:
             raise
         self.ended = ""
         self._thread = threading.Thread(target=self._work, name="session")
-        self._thread.start()
 
     def _begin_over(self, operator: Operator) -> None:
         """Says and sees how all stands at first."""
@@ -122,6 +133,7 @@ class PageSession:
         self.settings = Settings.read(console.settings)
         self.most_percents = _most_percents(self.machine, self.settings)
         self.face.begin(self.face.holds)
+        self.face.asides()  # none of the last session counts
         operator.begin(self.opened.bound, self.opened.found)
         self.operator, self.ident = operator, secrets.token_hex(8)  # a page that saw another one begins anew
         self.stand, self.kept = Stand(console.status()), Kept(console.device)
@@ -167,17 +179,16 @@ class PageSession:
                 raise Busy(self.ended or "the session is over")
             if self.is_busy:
                 raise Busy("something runs: hold first")
-            command = self._next = SessionCommand(word, does, self.face.holds, self.face.last_id())
+            command = self._next = self._command(word, does)
             self._wake.notify_all()
         return command
 
+    def _command(self, word: str, does: Callable[[], Any]) -> SessionCommand:
+        return SessionCommand(word, does, self.face.holds, self.face.last_id())
+
     def ask(self, word: str, does: Callable[[], Any], patience_s: float = 10.0) -> Any:
         """Gives it something to do, and waits for the result. Raises Busy, and what it failed by."""
-        command = self.give(word, does)
-        command.done.wait(patience_s)
-        if command.failed:
-            raise command.failed
-        return command.result
+        return self.give(word, does).awaited(patience_s)
 
     def type(self, line: str) -> None:
         """Does a command of the operator's core, as a person types it. Raises Busy."""
@@ -185,11 +196,14 @@ class PageSession:
 
     def tell(self, line: str) -> None:
         """Does a short command, and waits for it; one that may come while something runs is given then. Raises Busy."""
-        word = line.split()[0]
-        if word in _ASIDES and self.is_busy:
-            self.face.give_aside(line)
-        else:
-            self.ask(word, lambda: self.operator.do(line))
+        word, command = line.split()[0], None
+        with self._wake:
+            if word in _ASIDES and self.is_busy:
+                self.face.give_aside(line)
+            else:
+                command = self.give(word, lambda: self.operator.do(line))
+        if command:
+            command.awaited()
         if word == "delete":
             self.drawer.leave_out(line.endswith(" on"))
 
@@ -272,6 +286,7 @@ class PageSession:
             if self.ended:
                 self.opened.close()
                 self._begin()
+                self.start()
         self.face.publish()
 
     def quit(self) -> None:
@@ -289,7 +304,8 @@ class PageSession:
         self.face.leave()
         with self._wake:
             self._wake.notify_all()
-        self._thread.join(_LEAVE_S)
+        if self._thread.is_alive():  # it may not have been started
+            self._thread.join(_LEAVE_S)
         self.aside.close()
         return not self._thread.is_alive() and not self.face.is_stuck
 
@@ -298,9 +314,11 @@ class PageSession:
     def _work(self) -> None:
         while not self.over.is_set() and not self.ended:
             with self._wake:
-                if self._next is None:
-                    self._wake.wait(_LOOK_S)
-                self.under, self._next = self._next, None
+                self.under = self._late()
+                if self.under is None:
+                    if self._next is None:
+                        self._wake.wait(_LOOK_S)
+                    self.under, self._next = self._next, None
             try:
                 if self.under:
                     self._do(self.under)
@@ -315,6 +333,11 @@ class PageSession:
                 if command:
                     command.done.set()
                     self.face.publish()
+
+    def _late(self) -> SessionCommand | None:
+        """What was given while a command ran, and came too late for it: it is done before the next one."""
+        lines = self.face.asides()
+        return self._command(lines[0].split()[0], lambda: list(map(self.operator.do, lines))) if lines else None
 
     def _do(self, command: SessionCommand) -> None:
         """Does a command, and sees how it ended."""
@@ -416,8 +439,8 @@ class PageSession:
 
 
 def _most_percents(path: str, settings: Settings) -> tuple[int, int]:
-    """The most that the overrides of the feed and of the spindle may be by a machine's file; 100 where none is given, or
-    it is wrong: the player says why."""
+    """The most that the overrides of the feed and of the spindle may be by a machine's file; 100 where none is given,
+    or it is wrong: the player says why."""
     if not path:
         return WHOLE, WHOLE
     try:

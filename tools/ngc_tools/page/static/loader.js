@@ -37,8 +37,9 @@ async function draw(file, app, picture) {
 function verdict({ refusals, warnings, more, unreadable }) {
   if (unreadable) return sheet.warning(unreadable, 'bad');
   if (refusals.length) {
-    return sheet.warning(`${counted(refusals.length, 'line')} refused${more ? ', and more' : ''}. A refused line stops `
-      + 'the program there. Mend these, and load it again.', 'bad');
+    const count = new Set(refusals.map(one => one.line)).size; // a line may have several faults
+    return sheet.warning(`${counted(count, 'line')} refused${more ? ', and more' : ''}. A refused line stops the `
+      + 'program there. Mend these, and load it again.', 'bad');
   }
   if (!warnings.length) return sheet.warning('No line is refused, and there are no warnings.', 'fine');
   return sheet.warning(`No line is refused. ${counted(warnings.length, 'warning')}: what is valid may be meant `

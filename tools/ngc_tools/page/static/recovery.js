@@ -43,7 +43,7 @@ export class Recovery {
     this.go(0);
     this.asks('rehearse', {}).then(found => {
       this.stored = found;
-      if (this.isOpen && this.step === 0) this.go(0);
+      this.retell();
     });
   }
 
@@ -87,8 +87,18 @@ export class Recovery {
   }
 
   put(content, buttons) {
-    this.sheet.words.replaceChildren(...content.filter(Boolean));
+    this.tell(content);
     this.sheet.foot.replaceChildren(...buttons.filter(Boolean));
+  }
+
+  tell(content) { this.sheet.words.replaceChildren(...content.filter(Boolean)); }
+
+  // Tells what was found meanwhile. The buttons stay: a touch on one that is made anew under the finger would be lost.
+  retell() {
+    if (!this.isOpen) return;
+    if (this.step === 0) this.tell(this.storedWords());
+    if (this.step === 2 && this.plan) this.tell(this.rehearsedWords());
+    this.mark();
   }
 
   back(step) { return sheet.button('Back', () => this.go(step)); }
@@ -101,8 +111,7 @@ export class Recovery {
     if (!this.isOpen) return;
     this.picture.lost = ways.lostOf(this.app.neverCut);
     this.picture.show(this.app.job, this.app.travel);
-    if (this.step === 0 || this.step === 2) this.go(this.step); // what was never cut is known by now
-    this.mark();
+    this.retell(); // what was never cut
   }
 
   // What the picture shows beside the path: where the segment begins, and the way there.
@@ -137,10 +146,16 @@ export class Recovery {
   // ---- 1: what was stored
 
   first() {
+    this.put(this.storedWords(), [sheet.button('Later', () => this.later()),
+      sheet.gap('Nothing moves, and nothing is switched.'),
+      this.next('Next: where it stands', () => this.go(1))]);
+  }
+
+  storedWords() {
     const { state } = this.app, found = this.stored;
     const half = state.half === 'program' ? `line ${state.line} of ${state.program.lines}` : 'a line of one\u2019s own';
     const way = state.half_opened === 2 ? 'the way back to segment' : 'segment';
-    this.put([sheet.title('Everything that was acknowledged is still there'),
+    return [sheet.title('Everything that was acknowledged is still there'),
       sheet.lead(state.half_text.trim() || '(no text)'),
       sheet.facts([['Stored', `${grouped(state.entries)} entries: each is there`], ['Half-done', half],
         ['Under way', `${way} ${state.segment + 1} of that line`],
@@ -150,9 +165,7 @@ export class Recovery {
       found?.refused && sheet.warning(found.refused, 'bad'),
       ...ways.neverCut(this.app.neverCut),
       sheet.soft('In the picture solid is done, amber was under way, pale is left. The amber segment is made again '
-        + 'from its beginning.')],
-    [sheet.button('Later', () => this.later()), sheet.gap('Nothing moves, and nothing is switched.'),
-      this.next('Next: where it stands', () => this.go(1))]);
+        + 'from its beginning.')];
   }
 
   // ---- 2: where the machine stands
@@ -205,15 +218,18 @@ export class Recovery {
   }
 
   third() {
-    const { plan } = this;
-    if (plan) {
-      const said = ways.told(this.along, plan, this.app.state.recover);
-      this.put([...ways.neverCut(this.app.neverCut), ...said], [this.back(1), sheet.gap('Nothing has moved.'),
+    if (this.plan) {
+      this.put(this.rehearsedWords(), [this.back(1), sheet.gap('Nothing has moved.'),
         this.next('Next: step by step', () => this.go(3))]);
       return;
     }
     this.put([sheet.title('Rehearsal'), sheet.soft('ngc does it over a copy of the device; nothing moves\u2026')],
       [this.back(1), sheet.gap()]);
+  }
+
+  rehearsedWords() {
+    const { recover } = this.app.state;
+    return [...ways.neverCut(this.app.neverCut), ...ways.told(this.along, this.plan, recover)];
   }
 
   // ---- 4: step by step
