@@ -497,22 +497,18 @@ fn a_header_is_written_and_read(rt: HostRuntime) {
 type Done = (Result<(), Fault>, bool, u64);
 
 /// Does the operation on a formatted device of which one call after this many fails without effect.
-fn done_failing<A: Allocator + Copy + Drop>(
-    alloc: A,
+fn done_failing(
+    alloc: Global,
     operation: Operation,
     calls: u64,
-) -> Result<(Done, FailRig<MemoryRig<A>>), Fail> {
+) -> Result<(Done, FailRig<MemoryRig<Global>>), Fail> {
     let rig = FailRig::new(formatted(alloc)?, calls);
     let (done, is_broken, rig) = after(alloc, rig, operation, 1);
     Ok(((done, is_broken, rig.failures()), rig))
 }
 
 /// The same, and what the device stands for then.
-fn failing<A: Allocator + Copy + Drop>(
-    alloc: A,
-    operation: Operation,
-    calls: u64,
-) -> Result<(Done, Standing), Fail> {
+fn failing(alloc: Global, operation: Operation, calls: u64) -> Result<(Done, Standing), Fail> {
     let (done, rig) = done_failing(alloc, operation, calls)?;
     Ok((done, standing(alloc, rig.into_inner())))
 }
@@ -559,8 +555,8 @@ const CALLS_OF_OPERATIONS: &[u64] = &[0, 1, 2, 43, 87, 88, 89, 90, 91, 92];
 /// The first of those calls of an operation for which a failure goes wrong, and what is found then. The operation makes
 /// this many calls and leaves what is expected after them. A failure goes wrong if it isn't returned and counted once,
 /// doesn't break the journal or leaves something else.
-fn first_wrong_failure<A: Allocator + Copy + Drop>(
-    alloc: A,
+fn first_wrong_failure(
+    alloc: Global,
     (operation, calls, new): (Operation, u64, Standing),
 ) -> Result<Option<(u64, Done, Standing)>, Fail> {
     for k in CALLS_OF_OPERATIONS {
