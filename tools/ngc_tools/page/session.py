@@ -113,7 +113,7 @@ class PageSession:
         self._begin()
 
     def start(self) -> None:
-        """Starts its thread, which does what is given. Whoever starts it calls `leave`, whatever comes."""
+        """Starts its thread, which does what is given. After it `leave` has to be called, whatever comes."""
         self._thread.start()
 
     def _begin(self) -> None:
