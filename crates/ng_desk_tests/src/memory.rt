@@ -95,18 +95,18 @@ fn came_of<A: Allocator + Copy + Drop, W: Wait>(
     Ok(outcome_of(called, before == after))
 }
 
-/// The bytes of a heap, and the outcome there. Power on takes two tables of parameters of 43,192 bytes and 79,352 for
+/// The bytes of a heap, and the outcome there. Power on takes two tables of parameters of 43,192 bytes and 82,168 for
 /// the lines that are planned, the program 1,000, the seats 32 each; a call then grows the seat's list, grows the
 /// history, and copies the program three times, and each of these five is refused in turn; a load takes one more table.
 const HEAPS: &[(usize, Outcome)] = &[
-    (167_352, Outcome::NoDesk),
-    (169_152, Outcome::NoCall),
-    (169_652, Outcome::NoCall),
-    (170_352, Outcome::NoCall),
-    (171_352, Outcome::NoCall),
-    (172_352, Outcome::NoCall),
-    (174_352, Outcome::NoProgram),
-    (229_352, Outcome::Loaded),
+    (170_168, Outcome::NoDesk),
+    (171_968, Outcome::NoCall),
+    (172_468, Outcome::NoCall),
+    (173_168, Outcome::NoCall),
+    (174_168, Outcome::NoCall),
+    (175_168, Outcome::NoCall),
+    (177_168, Outcome::NoProgram),
+    (232_168, Outcome::Loaded),
 ];
 
 #[test]
