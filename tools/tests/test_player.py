@@ -294,6 +294,7 @@ class Playing:
         os.mkfifo("out")
         self.begin("--progress", "progress", "out", "first.toml", "position")
         self.linked()
+        self.wait_for("its record is there", Path("position").exists)
         Path("other").write_text(LINES)
         self.assertEqual(self.refused("other", "first.toml", "position"), "position: another player keeps it")
 
