@@ -14,7 +14,7 @@ pub none_yet : (old new : List ℤ) → differences_to 0 old new ≡ []
 unfolding differences_to
 none_yet old new = refl
 
-suc_same : (n : ℕ) (old new : List ℤ) → int_eq (at new (suc n)) (at old (suc n)) ≡ true → differences_to (suc n) old new ≡ differences_to n old new
+pub suc_same : (n : ℕ) (old new : List ℤ) → int_eq (at new (suc n)) (at old (suc n)) ≡ true → differences_to (suc n) old new ≡ differences_to n old new
 unfolding differences_to
 suc_same n old new is = λ i. if is i then differences_to n old new else differences_to n old new ++ change_to new (suc n) ∷ []
 

@@ -3,3 +3,4 @@ pub mod ChangeLemmas
 pub mod OneParameterLemmas
 pub mod AssignmentLemmas
 pub mod DifferenceLemmas
+pub mod SettlingLemmas

@@ -1,8 +1,9 @@
 -- How two tables differ, parameter by parameter (own).
-use Rattle.std.specs.Prelude.{◌≡◌, ◌<◌, ◌≤◌, ℕ, zero, suc, if◌then◌else◌, List, [], ◌∷◌, ◌++◌, length, ℤ}
+use Rattle.std.specs.Prelude.{◌≡◌, ◌<◌, ◌≤◌, ℕ, zero, suc, if◌then◌else◌, List, [], ◌∷◌, ◌++◌, length, map, Contains, ℤ}
 use Rattle.std.specs.Ordering.{int_eq}
 use Rattle.ng_params.specs.Numbers.{parameter_count}
 use Rattle.ng_params.specs.Params.{at}
+use Rattle.ng_params.specs.Assignments.{AreOthers}
 use Rattle.ng_params.specs.declared.change.Change.{Change}
 
 -- the change of a parameter to its new value
@@ -26,3 +27,13 @@ pub record TakesDifferences (room : ℕ) (old new : List ℤ) (from next : ℕ) 
   pub within : next ≤ parameter_count
   pub few : length taken ≤ room
   pub full : next < parameter_count → length taken ≡ room
+
+-- no parameter above p is changed
+abbrev pub ChangesNoneAbove : ℕ → List Change → Type 0
+ChangesNoneAbove p changes = (q : ℕ) → p < q → AreOthers q changes
+
+-- the first parameter above p that is changed
+pub record IsNextChanged (p : ℕ) (changes : List Change) (next : ℕ) : Type 0 where
+  pub above : p < next
+  pub changed : Contains (map (λ c. c.index) changes) next
+  pub first : (q : ℕ) → p < q → q < next → AreOthers q changes

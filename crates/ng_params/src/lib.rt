@@ -4,7 +4,7 @@
 //! setting never fail. A point is stored as three consecutive parameters, in millimetres, whatever the unit of the
 //! program. `changes_from` lists how a table differs from an older one, and `apply` makes such changes in the older
 //! one. `difference_count` and `next_differences` find the differences without allocating. Only `new`, `copy` and
-//! `changes_from` allocate. The crate depends on `ng_num`. The crates above decide which word sets which parameter, and
+//! `changes_from` allocate. `settled_changes` makes a list of changes one of differences. The crate depends on `ng_num`. The crates above decide which word sets which parameter, and
 //! when an offset takes effect; this crate gets the changes to make.
 #![tactic(auto)]
 
@@ -18,7 +18,7 @@ mod points;
 mod system;
 
 pub use change::Change;
-pub use differences::{difference_count, next_differences};
+pub use differences::{difference_count, next_differences, settled_changes};
 pub use index::{Index, PARAMETER_COUNT};
 pub use params::Params;
 pub use points::g92_changes;
