@@ -1,5 +1,7 @@
 -- A record's parts written one after the other, and a sync.
-use Rattle.std.proofs.Common.{◌≡◌, ◌≢◌, inl, inr, ⊎_elim, ℕ, ◌+◌, ◌-◌, ◌<◌, ◌≤◌, List, length, ℤ, Option, Result, Ok, Err, sym, ◌∙◌, ap, subst, arith}
+use Rattle.std.proofs.Common.{◌≡◌, ◌≢◌, inl, inr, ⊎_elim, ℕ, ◌+◌, ◌-◌, ◌*◌, ◌<◌, ◌≤◌, List, length, take, drop, ℤ}
+use Rattle.std.proofs.Common.{Option, Result, Ok, Err, sym, ◌∙◌, ap, subst, arith}
+use Rattle.std.proofs.lemmas.List.{drop-drop}
 use Rattle.std.specs.Prelude.{IfSome}
 use Rattle.std.proofs.lemmas.Bool.{cases_lt}
 use Rattle.std.proofs.lemmas.Bool.Decides.{nat_tests}
@@ -28,6 +30,7 @@ use Rattle.ng_params.specs.Differences.{differences}
 use Rattle.ng_log.specs.Records.{LogRecord, size_of, label, IsPartOf, BelongsToRecord, record_at}
 use Rattle.ng_params.proofs.DifferenceLemmas.{differences-restore}
 use Rattle.ng_log.proofs.RecordRunLemmas.{part_label}
+use Rattle.ng_log.proofs.TableLengthLemmas.{ends-whole}
 use Rattle.ng_log.proofs.LogEndLemmas.{IsBlend, IsNext, blend-force, blend-stands, blend-written, blend-ends}
 
 -- the part that belongs to a sector
@@ -63,7 +66,26 @@ labelled_as e part parts count n part_is parts_are count_is =
     let all : parts ≡ size_of e = parts_are ∙ ap parts_for count_is in
     λ i. record { epoch = e.epoch; number = e.number; part = part_is i; parts = all i; changes = count_is i }
 
--- the record of a table's differences is the next one
+-- the record of the differences from what stands is the next one
+pub next_from : (image : Image) (header : Header) (before : DurableState) (end : LogEnd) (slot : Option SlotChange)
+    (saved : StoredModel) (changes : List Change) → header.format ≡ Two → IfSome slot (IsStorableChange before.saved.tools)
+    → with_change slot before.saved.tools ≡ saved.tools → EndsIn image header before end
+    → changes ≡ differences before.saved.setup.params saved.setup.params → length saved.setup.params ≡ 5399
+    → end.sector + parts_for (length changes) ≤ log_size_of header → saved.length ≡ header.length
+    → before.saved.room ≡ saved.room → IsNext image header before end saved changes slot
+next_from image header before end slot saved changes two valid slot_is was changes_are whole room long same_room = record {
+  was = was;
+  two = two;
+  valid = valid;
+  slot_is = slot_is;
+  room = room;
+  long = long;
+  same_room = same_room;
+  restored = ap (with_changes before.saved.setup.params) changes_are
+      ∙ differences-restore before.saved.setup.params saved.setup.params (ends-whole image header before end was) whole;
+}
+
+-- as those between two tables
 pub next_of : (image : Image) (header : Header) (before : DurableState) (end : LogEnd) (table : List ℤ)
     (slot : Option SlotChange) (saved : StoredModel) (count : ℕ) → header.format ≡ Two
     → IfSome slot (IsStorableChange before.saved.tools) → with_change slot before.saved.tools ≡ saved.tools
@@ -72,17 +94,20 @@ pub next_of : (image : Image) (header : Header) (before : DurableState) (end : L
     → end.sector + parts_for count ≤ log_size_of header → saved.length ≡ header.length
     → before.saved.room ≡ saved.room → IsNext image header before end saved (differences table saved.setup.params)
     slot
-next_of image header before end table slot saved count two valid slot_is was params_are all_old all_new count_is room long same_room = record {
-  was = was;
-  two = two;
-  valid = valid;
-  slot_is = slot_is;
-  room = subst (λ (n : ℕ). end.sector + parts_for n ≤ log_size_of header) count_is room;
-  long = long;
-  same_room = same_room;
-  restored = ap (λ (t : List ℤ). with_changes t (differences table saved.setup.params)) params_are
-      ∙ differences-restore table saved.setup.params all_old all_new;
-}
+next_of image header before end table slot saved count two valid slot_is was params_are all_old all_new count_is room long same_room =
+    next_from image header before end slot saved (differences table saved.setup.params) two valid slot_is was
+    (ap (λ (t : List ℤ). differences t saved.setup.params) (sym params_are)) all_new
+    (subst (λ (n : ℕ). end.sector + parts_for n ≤ log_size_of header) count_is room) long same_room
+
+-- a piece comes after those that are written
+pub piece_of : (k : ℕ) (changes left made : List Change) → left ≡ drop (48 * k) changes → made ≡ take 48 left → piece k changes ≡ made
+piece_of k changes left made is made_is = ap (take 48) (sym is) ∙ sym made_is
+
+pub rest_of : (k : ℕ) (changes left rest : List Change) → left ≡ drop (48 * k) changes → rest ≡ drop 48 left
+    → rest ≡ drop (48 * (k + 1)) changes
+rest_of k changes left rest is rest_is =
+    let e : 48 * k + 48 ≡ 48 * (k + 1) = omega arith in
+    rest_is ∙ ap (drop 48) is ∙ drop-drop 48 (48 * k) changes ∙ ap (λ (n : ℕ). drop n changes) e
 
 read_same : (trace : Trace) (m : ℕ) (bytes : List ℕ) → reads (Wrote m bytes trace) m ≡ bytes
 read_same trace m bytes = grind (arith, nat_tests)

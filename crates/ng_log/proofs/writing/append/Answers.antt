@@ -1,11 +1,11 @@
 use Rattle.std.proofs.Common.{◌≡◌, ◌∙◌, ◌+◌, length, ap}
 use Rattle.std.proofs.lemmas.Result.{err_from_is_err_and}
 use Rattle.ng_rig.proofs.GuaranteeLemmas.{onto, meaning}
+use Rattle.ng_layout.specs.Log.{parts_for}
 use Rattle.ng_log.specs.declared.log_end.LogEnd.{LogEnd}
 use Rattle.ng_log.specs.AtEnd.{end_after}
-use Rattle.ng_params.specs.Differences.{differences}
-use Rattle.ng_log.specs.Records.{record_from}
-use Rattle.ng_log.proofs.RecordWriteLemmas.{next_of, record_cut, record_unsynced, record_synced, exit_parts, exit_sync, finished}
+use Rattle.ng_log.specs.Records.{record_at}
+use Rattle.ng_log.proofs.RecordWriteLemmas.{next_from, record_cut, record_unsynced, record_synced, exit_parts, exit_sync, finished}
 use Rattle.ng_log.proofs.writing.append.Goals as goal
 
 pub returns-in_err-write_parts-clause-appends : goal.returns-in_err-write_parts-clause-appends
@@ -13,49 +13,52 @@ returns-in_err-write_parts-clause-appends g c =
     let p = err_from_is_err_and c.from_residual.result c.from_residual.ensures.1 in
     let r = c.requires in
     let stored = c.args.stored.now in
-    rw p.1 (meaning c.write_parts.ensures.writes (λ w before at table valid slot_is same_room.
-    let next = next_of _ c.args.header before c.args.end c.args.old.now c.args.slot stored c.args.count r.format
-    valid slot_is at.image table r.table r.storable.table r.count r.room r.long same_room in
-    exit_parts _ c.args.header before c.args.end stored (differences c.args.old.now stored.setup.params) c.args.slot at next p.0 c.write_parts.result _ w))
+    let changes = c.args.changes in
+    rw p.1 (meaning c.write_parts.ensures.writes (λ w before at made valid slot_is same_room.
+    let next = next_from _ c.args.header before c.args.end c.args.slot stored changes r.format valid slot_is at.image
+    made r.storable.table r.room r.long same_room in
+    exit_parts _ c.args.header before c.args.end stored changes c.args.slot at next p.0 c.write_parts.result _ w))
 
 pub returns-in_err-sync-clause-appends : goal.returns-in_err-sync-clause-appends
 returns-in_err-sync-clause-appends g c =
     let p = err_from_is_err_and c.from_residual-in_err-sync.result c.from_residual-in_err-sync.ensures.1 in
     let r = c.requires in
     let stored = c.args.stored.now in
-    rw p.1 (onto _ c.write_parts.ensures.writes c.in_err-sync.ensures.trace (λ w sync before at table valid slot_is same_room.
-    let next = next_of _ c.args.header before c.args.end c.args.old.now c.args.slot stored c.args.count r.format
-    valid slot_is at.image table r.table r.storable.table r.count r.room r.long same_room in
-    exit_sync _ c.args.header before c.args.end stored (differences c.args.old.now stored.setup.params) c.args.slot
-    at next p.0 c.write_parts.result _ _ w sync))
+    let changes = c.args.changes in
+    rw p.1 (onto _ c.write_parts.ensures.writes c.in_err-sync.ensures.trace (λ w sync before at made valid slot_is same_room.
+    let next = next_from _ c.args.header before c.args.end c.args.slot stored changes r.format valid slot_is at.image
+    made r.storable.table r.room r.long same_room in
+    exit_sync _ c.args.header before c.args.end stored changes c.args.slot at next p.0 c.write_parts.result _ _ w sync))
 
 pub returns-clause-appends : goal.returns-clause-appends
 returns-clause-appends g c =
     let r = c.requires in
     let stored = c.args.stored.now in
-    let made = differences c.args.old.now stored.setup.params in
-    let after : LogEnd = record { sector = c.args.end.sector + c.parts_for.result; number = c.args.end.number + 1 } in
-    let after_is : after ≡ end_after c.args.end (length made) =
-    (λ i. record { sector = c.args.end.sector + c.parts_for.ensures.value i; number = c.args.end.number + 1 })
-    ∙ ap (end_after c.args.end) r.count in
-    onto _ c.in_ok-write_parts.ensures.writes c.in_ok-sync.ensures.trace (λ w sync before at table valid slot_is same_room.
-    let next = next_of _ c.args.header before c.args.end c.args.old.now c.args.slot stored c.args.count r.format
-    valid slot_is at.image table r.table r.storable.table r.count r.room r.long same_room in
-    finished _ c.args.header before c.args.end stored made c.args.slot at next _ after _ _ after_is w sync)
+    let changes = c.args.changes in
+    let after : LogEnd = record { sector = c.args.end.sector + c.parts_for-parts.result; number = c.args.end.number + 1 } in
+    let after_is : after ≡ end_after c.args.end (length changes) =
+    λ i. record {
+      sector = c.args.end.sector + (c.parts_for-parts.ensures.value ∙ ap parts_for c.count.ensures) i;
+      number = c.args.end.number + 1;
+    } in
+    onto _ c.in_ok-write_parts.ensures.writes c.in_ok-sync.ensures.trace (λ w sync before at made valid slot_is same_room.
+    let next = next_from _ c.args.header before c.args.end c.args.slot stored changes r.format valid slot_is at.image
+    made r.storable.table r.room r.long same_room in
+    finished _ c.args.header before c.args.end stored changes c.args.slot at next _ after _ _ after_is w sync)
 
 pub returns-in_err-write_parts-clause-writes : goal.returns-in_err-write_parts-clause-writes
 returns-in_err-write_parts-clause-writes g c =
     let p = err_from_is_err_and c.from_residual.result c.from_residual.ensures.1 in
-    let e = record_from c.args.header.epoch c.args.end c.args.old.now c.args.slot c.args.stored.now in
+    let e = record_at c.args.header.epoch c.args.end c.args.stored.now c.args.changes c.args.slot in
     rw p.1 (meaning c.write_parts.ensures.writes (λ w. record_cut p.0 c.write_parts.result e _ _ w))
 
 pub returns-in_err-sync-clause-writes : goal.returns-in_err-sync-clause-writes
 returns-in_err-sync-clause-writes g c =
     let p = err_from_is_err_and c.from_residual-in_err-sync.result c.from_residual-in_err-sync.ensures.1 in
-    let e = record_from c.args.header.epoch c.args.end c.args.old.now c.args.slot c.args.stored.now in
+    let e = record_at c.args.header.epoch c.args.end c.args.stored.now c.args.changes c.args.slot in
     rw p.1 (onto _ c.write_parts.ensures.writes c.in_err-sync.ensures.trace (λ w sync. record_unsynced p.0 c.write_parts.result e _ _ _ w sync))
 
 pub returns-clause-writes : goal.returns-clause-writes
 returns-clause-writes g c =
-    let e = record_from c.args.header.epoch c.args.end c.args.old.now c.args.slot c.args.stored.now in
+    let e = record_at c.args.header.epoch c.args.end c.args.stored.now c.args.changes c.args.slot in
     onto _ c.in_ok-write_parts.ensures.writes c.in_ok-sync.ensures.trace (λ w sync. record_synced _ _ e _ _ _ w sync)
