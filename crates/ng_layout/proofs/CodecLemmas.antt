@@ -1,12 +1,12 @@
 -- What is read of a number that was written.
-use Rattle.std.proofs.Common.{◌≡◌, ℕ, ◌≤◌, Bool, true, false, nat_le, ℤ, pos, negsuc, ◌≤ℤ◌, unsigned_abs, Some}
+use Rattle.std.proofs.Common.{◌≡◌, ℕ, ◌≤◌, Bool, true, false, nat_le, ℤ, pos, unsigned_abs, Some}
 use Rattle.std.proofs.Common.{None, refl, sym, ◌∙◌, ap, arith}
 use Rattle.std.proofs.lemmas.Bool.Decides.{nat_tests}
-use Rattle.std.proofs.lemmas.Int.{ints, to_z-of_z}
+use Rattle.std.proofs.lemmas.Int.{to_z-of_z}
 use Rattle.std.specs.Int.{w64, cast_signed, cast_unsigned}
 use Rattle.ng_num.specs.Range.{IsCount, greatest}
 use Rattle.ng_params.specs.Numbers.{system_of}
-use Rattle.ng_layout.specs.Decoding.{up_to, count_of, rate_of}
+use Rattle.ng_layout.specs.Decoding.{up_to, count_of}
 
 pub up_to-back : (limit n : ℕ) → n ≤ limit → up_to limit n ≡ Some n
 up_to-back limit n le = grind (arith, nat_tests)

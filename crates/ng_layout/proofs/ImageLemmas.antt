@@ -5,7 +5,7 @@ use Rattle.std.proofs.Common.{Result, Ok, Err, lit≤, refl, sym, ◌∙◌, ap,
 use Rattle.std.proofs.lemmas.Bool.{cases_eq}
 use Rattle.std.proofs.lemmas.Bool.Decides.{nat_tests}
 use Rattle.ng_layout.specs.Fields.{number_at}
-use Rattle.ng_layout.specs.Limits.{greatest_count, longest_program}
+use Rattle.ng_layout.specs.Limits.{greatest_count}
 use Rattle.ng_layout.specs.Codes.{format_of}
 use Rattle.ng_layout.specs.declared.header.Format.{Format}
 use Rattle.ng_layout.specs.declared.header.Format.TheVariants.{One, Two}

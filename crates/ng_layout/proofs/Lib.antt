@@ -1,11 +1,15 @@
 pub mod ByteLemmas
 pub mod CodecLemmas
 pub mod EncodingLemmas
+pub mod FieldLemmas
 pub mod ImageLemmas
 pub mod PartLemmas
+pub mod PinnedLemmas
 pub mod RowLemmas
+pub mod SameLemmas
 pub mod SectorLemmas
 pub mod SnapshotLemmas
 pub mod SpareLemmas
 pub mod TableLemmas
 pub mod ToolTableLemmas
+pub mod ValueLemmas

@@ -1,9 +1,9 @@
 -- The labels and the changes of parts.
 use Rattle.std.proofs.Common.{◌≡◌, ℕ, zero, suc, ◌+◌, ◌-◌, ◌*◌, ◌<◌, ◌≤◌, ◌==◌, ◌&&◌, true, List, [], ◌∷◌, ◌++◌}
-use Rattle.std.proofs.Common.{length, take, drop, ℤ, pos, Option, Some, None, lit≤, refl, sym, ◌∙◌, ap, subst}
+use Rattle.std.proofs.Common.{length, take, drop, ℤ, pos, Option, Some, None, refl, sym, ◌∙◌, ap, subst}
 use Rattle.std.proofs.Common.{arith, add-one, append-nil, length-drop, replicate}
 use Rattle.std.proofs.lemmas.Bool.Decides.{nat_tests}
-use Rattle.std.proofs.lemmas.List.{drop_at, drop_all, drop-drop, drop-replicate, length-take-le, take_all}
+use Rattle.std.proofs.lemmas.List.{drop_at, drop_all, drop-drop, length-take-le, take_all}
 use borrow.Rule.Slice.PartMut.{put_mid, post_of, take_put}
 use Rattle.ng_num.specs.Range.{IsCount}
 use Rattle.ng_params.specs.Numbers.{index_of}
@@ -13,7 +13,7 @@ use Rattle.ng_layout.specs.Fields.{number_at, signed_at, AreZero, SameBelow, Sam
 use Rattle.ng_layout.specs.Log.{PartHeader, is_part, change_at}
 use Rattle.ng_layout.specs.Part.{changes_in, HoldsLabel, HoldsChanges, Makes}
 use Rattle.ng_layout.specs.Decoding.{and_then, count_of}
-use Rattle.ng_layout.proofs.ByteLemmas.{number-below, signed-below, bytes-below, from-further}
+use Rattle.ng_layout.proofs.ByteLemmas.{number-below, signed-below, bytes-below}
 use Rattle.ng_layout.proofs.SectorLemmas.{zeros-from}
 use Rattle.ng_layout.proofs.CodecLemmas.{count-back}
 

@@ -1,5 +1,5 @@
 -- Tool tables: a change that was written reads back.
-use Rattle.std.proofs.Common.{◌≡◌, ◌≤◌, ◌<◌, ◌⊎◌, inl, inr, ℕ, zero, suc, ◌+◌, ◌-◌, ◌*◌, ◌/◌, ◌%◌, ◌==◌, ◌&&◌}
+use Rattle.std.proofs.Common.{◌≡◌, ◌≢◌, ◌≤◌, ◌<◌, ◌⊎◌, inl, inr, ℕ, zero, suc, ◌+◌, ◌-◌, ◌*◌, ◌/◌, ◌%◌, ◌==◌, ◌&&◌}
 use Rattle.std.proofs.Common.{nat_le, if◌then◌else◌, Bool, true, false, List, [], ◌∷◌, ◌++◌, length, get_or}
 use Rattle.std.proofs.Common.{replicate, set, ℤ, pos, Option, Some, None, refl, sym, ◌∙◌, ap, subst, arith}
 use Rattle.std.proofs.Common.{length-append, add-one}
@@ -7,7 +7,7 @@ use Rattle.std.proofs.lemmas.Bool.{cases_eq, cases_lt}
 use Rattle.std.proofs.lemmas.List.{get_or_append_left, get_or-append_right}
 use Rattle.ng_layout.proofs.ByteLemmas.{signed-below, from-more, from-further}
 use Rattle.ng_layout.proofs.SectorLemmas.{zeros-from}
-use Rattle.std.specs.Prelude.{MatchBool, IfSome, negsuc, int_le}
+use Rattle.std.specs.Prelude.{MatchBool, IfSome, negsuc}
 use Rattle.std.proofs.lemmas.Bool.Decides.{nat_tests, Decides-int_eq}
 use Rattle.std.specs.Ordering.{int_eq}
 use Rattle.ng_offsets.specs.Tools.{length_of_slot, with_slot, with_change, change_from, first_change, IsSlotChange, IsOneSlotFrom, IsToolLength}
@@ -316,3 +316,55 @@ restored old new was slot was_is slot_is one = (λ i. with_change (slot_is i) (w
       ∙ slot-put change old (record { from = omega arith; to = omega arith })
       ∙ ap (λ (k : ℕ). put_at k some.1 old) place ∙ sym some.5
 ])
+
+-- ---- a change that is made or not
+
+put-same : (k : ℕ) (b : ℤ) (xs : List ℤ) → k < length xs → get_or xs k (pos 0) ≡ b → put_at k b xs ≡ xs
+put-same zero b [] lt is = absurd (omega arith)
+put-same zero b (a ∷ xs) lt is = ap (λ (x : ℤ). x ∷ xs) (sym is)
+put-same (suc k) b [] lt is = absurd (omega arith)
+put-same (suc k) b (a ∷ xs) lt is = ap (λ (l : List ℤ). a ∷ l) (put-same k b xs (omega arith) is)
+
+put-differs : (s k : ℕ) (b : ℤ) (old : List ℤ) → k ≤ length old → (k < length old → get_or old k (pos 0) ≢ b)
+    → change_from s old (put_at k b old) ≡ Some (record { slot = s + k; length = b })
+put-differs s zero b [] le differs = let e : s ≡ s + 0 = omega arith in λ i. Some (record { slot = e i; length = b })
+put-differs s zero b (a ∷ old) le differs = go (int_eq a b) refl
+  where
+    go : (t : Bool) → int_eq a b ≡ t → change_from s (a ∷ old) (b ∷ old) ≡ Some (record { slot = s + 0; length = b })
+    go true is = absurd (differs (omega arith) ((Decides-int_eq a b).0 is))
+    go false is =
+        let e : s ≡ s + 0 = omega arith in
+        λ i. if is i then change_from (s + 1) old old else Some (record { slot = e i; length = b })
+put-differs s (suc k) b [] le differs = absurd (omega arith)
+put-differs s (suc k) b (a ∷ old) le differs =
+    let e : int_eq a a ≡ true = (Decides-int_eq a a).1 refl in
+    let on : s + 1 + k ≡ s + suc k = omega arith in
+    (λ i. if e i then change_from (s + 1) old (put_at k b old) else Some (record { slot = s; length = a }))
+    ∙ put-differs (s + 1) k b old (omega arith) (λ lt. differs (omega arith))
+    ∙ (λ i. Some (record { slot = on i; length = b }))
+
+slot-at : (tools : List ℤ) (change : SlotChange) → 1 ≤ change.slot → length_of_slot tools change.slot ≡ get_or tools (change.slot - 1) (pos 0)
+slot-at tools change from =
+    let back : change.slot ≡ change.slot - 1 + 1 = omega arith in
+    ap (length_of_slot tools) back ∙ slot-after tools (change.slot - 1)
+
+-- the slot has that length already
+pub slot-there : (tools : List ℤ) (change : SlotChange) → IsSlotChange tools change → change.slot ≤ length tools
+    → length_of_slot tools change.slot ≡ change.length → None ≡ first_change tools (with_change (Some change) tools)
+slot-there tools change valid within is =
+    let from = valid.from in
+    no-change tools ∙ ap (first_change tools) (sym (slot-put change tools valid
+    ∙ put-same (change.slot - 1) change.length tools (omega arith) (sym (slot-at tools change from) ∙ is)))
+
+-- or it gets it
+pub slot-changes : (tools : List ℤ) (change : SlotChange) → IsSlotChange tools change
+    → ¬ ((change.slot ≤ length tools) × (length_of_slot tools change.slot ≡ change.length))
+    → Some change ≡ first_change tools (with_change (Some change) tools)
+slot-changes tools change valid other =
+    let from = valid.from in
+    let to = valid.to in
+    let back : 1 + (change.slot - 1) ≡ change.slot = omega arith in
+    sym (ap (first_change tools) (slot-put change tools valid)
+    ∙ put-differs 1 (change.slot - 1) change.length tools (omega arith)
+    (λ lt is. other (omega arith, slot-at tools change from ∙ is))
+    ∙ (λ i. Some (record { slot = back i; length = change.length })))

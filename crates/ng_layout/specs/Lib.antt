@@ -7,6 +7,7 @@ pub mod Header
 pub mod Limits
 pub mod Log
 pub mod Part
+pub mod Pinned
 pub mod Rows
 pub mod Sectors
 pub mod Snapshot
@@ -16,3 +17,4 @@ pub mod Stands
 pub mod Storable
 pub mod Stored
 pub mod Tools
+pub mod Update

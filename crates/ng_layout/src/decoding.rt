@@ -12,7 +12,7 @@ use crate::codes::{
     distance_of, feed_mode_of, motion_of, opened_of, path_of, plane_of, retract_of, source_of,
     spindle_of, truth_of, unit_of,
 };
-use crate::half::{Half, LONGEST_TEXT, Opened, Source, text_from};
+use crate::half::{Half, LONGEST_TEXT, Opened, Source, copy_of, text_from};
 use crate::places;
 use ng_canon::{Feed, Outputs};
 use ng_num::{Len, Num, Point};
@@ -45,6 +45,20 @@ impl Model for DecodedState {
     ghost Value = { DecodedStateModel };
 
     ghost view = { λ r. record { entries = r.entries; place = r.place; modal = r.modal; half = r.half } };
+}
+
+impl DecodedState {
+    /// A copy. It doesn't allocate.
+    pub fn copy(&self) -> DecodedState
+        ensures { result ≡ self.now }
+    {
+        DecodedState {
+            entries: self.entries,
+            place: self.place,
+            modal: self.modal,
+            half: copy_of(&self.half),
+        }
+    }
 }
 
 fn len_of(nm: i64) -> Option<Len>

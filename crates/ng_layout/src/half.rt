@@ -74,3 +74,13 @@ impl Half {
         }
     }
 }
+
+/// A copy of the half-done block, if there is one.
+pub(crate) fn copy_of(half: &Option<Half>) -> Option<Half>
+    ensures { result ≡ half.now }
+{
+    match half {
+        Some(half) => Some(half.copy()),
+        None => None,
+    }
+}

@@ -12,12 +12,14 @@ mod decoding;
 mod encoding;
 mod half;
 mod header;
+pub mod laws;
 mod part;
 mod places;
 mod rows;
 mod sectors;
 mod stored;
 mod tools;
+mod update;
 
 pub use areas::{
     HEADERS, LARGE_SIZE, LEAST_SIZE, LOG_FIRST, LONGEST_LOG, SHORTEST_LOG, SNAPSHOT_SIZE,
@@ -32,4 +34,5 @@ pub use part::{
 };
 pub use sectors::{SECTOR_BYTES, VALUES, take_values, text_sector};
 pub use stored::{Stored, fresh_sector};
-pub use tools::{take_area, take_slot};
+pub use tools::{changed_slot, take_area, take_slot};
+pub use update::Update;

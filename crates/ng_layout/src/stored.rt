@@ -13,7 +13,7 @@ ghost use Rattle.ng_layout.specs.Stored.{fresh_stored};
 use crate::bytes::put_u16;
 use crate::decoding::DecodedState;
 use crate::encoding::encode;
-use crate::half::Half;
+use crate::half::{Half, copy_of};
 use crate::sectors::{SECTOR_BYTES, VALUES, copy_table, fresh_values_sector, values_sector};
 use crate::tools::{LENGTHS, SLOTS_AT, lengths_sector};
 use ng_offsets::Tools;
@@ -75,6 +75,18 @@ impl<A: Allocator + Copy + Drop> Stored<A> {
         })
     }
 
+    /// What its state field says with another half-done block. It doesn't allocate.
+    pub fn decoded_with(&self, half: Half) -> DecodedState
+        ensures { result ≡ record (decoded_state_in self.now) { half = Some half } }
+    {
+        DecodedState {
+            entries: self.entries,
+            place: self.place,
+            modal: self.state.modal,
+            half: Some(half),
+        }
+    }
+
     /// Takes over what a state field says, for a program of this length. The parameters, the tools and the room stay.
     pub fn take_decoded_state(&mut self, decoded: DecodedState, length: u64)
         ensures { self.new ≡ with_decoded_state self.old decoded length }
@@ -106,13 +118,6 @@ impl<A: Allocator + Copy + Drop> Stored<A> {
         self.tools = tools.copy();
     }
 
-    /// Takes over a half-done block; all else stays. It doesn't allocate.
-    pub fn take_half(&mut self, half: &Half)
-        ensures { self.new ≡ record self.old { half = Some half.now } }
-    {
-        self.half = Some(half.copy());
-    }
-
     /// Takes over everything from another. It doesn't allocate.
     pub fn take_over(&mut self, other: &Stored<A>)
         requires own { length self.old.setup.params ≡ parameter_count }
@@ -134,10 +139,7 @@ impl<A: Allocator + Copy + Drop> Stored<A> {
         self.place = other.place;
         self.length = other.length;
         self.room = other.room;
-        self.half = match &other.half {
-            Some(half) => Some(half.copy()),
-            None => None,
-        };
+        self.half = copy_of(&other.half);
     }
 
     /// Writes the state field to the start of these bytes. All bytes after it stay.

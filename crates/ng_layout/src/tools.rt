@@ -1,13 +1,14 @@
 //! The tool table in sectors, and the slot that a record changes.
-ghost use Rattle.std.specs.Prelude.{◌≡◌, ◌≤◌, ◌<◌, ◌+◌, ◌*◌, [], ℕ, List, length, Some, None, IfSome, MatchBool};
+ghost use Rattle.std.specs.Prelude.{◌≡◌, ◌↔◌, true, ◌≤◌, ◌<◌, ◌+◌, ◌*◌, [], ℕ, List, length, Some, None, IfSome, MatchBool};
 ghost use Rattle.std.specs.Bool.{OnTrue};
+ghost use Rattle.std.specs.Option.{ForSome};
 ghost use Rattle.ng_layout.specs.Fields.{number_at};
 ghost use Rattle.ng_layout.specs.declared.header.Format.TheVariants.{One, Two};
 ghost use Rattle.ng_layout.specs.Limits.{sector_lengths, greatest_slot, slots_at};
 ghost use Rattle.ng_layout.specs.Decoding.{up_to};
 ghost use Rattle.ng_layout.specs.Snapshot.{HoldsLengths};
-ghost use Rattle.ng_layout.specs.Storable.{IsStorableTools};
-ghost use Rattle.ng_offsets.specs.Tools.{IsToolLength};
+ghost use Rattle.ng_layout.specs.Storable.{IsStorableChange, IsStorableTools};
+ghost use Rattle.ng_offsets.specs.Tools.{first_change, length_of_slot, with_change, IsToolLength};
 ghost use Rattle.ng_layout.specs.Tools.{tools_in, tool_length_of, lengths_in, slot_change_in, tools_after};
 
 use crate::bytes::{get_i64, get_u16, put_i64};
@@ -121,6 +122,39 @@ pub fn take_slot(format: Format, tools: &mut Tools, sector: &[u8; SECTOR_BYTES])
                 true
             }
         },
+    }
+}
+
+/// Makes a change of a tool table, if there is one.
+pub(crate) fn change_slot(tools: &mut Tools, slot: Option<SlotChange>)
+    requires { ForSome slot (IsStorableChange tools.old) }
+    ensures { tools.new ≡ with_change slot tools.old }
+{
+    if let Some(change) = slot {
+        tools.set(change);
+    }
+}
+
+/// Whether a slot has a length already.
+fn has_length(tools: &Tools, slot: u8, tool_length: Len) -> bool
+    ensures { (result ≡ true) ↔ ((slot ≤ length tools.now) × (length_of_slot tools.now slot ≡ tool_length)) }
+{
+    slot as usize <= tools.slots() && tools.length(slot) == tool_length
+}
+
+/// What a change of a tool table changes: nothing if there is no change, or if the slot has that length already.
+pub fn changed_slot(tools: &Tools, slot: Option<SlotChange>) -> Option<SlotChange>
+    requires { ForSome slot (IsStorableChange tools.now) }
+    ensures { result ≡ first_change tools.now (with_change slot tools.now) }
+{
+    match slot {
+        None => None,
+        Some(change) => {
+            if has_length(tools, change.slot, change.length) {
+                return None;
+            }
+            Some(change)
+        }
     }
 }
 
