@@ -7,11 +7,12 @@ use Rattle.ng_num.specs.declared.fault.Fault.{Fault}
 use Rattle.ng_num.specs.declared.fault.Fault.TheVariants.{OutOfRange, NoEnd, NoCentre, RadiiDiffer, ZeroRadius}
 use Rattle.ng_num.specs.declared.unit.Unit.{Unit as LengthUnit}
 use Rattle.ng_num.specs.declared.unit.Unit.TheVariants.{Inches, Millimetres}
-use Rattle.ng_canon.specs.declared.segment.Arc.{Arc}
+use Rattle.ng_arc.specs.declared.shape.ArcShape.{ArcShape}
 use Rattle.ng_arc.specs.declared.asked.AskedArc.{AskedArc}
-use Rattle.ng_canon.specs.Plane.{pick_a, pick_b, from_centre, square_of}
+use Rattle.ng_canon.specs.Plane.{pick_a, pick_b, square_of}
+use Rattle.ng_arc.specs.Shape.{from_centre}
 use Rattle.ng_arc.specs.Radii.{are_alike}
-use Rattle.ng_arc.specs.Asked.{centre_a, centre_b, arc_of}
+use Rattle.ng_arc.specs.Asked.{centre_a, centre_b, shape_of}
 use Rattle.ng_num.specs.Causes.{first_fault, unless}
 
 -- a number of nanometres that is a length
@@ -38,30 +39,30 @@ tolerance Inches = 5_080
 tolerance Millimetres = 2_000
 
 -- the squares of the distances of start and end from the centre
-abbrev pub start_square : Arc → ℕ
-start_square arc = square_of (from_centre arc arc.start)
+abbrev pub start_square : ArcShape → ℕ
+start_square shape = square_of (from_centre shape shape.start)
 
-abbrev pub end_square : Arc → ℕ
-end_square arc = square_of (from_centre arc arc.end)
+abbrev pub end_square : ArcShape → ℕ
+end_square shape = square_of (from_centre shape shape.end)
 
 -- C3: the radii of start and end differ by more than the tolerance
-abbrev pub have_radii_differing : LengthUnit → Arc → Bool
-have_radii_differing unit arc = not (are_alike (start_square arc) (end_square arc) (tolerance unit))
+abbrev pub have_radii_differing : LengthUnit → ArcShape → Bool
+have_radii_differing unit shape = not (are_alike (start_square shape) (end_square shape) (tolerance unit))
 
 -- C4: the start or the end is the centre
-abbrev pub has_zero_radius : Arc → Bool
-has_zero_radius arc = (start_square arc == 0) || (end_square arc == 0)
+abbrev pub has_zero_radius : ArcShape → Bool
+has_zero_radius shape = (start_square shape == 0) || (end_square shape == 0)
 
-abbrev pub arc_causes : AskedArc → Arc → List (Bool × Fault)
-arc_causes asked arc =
+abbrev pub arc_causes : AskedArc → ArcShape → List (Bool × Fault)
+arc_causes asked shape =
     (has_no_end asked, NoEnd)
     ∷ ((has_no_centre asked, NoCentre)
-    ∷ ((have_radii_differing asked.unit arc, RadiiDiffer)
-    ∷ ((has_zero_radius arc, ZeroRadius)
+    ∷ ((have_radii_differing asked.unit shape, RadiiDiffer)
+    ∷ ((has_zero_radius shape, ZeroRadius)
     ∷ [])))
 
 abbrev pub causes : AskedArc → List (Bool × Fault)
-causes asked = (is_centre_beyond asked, OutOfRange) ∷ arc_causes asked (arc_of asked)
+causes asked = (is_centre_beyond asked, OutOfRange) ∷ arc_causes asked (shape_of asked)
 
-abbrev pub checked : AskedArc → Result Arc Fault
-checked asked = unless (first_fault (causes asked)) (arc_of asked)
+abbrev pub checked : AskedArc → Result ArcShape Fault
+checked asked = unless (first_fault (causes asked)) (shape_of asked)

@@ -1,4 +1,5 @@
 pub mod Radii
+pub mod Shape
 pub mod Asked
 pub mod Checking
 pub mod Extremes

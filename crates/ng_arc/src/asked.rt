@@ -2,7 +2,8 @@
 ghost use Rattle.std.specs.Prelude.{◌≡◌, Ok, Err, if◌then◌else◌};
 ghost use Rattle.ng_num.specs.declared.fault.Fault.TheVariants.{OutOfRange};
 
-use ng_canon::{Arc, ArcDirection, Pace, Plane, pick_a, pick_b};
+use crate::shape::ArcShape;
+use ng_canon::{ArcDirection, Plane, pick_a, pick_b};
 use ng_num::{Fault, Len, Point, Unit};
 
 /// The axes for which a line has a word.
@@ -34,13 +35,11 @@ pub struct AskedArc {
     pub offsets: CentreOffsets,
     /// The unit after the line's own words. It decides the tolerance of the radii.
     pub unit: Unit,
-    /// The pace of the move. No fault depends on it.
-    pub pace: Pace,
 }
 
 impl AskedArc {
     ghost use Rattle.ng_num.specs.Range.{in_range};
-    ghost use Rattle.ng_arc.specs.Asked.{centre_a, centre_b, arc_of};
+    ghost use Rattle.ng_arc.specs.Asked.{centre_a, centre_b, shape_of};
     ghost use Rattle.ng_arc.specs.Checking.{has_no_end, has_no_centre, is_centre_beyond};
 
     /// The centre's machine coordinate on the plane's axis a. E3 if it is out of the range of lengths.
@@ -61,18 +60,17 @@ impl AskedArc {
         start.add(word.unwrap_or(Len::zero()))
     }
 
-    /// The arc with its centre. E3 if a coordinate of the centre is out of the range of lengths.
-    pub(crate) fn arc(&self) -> Result<Arc, Fault>
-        ensures { result ≡ (if is_centre_beyond self.now then Err OutOfRange else Ok (arc_of self.now)) }
+    /// The shape of the arc, with its centre. E3 if a coordinate of the centre is out of the range of lengths.
+    pub(crate) fn shape(&self) -> Result<ArcShape, Fault>
+        ensures { result ≡ (if is_centre_beyond self.now then Err OutOfRange else Ok (shape_of self.now)) }
     {
-        Ok(Arc {
+        Ok(ArcShape {
             plane: self.plane,
             turn: self.turn,
             start: self.start,
             end: self.end,
             centre_a: self.centre_a()?,
             centre_b: self.centre_b()?,
-            pace: self.pace,
         })
     }
 

@@ -1,5 +1,5 @@
 -- A block whose words ask for no action; and what is known of lists of actions.
-use Rattle.std.proofs.Common.{arith, ◌≡◌, ◌∙◌, ℕ, ℤ, Bool, true, false, ◌==◌, List, [], ◌∷◌, ◌++◌, length, Option, Some, None, refl, ap}
+use Rattle.std.proofs.Common.{arith, ◌≡◌, ◌∙◌, ℤ, Bool, true, false, ◌==◌, List, [], ◌∷◌, ◌++◌, length, Option, Some, None, refl, ap}
 use Rattle.std.specs.Prelude.{not, ◌||◌, MatchOption, IsSomeAnd}
 use Rattle.std.specs.Option.{is_some, option_to_list}
 use Rattle.std.proofs.lemmas.Bool.Decides.{nat_tests}
@@ -12,15 +12,15 @@ use Rattle.ng_modal.specs.declared.requests.NonModal.{NonModal}
 use Rattle.ng_modal.specs.declared.block.Block.{Block}
 use Rattle.ng_state.specs.declared.modes.FeedMode.{FeedMode}
 use Rattle.ng_state.specs.declared.modes.FeedMode.TheVariants.{PerMinute, InverseTime}
-use Rattle.ng_state.specs.declared.modes.Motion.{Motion}
+use Rattle.ng_modal.specs.declared.movement.Movement.{Movement}
 use Rattle.ng_block.specs.declared.action.Action.{Action}
 use Rattle.ng_block.specs.Actions.{with_value, actions_of, gives_nothing}
 use Rattle.ng_block.specs.Motion.{is_inverse, time_word}
 use Rattle.ng_block.specs.Shifts.{nothing_shown}
 
-no_time : (mode : FeedMode) (motion : Option Motion) (f : Option ℤ) → is_inverse mode ≡ false → time_word mode motion f ≡ None
-no_time PerMinute motion f h = refl
-no_time InverseTime motion f h = absurd (cc h)
+no_time : (mode : FeedMode) (movement : Option Movement) (f : Option ℤ) → is_inverse mode ≡ false → time_word mode movement f ≡ None
+no_time PerMinute movement f h = refl
+no_time InverseTime movement f h = absurd (cc h)
 
 -- no time, and none of eight words
 pub record AreMissing (inverse : Bool) (s t : Option ℤ) (change : Bool) (spindle : Option Spindle)
@@ -65,7 +65,7 @@ missing false None None false None None None None (Some _) h = absurd (cc h)
 pub no_actions : (b : Block) (mode : FeedMode) (before : Outputs) → gives_nothing b mode ≡ true → actions_of b mode before nothing_shown ≡ []
 no_actions b mode before h =
     let m = missing (is_inverse mode) b.values.s b.values.t b.m.tool_change b.m.spindle b.m.coolant b.g.non_modal b.g.plane b.g.unit h in
-    rw (m.s_is, m.t_is, m.change_is, m.spindle_is, m.coolant_is, m.word_is, m.plane_is, m.unit_is, no_time mode b.motion b.values.f m.inverse_is) refl
+    rw (m.s_is, m.t_is, m.change_is, m.spindle_is, m.coolant_is, m.word_is, m.plane_is, m.unit_is, no_time mode b.movement b.values.f m.inverse_is) refl
 
 -- an empty list
 pub no_items : (actions : List Action) → (length actions == 0) ≡ true → actions ≡ []

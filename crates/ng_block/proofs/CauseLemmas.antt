@@ -3,7 +3,6 @@
 use Rattle.std.proofs.Common.{◌≡◌, ◌∙◌, ℕ, ℤ, ◌||◌, Bool, true, false, List, [], ◌∷◌, ◌++◌, length, Option, Some}
 use Rattle.std.proofs.Common.{None, Result, Ok, Err, refl, sym, ap, if◌then◌else◌}
 use Rattle.std.specs.Prelude.{MatchResult, is_err, is_none}
-use Rattle.std.specs.Option.{is_some}
 use Rattle.std.specs.Result.{result_err, result_unwrap_or}
 use Rattle.ng_num.specs.Results.{and_then}
 use Rattle.ng_num.specs.declared.fault.Fault.{Fault}
@@ -15,7 +14,6 @@ use Rattle.ng_canon.specs.Printing.{CanonModel}
 use Rattle.ng_canon.specs.declared.geometry.Geometry.{Geometry}
 use Rattle.ng_canon.specs.declared.pace.Pace.{Pace}
 use Rattle.ng_canon.specs.declared.plane.ArcDirection.{ArcDirection}
-use Rattle.ng_canon.specs.declared.segment.Arc.{Arc}
 use Rattle.ng_words.specs.Reading.{read, or_unreadable}
 use Rattle.ng_words.specs.Grammar.{ParsedLine, Piece, is_too_long}
 use Rattle.ng_words.specs.Line.{last_comment}
@@ -25,11 +23,12 @@ use Rattle.ng_modal.specs.ByLetter.{has_axis}
 use Rattle.ng_num.specs.Causes.{first_fault, unless, NoneHolds, IsFirstFault}
 use Rattle.ng_num.proofs.FirstFaultLemmas.{none_holds, is_first, first_some, first_none}
 use Rattle.ng_modal.specs.Checking.{faults}
-use Rattle.ng_modal.specs.Block.{is_straight, is_arc}
+use Rattle.ng_modal.specs.declared.movement.Movement.{Movement}
+use Rattle.ng_modal.specs.declared.movement.Movement.TheVariants as movement
+use Rattle.ng_modal.specs.declared.movement.StraightKind.{StraightKind}
 use Rattle.ng_modal.specs.declared.block.Block.{Block}
-use Rattle.ng_state.specs.declared.modes.Motion.{Motion}
-use Rattle.ng_state.specs.declared.modes.Motion.TheVariants as motion
-use Rattle.ng_arc.specs.Asked.{arc_of}
+use Rattle.ng_arc.specs.Asked.{shape_of}
+use Rattle.ng_arc.specs.declared.shape.ArcShape.{ArcShape}
 use Rattle.ng_arc.specs.Checking as arc
 use Rattle.ng_arc.specs.declared.asked.AskedArc.{AskedArc}
 use Rattle.ng_offsets.specs.declared.offsets.Offsets.{Offsets}
@@ -41,15 +40,15 @@ use Rattle.ng_state.specs.declared.modal_state.ModalState.{ModalState}
 use Rattle.ng_block.specs.declared.path.Path.{Path}
 use Rattle.ng_block.specs.declared.path.Path.TheVariants as path
 use Rattle.ng_block.specs.declared.shifts.Shifted.{Shifted}
-use Rattle.ng_block.specs.Arcs.{turn_of, centre_offsets_on, asked_by, turned_where, turning_at, path_along_arc}
+use Rattle.ng_block.specs.Arcs.{centre_offsets_on, asked_by, turning_at, path_along_arc}
 use Rattle.ng_block.specs.Asked.{written_on, pieces_in, values_of, offsets_found, Move, Stays, Goes, Turns}
-use Rattle.ng_block.specs.Asked.{GoesHome, Drills, straight, round, in_cycle, homeward, pace_of, move_by}
-use Rattle.ng_block.specs.Motion.{feed_of, end_of, straight_end_of}
+use Rattle.ng_block.specs.Asked.{GoesHome, Drills, straight, round, in_cycle, homeward, move_for, move_by}
+use Rattle.ng_block.specs.Motion.{feed_of, fed_pace_of, straight_pace, end_of, straight_end_of}
 use Rattle.ng_block.specs.Causes.{value_cause, value_causes, reaches_far, computes_beyond, arc_faults, cycle_faults, has_no_feed, goes_outside, causes}
-use Rattle.ng_block.specs.Cycles.{kind_of, kept_for, kept_where, kept_of, own_words, cycle_words, context_of, cycle_where, cycle_path}
+use Rattle.ng_block.specs.Cycles.{kept_for, kept_after, kept_of, own_words, cycle_words, context_of, cycle_path}
 use Rattle.ng_block.specs.Effects.{Done, unless_refused, block_done, executed_values, executed_pieces, executed}
 use Rattle.ng_block.specs.Faults.{path_faults}
-use Rattle.ng_block.specs.Goal.{Bearings, storing, selecting, Goal, goal_with, bearings_after, straight_to, path_of}
+use Rattle.ng_block.specs.Goal.{Bearings, storing, selecting, Goal, goal_with, bearings_after, straight_path, path_for, path_of}
 use Rattle.ng_block.specs.Homes.{home_on, home_path}
 use Rattle.ng_block.specs.Path.{moving_at}
 use Rattle.ng_block.specs.Remarks.{remark_of}
@@ -82,7 +81,7 @@ unless_refused_err (Some fault) x = refl
 unfoldable pub path_by : Point → Geometry → Move → Result Path Fault
 path_by start geometry Stays = Ok path.Still
 path_by start geometry (Goes pace end) = Ok (moving_at pace start end)
-path_by start geometry (Turns pace asked) = and_then (arc.checked asked) (λ arc. Ok (turning_at pace arc))
+path_by start geometry (Turns pace asked) = and_then (arc.checked asked) (λ shape. Ok (turning_at pace shape))
 path_by start geometry (GoesHome between home) = Ok (path.Homing (record { start = start; between = between; home = home }))
 path_by start geometry (Drills w s) = and_then (cycle.canned_of w s geometry) (λ drill. Ok (path.Cycle drill))
 
@@ -102,20 +101,18 @@ either : {X Y : Type 0} (c : Bool) (a b : Result X Fault) (a' b' : Result Y Faul
 either true a b a' b' next p q = p
 either false a b a' b' next p q = q
 
-round_is : (turn : Option ArcDirection) (b : Block) (m : ModalState) (o : Offsets) (feed : ℤ) (geometry : Geometry) →
-    turned_where turn b m o feed ≡ and_then (round turn b m o feed) (path_by m.point geometry)
-unfolding path_by
-round_is None b m o feed geometry = refl
-round_is (Some turn) b m o feed geometry =
+round_is : (turn : ArcDirection) (b : Block) (m : ModalState) (o : Offsets) (feed : ℤ) (geometry : Geometry) →
+    path_along_arc turn b m o feed ≡ and_then (round turn b m o feed) (path_by m.point geometry)
+unfolding path_by path_along_arc
+round_is turn b m o feed geometry =
     after_two (end_of b m o) (λ _. centre_offsets_on b m.modes)
-    (λ end offsets. Turns (pace_of b m feed) (asked_by b m turn end offsets (pace_of b m feed)))
+    (λ end offsets. Turns (fed_pace_of b m feed) (asked_by b m turn end offsets))
     (path_by m.point geometry)
 
-in_cycle_is : (kind : Option CycleKind) (b : Block) (m : ModalState) (o : Offsets) (feed : ℤ) (geometry : Geometry) →
-    cycle_where kind b m o feed geometry ≡ and_then (in_cycle kind b m o feed) (path_by m.point geometry)
-unfolding path_by
-in_cycle_is None b m o feed geometry = refl
-in_cycle_is (Some kind) b m o feed geometry =
+in_cycle_is : (kind : CycleKind) (b : Block) (m : ModalState) (o : Offsets) (feed : ℤ) (geometry : Geometry) →
+    cycle_path kind b m o feed geometry ≡ and_then (in_cycle kind b m o feed) (path_by m.point geometry)
+unfolding path_by cycle_path
+in_cycle_is kind b m o feed geometry =
     after_two (own_words b m.modes) (λ own. cycle_words b m.modes kind own)
     (λ own words. Drills words (context_of b m o feed (kept_for kind m))) (path_by m.point geometry)
 
@@ -126,19 +123,21 @@ homeward_is None b m o geometry = refl
 homeward_is (Some home) b m o geometry = either (has_axis b.values) _ _ _ _ (path_by m.point geometry)
     (after_one (end_of b m o) (λ between. GoesHome between home) (path_by m.point geometry)) refl
 
-straight_is : (b : Block) (m : ModalState) (o : Offsets) (feed : ℤ) (geometry : Geometry) →
-    and_then (straight_end_of b m o) (λ end. Ok (straight_to b m feed end)) ≡ and_then (straight b m o feed) (path_by m.point geometry)
+straight_is : (kind : StraightKind) (b : Block) (m : ModalState) (o : Offsets) (feed : ℤ) (geometry : Geometry) →
+    straight_path kind b m o feed ≡ and_then (straight kind b m o feed) (path_by m.point geometry)
 unfolding path_by
-straight_is b m o feed geometry = after_one (straight_end_of b m o) (λ end. Goes (pace_of b m feed) end) (path_by m.point geometry)
+straight_is kind b m o feed geometry = after_one (straight_end_of b m o) (λ end. Goes (straight_pace kind b m feed) end) (path_by m.point geometry)
+
+path_for_is : (moves : Option Movement) (b : Block) (m : ModalState) (o : Offsets) (table : List ℤ) (feed : ℤ) (geometry : Geometry) →
+    path_for moves b m o table feed geometry ≡ and_then (move_for moves b m o table feed) (path_by m.point geometry)
+path_for_is (Some (movement.Straight kind)) b m o table feed geometry = straight_is kind b m o feed geometry
+path_for_is (Some (movement.Arc turn)) b m o table feed geometry = round_is turn b m o feed geometry
+path_for_is (Some (movement.Cycle kind)) b m o table feed geometry = in_cycle_is kind b m o feed geometry
+path_for_is None b m o table feed geometry = homeward_is (home_on b.g.non_modal table) b m o geometry
 
 pub path_is : (b : Block) (m : ModalState) (o : Offsets) (table : List ℤ) (feed : ℤ) (geometry : Geometry) →
     path_of b m o table feed geometry ≡ and_then (move_by b m o table feed) (path_by m.point geometry)
-unfolding path_along_arc cycle_path
-path_is b m o table feed geometry =
-    either (is_straight b.motion) _ _ _ _ (path_by m.point geometry) (straight_is b m o feed geometry)
-    (either (is_arc b.motion) _ _ _ _ (path_by m.point geometry) (round_is (turn_of b.motion) b m o feed geometry)
-    (either (is_some (kind_of b.motion)) _ _ _ _ (path_by m.point geometry) (in_cycle_is (kind_of b.motion) b m o feed geometry)
-    (homeward_is (home_on b.g.non_modal table) b m o geometry)))
+path_is b m o table feed geometry = path_for_is b.movement b m o table feed geometry
 
 -- ---- the faults of a move
 
@@ -151,7 +150,7 @@ abbrev moved : {X : Type 0} → Geometry → (Path → X) → Result Path Fault 
 moved geometry done found = and_then found (λ path. unless_refused (first_fault (path_faults path geometry)) (Ok (done path)))
 
 turn_first : {X : Type 0} (pace : Option Pace) (asked : AskedArc) (geometry : Geometry) (done : Path → X) →
-    result_err (unless_refused (first_fault (path_faults (turning_at pace (arc_of asked)) geometry)) (Ok (done (turning_at pace (arc_of asked)))))
+    result_err (unless_refused (first_fault (path_faults (turning_at pace (shape_of asked)) geometry)) (Ok (done (turning_at pace (shape_of asked)))))
     ≡ first_fault ((has_no_feed (Turns pace asked), NoFeed) ∷ ((goes_outside (Turns pace asked) geometry, OutsideTravel) ∷ []))
 turn_first None asked geometry done = refl
 turn_first (Some pace) asked geometry done = unless_refused_err _ _
@@ -165,9 +164,9 @@ canned_first : (found : Option Fault) (d : Drill) → result_err (unless found d
 canned_first None d = refl
 canned_first (Some fault) d = refl
 
-moved_turning : {X : Type 0} (r : Result Arc Fault) (pace : Option Pace) (geometry : Geometry) (done : Path → X) →
-    moved geometry done (and_then r (λ arc. Ok (turning_at pace arc))) ≡ and_then r (λ arc. moved geometry done (Ok (turning_at pace arc)))
-moved_turning (Ok arc) pace geometry done = refl
+moved_turning : {X : Type 0} (r : Result ArcShape Fault) (pace : Option Pace) (geometry : Geometry) (done : Path → X) →
+    moved geometry done (and_then r (λ shape. Ok (turning_at pace shape))) ≡ and_then r (λ shape. moved geometry done (Ok (turning_at pace shape)))
+moved_turning (Ok shape) pace geometry done = refl
 moved_turning (Err fault) pace geometry done = refl
 
 move_first : {X : Type 0} (move : Move) (start : Point) (geometry : Geometry) (done : Path → X) →
@@ -179,7 +178,7 @@ move_first (Goes (Some pace) end) start geometry done = unless_refused_err _ _
 move_first (GoesHome between home) start geometry done = unless_refused_err _ _
 move_first (Turns pace asked) start geometry done =
     ap result_err (moved_turning (arc.checked asked) pace geometry done)
-    ∙ stage (first_fault (arc.causes asked)) (arc_of asked) (λ arc. moved geometry done (Ok (turning_at pace arc))) (arc.causes asked)
+    ∙ stage (first_fault (arc.causes asked)) (shape_of asked) (λ shape. moved geometry done (Ok (turning_at pace shape))) (arc.causes asked)
     ((has_no_feed (Turns pace asked), NoFeed) ∷ ((goes_outside (Turns pace asked) geometry, OutsideTravel) ∷ []))
     refl (turn_first pace asked geometry done)
 move_first (Drills w s) start geometry done =
@@ -189,52 +188,21 @@ move_first (Drills w s) start geometry done =
 -- ---- everything that a block computes
 
 -- a cycle's words are kept if its move is found
-pub straight_none : (m : Option Motion) → is_straight m ≡ true → kind_of m ≡ None
-straight_none (Some motion.Traverse) e = refl
-straight_none (Some motion.Feed) e = refl
-straight_none None e = absurd (cc e)
-straight_none (Some motion.Off) e = absurd (cc e)
-straight_none (Some motion.ClockwiseArc) e = absurd (cc e)
-straight_none (Some motion.CounterclockwiseArc) e = absurd (cc e)
-straight_none (Some motion.Drilling) e = absurd (cc e)
-straight_none (Some motion.DrillingWithDwell) e = absurd (cc e)
-straight_none (Some motion.PeckDrilling) e = absurd (cc e)
-straight_none (Some motion.Boring) e = absurd (cc e)
-straight_none (Some motion.BoringWithStop) e = absurd (cc e)
-straight_none (Some motion.BoringWithDwell) e = absurd (cc e)
-
-pub arc_none : (m : Option Motion) → is_arc m ≡ true → kind_of m ≡ None
-arc_none (Some motion.ClockwiseArc) e = refl
-arc_none (Some motion.CounterclockwiseArc) e = refl
-arc_none None e = absurd (cc e)
-arc_none (Some motion.Off) e = absurd (cc e)
-arc_none (Some motion.Traverse) e = absurd (cc e)
-arc_none (Some motion.Feed) e = absurd (cc e)
-arc_none (Some motion.Drilling) e = absurd (cc e)
-arc_none (Some motion.DrillingWithDwell) e = absurd (cc e)
-arc_none (Some motion.PeckDrilling) e = absurd (cc e)
-arc_none (Some motion.Boring) e = absurd (cc e)
-arc_none (Some motion.BoringWithStop) e = absurd (cc e)
-arc_none (Some motion.BoringWithDwell) e = absurd (cc e)
-
 own_found : (r : Result KeptWords Fault) (next : KeptWords → Result Move Fault) (keep : KeptWords → KeptWords) (move : Move) →
     and_then r next ≡ Ok move → (kept : KeptWords) × (and_then r (λ own. Ok (keep own)) ≡ Ok kept)
 own_found (Ok own) next keep move e = (keep own, refl)
 own_found (Err fault) next keep move e = absurd (cc e)
 
-kept_by_kind : (goes turns : Bool) (kind : Option CycleKind) (b : Block) (m : ModalState) (o : Offsets) (feed : ℤ) (x y z : Result Move Fault) (move : Move) →
-    (goes ≡ true → kind ≡ None) → (turns ≡ true → kind ≡ None) →
-    (if goes then x else if turns then y else if is_some kind then in_cycle kind b m o feed else z) ≡ Ok move →
-    (kept : KeptWords) × (kept_where kind b m ≡ Ok kept)
-kept_by_kind goes turns None b m o feed x y z move p q e = (_, refl)
-kept_by_kind true turns (Some kind) b m o feed x y z move p q e = absurd (cc (p refl))
-kept_by_kind false true (Some kind) b m o feed x y z move p q e = absurd (cc (q refl))
-kept_by_kind false false (Some kind) b m o feed x y z move p q e = own_found (own_words b m.modes) _ _ move e
+kept_for_move : (moves : Option Movement) (b : Block) (m : ModalState) (o : Offsets) (table : List ℤ) (feed : ℤ) (move : Move) →
+    move_for moves b m o table feed ≡ Ok move → (kept : KeptWords) × (kept_after moves b m ≡ Ok kept)
+kept_for_move (Some (movement.Cycle kind)) b m o table feed move e = own_found (own_words b m.modes) _ _ move e
+kept_for_move (Some (movement.Straight kind)) b m o table feed move e = (_, refl)
+kept_for_move (Some (movement.Arc turn)) b m o table feed move e = (_, refl)
+kept_for_move None b m o table feed move e = (_, refl)
 
 kept_found : (b : Block) (m : ModalState) (o : Offsets) (table : List ℤ) (feed : ℤ) (move : Move)
     → move_by b m o table feed ≡ Ok move → (kept : KeptWords) × (kept_of b m ≡ Ok kept)
-kept_found b m o table feed move e =
-    kept_by_kind (is_straight b.motion) (is_arc b.motion) (kind_of b.motion) b m o feed _ _ _ move (straight_none b.motion) (arc_none b.motion) e
+kept_found b m o table feed move e = kept_for_move b.movement b m o table feed move e
 
 -- what a valid goal does
 abbrev reached : Geometry → (Goal → Done) → Result Goal Fault → Result Done Fault

@@ -1,7 +1,7 @@
 -- Offsets move nothing; and the state after the program's end.
 use Rattle.std.proofs.Common.{arith, ◌≡◌, ◌≢◌, ◌∙◌, ℕ, ◌≤◌, ℤ, Bool, true, false, not, ◌&&◌, ◌||◌, List, [], ◌∷◌}
-use Rattle.std.proofs.Common.{◌++◌, Option, Some, None, Ok, refl, sym, ap, subst, if◌then◌else◌, length}
-use Rattle.std.specs.Option.{is_some}
+use Rattle.std.proofs.Common.{◌++◌, Option, Some, None, Result, Ok, refl, sym, ap, subst, if◌then◌else◌, length}
+use Rattle.std.specs.Option.{is_some, option_and_then}
 use Rattle.ng_params.specs.Change.{with_changes}
 use Rattle.ng_params.specs.Points.{origin_of, selection}
 use Rattle.ng_params.specs.Params.{at, with_value}
@@ -15,6 +15,9 @@ use Rattle.ng_expr.specs.declared.word.Word.{Word}
 use Rattle.ng_modal.specs.BlockOfWords.{block_of}
 use Rattle.ng_modal.specs.ByLetter.{has_axis}
 use Rattle.ng_modal.specs.Block.{takes_axes, motion_by}
+use Rattle.ng_modal.specs.Movement.{movement_of}
+use Rattle.ng_modal.specs.declared.movement.Movement.{Movement}
+use Rattle.ng_modal.specs.declared.movement.Movement.TheVariants as movement
 use Rattle.ng_modal.specs.declared.requests.NonModal.{NonModal}
 use Rattle.ng_modal.specs.declared.requests.NonModal.TheVariants.{Dwell, SetOrigin, Home, SecondHome}
 use Rattle.ng_modal.specs.declared.requests.NonModal.TheVariants.{MachineCoordinates, SetOffset, ClearOffset}
@@ -22,17 +25,17 @@ use Rattle.ng_modal.specs.declared.requests.NonModal.TheVariants.{DropOffset, Re
 use Rattle.ng_modal.specs.declared.requests.StopWord.{StopWord}
 use Rattle.ng_modal.specs.declared.requests.StopWord.TheVariants as word
 use Rattle.ng_modal.specs.declared.block.Block.{Block}
+use Rattle.ng_num.specs.declared.fault.Fault.{Fault}
 use Rattle.ng_state.specs.declared.modes.Modes.{Modes}
 use Rattle.ng_state.specs.declared.modes.Motion.{Motion}
 use Rattle.ng_offsets.specs.declared.offsets.Offsets.{Offsets}
 use Rattle.ng_state.specs.KeptWords.{no_words, in_force}
 use Rattle.ng_state.specs.declared.kept_words.KeptWords.{KeptWords}
-use Rattle.ng_cycles.specs.declared.words.CycleKind.{CycleKind}
 use Rattle.ng_block.specs.declared.effect.ProgramFlow.TheVariants.{Ends}
 use Rattle.ng_state.specs.declared.modal_state.ModalState.{ModalState}
 use Rattle.ng_block.specs.declared.path.Path.{Path}
 use Rattle.ng_block.specs.declared.path.Path.TheVariants.{Still}
-use Rattle.ng_block.specs.Cycles.{kind_of, own_words, kept_for, kept_beside, kept_where}
+use Rattle.ng_block.specs.Cycles.{own_words, kept_for, kept_beside, kept_after}
 use Rattle.ng_block.specs.Effects.{Done, executed}
 use Rattle.ng_block.specs.Ends.{ends, stop_of}
 use Rattle.ng_block.specs.Goal.{Bearings, ended, bearings_after, Goal, path_of}
@@ -50,10 +53,10 @@ none_moves None false mode e h = refl
 none_moves None true mode e h = absurd (cc h)
 none_moves (Some w) calls mode e h = absurd (cc e)
 
-no_motion : (words : List Word) (m : Modes) → SetsOffsetsAlone (block_of words m) → (block_of words m).motion ≡ None
-no_motion words m h =
+no_movement : (words : List Word) (m : Modes) → SetsOffsetsAlone (block_of words m) → (block_of words m).movement ≡ None
+no_movement words m h =
     let b = block_of words m in
-    none_moves b.g.motion (has_axis b.values && not (takes_axes b.g.non_modal)) m.motion h.no_motion h.no_axis
+    ap (option_and_then movement_of) (none_moves b.g.motion (has_axis b.values && not (takes_axes b.g.non_modal)) m.motion h.no_motion h.no_axis)
 
 no_home : (w : Option NonModal) (table : List ℤ) → sets_at_most w ≡ true → home_on w table ≡ None
 no_home None table e = refl
@@ -67,7 +70,7 @@ no_home (Some Dwell) table e = refl
 no_home (Some Home) table e = absurd (cc e)
 no_home (Some SecondHome) table e = absurd (cc e)
 
-stays : (b : Block) (m : ModalState) (o : Offsets) (table : List ℤ) (feed : ℤ) (geometry : Geometry) → b.motion ≡ None → home_on b.g.non_modal table ≡ None →
+stays : (b : Block) (m : ModalState) (o : Offsets) (table : List ℤ) (feed : ℤ) (geometry : Geometry) → b.movement ≡ None → home_on b.g.non_modal table ≡ None →
     path_of b m o table feed geometry ≡ Ok Still
 stays b m o table feed geometry e h = rw (e, h) refl
 
@@ -86,11 +89,11 @@ pub alone : (s : StateModel) (tools : List ℤ) (geometry : Geometry) (text : Li
 alone s tools geometry text done b e asks h =
     let a = accepted s tools geometry text done e in
     let g = reached a.block a.values.assignments s tools geometry a.goal a.goal_is in
-    let motion : b.motion ≡ None = ap (λ (x : Block). x.motion) asks.block_is
-    ∙ no_motion asks.values.words s.modal.modes (subst SetsOffsetsAlone asks.block_is h) in
+    let unmoved : b.movement ≡ None = ap (λ (x : Block). x.movement) asks.block_is
+    ∙ no_movement asks.values.words s.modal.modes (subst SetsOffsetsAlone asks.block_is h) in
     let table = with_changes s.params a.values.assignments in
     let path : path_of b s.modal g.at.offsets table g.feed geometry ≡ Ok Still = stays b s.modal g.at.offsets table
-    g.feed geometry motion (no_home b.g.non_modal table h.no_way_home) in
+    g.feed geometry unmoved (no_home b.g.non_modal table h.no_way_home) in
     let same : a.goal.path ≡ Still =
     same_ok a.goal.path Still (sym g.path_found
     ∙ ap (λ (x : Block). path_of x s.modal g.at.offsets table g.feed geometry)
@@ -129,9 +132,15 @@ dropped_words true c kept e = refl
 dropped_words false true kept e = refl
 dropped_words false false kept e = absurd (cc e)
 
-kept_none : (kind : Option CycleKind) (b : Block) (m : ModalState) (kept : KeptWords) → ends b.m.stop ≡ true → kept_where kind b m ≡ Ok kept → kept ≡ no_words
-kept_none None b m kept e h = sym (same_ok (kept_beside b m) kept h) ∙ dropped_words (is_some b.g.motion) (ends b.m.stop) m.kept e
-kept_none (Some kind) b m kept e h =
+beside_none : (b : Block) (m : ModalState) (kept : KeptWords) → ends b.m.stop ≡ true
+    → (let found : Result KeptWords Fault = Ok (kept_beside b m) in found ≡ Ok kept) → kept ≡ no_words
+beside_none b m kept e h = sym (same_ok (kept_beside b m) kept h) ∙ dropped_words (is_some b.g.motion) (ends b.m.stop) m.kept e
+
+kept_none : (moves : Option Movement) (b : Block) (m : ModalState) (kept : KeptWords) → ends b.m.stop ≡ true → kept_after moves b m ≡ Ok kept → kept ≡ no_words
+kept_none (Some (movement.Straight kind)) b m kept e h = beside_none b m kept e h
+kept_none (Some (movement.Arc turn)) b m kept e h = beside_none b m kept e h
+kept_none None b m kept e h = beside_none b m kept e h
+kept_none (Some (movement.Cycle kind)) b m kept e h =
     let own = then_ok (own_words b m.modes) (λ own. Ok (if ends b.m.stop then no_words else in_force own (kept_for kind m))) kept h in
     let words = in_force own.0 (kept_for kind m) in
     sym (same_ok (if ends b.m.stop then no_words else words) kept own.2) ∙ dropped_words false (ends b.m.stop) words e
@@ -160,5 +169,5 @@ ended_by s tools geometry text done all e stop =
       m9_mist = rw end refl;
       m9_flood = rw end refl;
       g1 = rw end refl;
-      no_cycle = kept_none (kind_of b.motion) b s.modal a.goal.kept end g.kept_is;
+      no_cycle = kept_none b.movement b s.modal a.goal.kept end g.kept_is;
     })

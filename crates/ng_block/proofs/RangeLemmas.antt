@@ -1,7 +1,6 @@
 -- What a line computes is refused only if it is out of range.
 use Rattle.std.proofs.Common.{◌≡◌, ℕ, ℤ, ◌+ℤ◌, ◌-ℤ◌, Bool, true, false, List, [], ◌∷◌, Option, Some, None, Result, Ok, Err, refl, sym, ◌∙◌, if◌then◌else◌}
 use Rattle.std.specs.Prelude.{nat_le, ◌==◌, unsigned_abs, unwrap_or}
-use Rattle.std.specs.Option.{is_some}
 use Rattle.ng_num.specs.Len.{nm_of}
 use Rattle.ng_num.specs.Range.{greatest, in_range}
 use Rattle.ng_num.specs.Results.{and_then}
@@ -14,7 +13,9 @@ use Rattle.ng_params.specs.declared.change.Change.{Change}
 use Rattle.ng_modal.specs.WholeNumbers.{system_on}
 use Rattle.ng_modal.specs.ByLetter.{has_axis}
 use Rattle.ng_modal.specs.Causes.{is_machine}
-use Rattle.ng_modal.specs.Block.{is_straight, is_arc}
+use Rattle.ng_modal.specs.declared.movement.Movement.{Movement}
+use Rattle.ng_modal.specs.declared.movement.Movement.TheVariants as movement
+use Rattle.ng_modal.specs.declared.movement.StraightKind.{StraightKind}
 use Rattle.ng_modal.specs.declared.requests.NonModal.{NonModal}
 use Rattle.ng_modal.specs.declared.requests.NonModal.TheVariants.{Dwell, SetOrigin, Home, SecondHome}
 use Rattle.ng_modal.specs.declared.requests.NonModal.TheVariants.{MachineCoordinates, SetOffset, ClearOffset}
@@ -31,12 +32,12 @@ use Rattle.ng_offsets.specs.declared.named.Named.{Named}
 use Rattle.ng_offsets.specs.declared.offsets.Offsets.{Offsets}
 use Rattle.ng_cycles.specs.declared.words.CycleKind.{CycleKind}
 use Rattle.ng_state.specs.declared.modal_state.ModalState.{ModalState}
-use Rattle.ng_block.specs.Arcs.{turn_of, centre_offsets_on}
-use Rattle.ng_block.specs.Asked.{straight, round, in_cycle, homeward, move_by}
+use Rattle.ng_block.specs.Arcs.{centre_offsets_on}
+use Rattle.ng_block.specs.Asked.{straight, round, in_cycle, homeward, move_for, move_by}
 use Rattle.ng_block.specs.AxisData.{unit_after, no_axis_data, named_on, system_after, with_system, with_origin}
 use Rattle.ng_block.specs.AxisData.{with_offset, axis_data_by, axis_data_of, offsets_after}
 use Rattle.ng_block.specs.Motion.{feed_word, feed_by, feed_of, feed_mode_after, program_coordinate, coordinate, end_of, straight_end_of}
-use Rattle.ng_block.specs.Cycles.{kind_of, own_words, cycle_words}
+use Rattle.ng_block.specs.Cycles.{own_words, cycle_words}
 use Rattle.ng_block.specs.Homes.{home_on}
 use Rattle.ng_block.specs.Shifts.{shift_of}
 use Rattle.ng_block.specs.ToolLength.{offsets_after_length}
@@ -202,20 +203,18 @@ far_own b m =
     far_then (length_by b.values.z (unit_after b m)) _ (far_length b.values.z (unit_after b m)) (λ _.
     far_then (length_by b.values.q (unit_after b m)) _ (far_length b.values.q (unit_after b m)) (λ _. found _)))
 
-far_straight : (b : Block) (m : ModalState) (o : Offsets) (feed : ℤ) → OnlyFar (straight b m o feed)
-far_straight b m o feed = far_then (straight_end_of b m o) _ (far_straight_end b m o) (λ _. found _)
+far_straight : (kind : StraightKind) (b : Block) (m : ModalState) (o : Offsets) (feed : ℤ) → OnlyFar (straight kind b m o feed)
+far_straight kind b m o feed = far_then (straight_end_of b m o) _ (far_straight_end b m o) (λ _. found _)
 
-far_round : (turn : Option ArcDirection) (b : Block) (m : ModalState) (o : Offsets) (feed : ℤ) → OnlyFar (round turn b m o feed)
-far_round None b m o feed = found _
-far_round (Some turn) b m o feed =
+far_round : (turn : ArcDirection) (b : Block) (m : ModalState) (o : Offsets) (feed : ℤ) → OnlyFar (round turn b m o feed)
+far_round turn b m o feed =
     far_then (end_of b m o) _ (far_end b m o) (λ _.
     far_then (centre_offsets_on b m.modes) _
     (far_then (named_by b.values.i b.values.j b.values.k (unit_after b m.modes)) _
     (far_named b.values.i b.values.j b.values.k (unit_after b m.modes)) (λ _. found _)) (λ _. found _))
 
-far_in_cycle : (kind : Option CycleKind) (b : Block) (m : ModalState) (o : Offsets) (feed : ℤ) → OnlyFar (in_cycle kind b m o feed)
-far_in_cycle None b m o feed = found _
-far_in_cycle (Some kind) b m o feed =
+far_in_cycle : (kind : CycleKind) (b : Block) (m : ModalState) (o : Offsets) (feed : ℤ) → OnlyFar (in_cycle kind b m o feed)
+far_in_cycle kind b m o feed =
     far_then (own_words b m.modes) _ (far_own b m.modes) (λ own.
     far_then (cycle_words b m.modes kind own) _ (far_then (named_on b m.modes) _ (far_named_on b m.modes) (λ _. found _)) (λ _. found _))
 
@@ -223,9 +222,12 @@ far_homeward : (home : Option Point) (b : Block) (m : ModalState) (o : Offsets) 
 far_homeward None b m o = found _
 far_homeward (Some home) b m o = far_if (has_axis b.values) _ _ (far_then (end_of b m o) _ (far_end b m o) (λ _. found _)) (found _)
 
+far_move_for : (moves : Option Movement) (b : Block) (m : ModalState) (o : Offsets) (table : List ℤ) (feed : ℤ)
+    → OnlyFar (move_for moves b m o table feed)
+far_move_for (Some (movement.Straight kind)) b m o table feed = far_straight kind b m o feed
+far_move_for (Some (movement.Arc turn)) b m o table feed = far_round turn b m o feed
+far_move_for (Some (movement.Cycle kind)) b m o table feed = far_in_cycle kind b m o feed
+far_move_for None b m o table feed = far_homeward (home_on b.g.non_modal table) b m o
+
 pub far_move : (b : Block) (m : ModalState) (o : Offsets) (table : List ℤ) (feed : ℤ) → OnlyFar (move_by b m o table feed)
-far_move b m o table feed =
-    far_if (is_straight b.motion) _ _ (far_straight b m o feed)
-    (far_if (is_arc b.motion) _ _ (far_round (turn_of b.motion) b m o feed)
-    (far_if (is_some (kind_of b.motion)) _ _ (far_in_cycle (kind_of b.motion) b m o feed)
-    (far_homeward (home_on b.g.non_modal table) b m o)))
+far_move b m o table feed = far_move_for b.movement b m o table feed

@@ -1,7 +1,6 @@
 -- The segments of a valid block join, and stay inside the travel: those of its path do, and no others move.
 use Rattle.std.proofs.Common.{arith, ◌≡◌, ◌∙◌, ℕ, zero, suc, ℤ, Bool, true, false, not, ◌&&◌, ◌||◌, List, [], ◌∷◌}
 use Rattle.std.proofs.Common.{◌++◌, Option, Some, None, Result, Ok, Err, refl, sym, ap, subst, if◌then◌else◌, cond}
-use Rattle.std.specs.Option.{is_some}
 use Rattle.std.specs.Ordering.{int_eq}
 use Rattle.std.specs.List.{All, list_any}
 use Rattle.std.proofs.lemmas.List.Sums.{fold-append}
@@ -16,17 +15,19 @@ use Rattle.ng_canon.specs.declared.outputs.Outputs.{Outputs}
 use Rattle.ng_canon.specs.declared.pace.Pace.{Pace}
 use Rattle.ng_canon.specs.declared.pace.Pace.TheVariants as pace
 use Rattle.ng_canon.specs.declared.plane.ArcDirection.{ArcDirection}
-use Rattle.ng_canon.specs.declared.segment.Arc.{Arc}
 use Rattle.ng_canon.specs.declared.segment.Segment.{Segment}
 use Rattle.ng_canon.specs.declared.segment.Segment.TheVariants as segment
 use Rattle.ng_words.specs.Line.{last_comment}
 use Rattle.ng_num.specs.Causes.{first_fault}
 use Rattle.ng_num.proofs.FirstFaultLemmas.{none_holds, unless_ok}
 use Rattle.ng_modal.specs.ByLetter.{has_axis}
-use Rattle.ng_modal.specs.Block.{is_straight, is_arc}
+use Rattle.ng_modal.specs.declared.movement.Movement.{Movement}
+use Rattle.ng_modal.specs.declared.movement.Movement.TheVariants as movement
+use Rattle.ng_modal.specs.declared.movement.StraightKind.{StraightKind}
 use Rattle.ng_modal.specs.declared.requests.StopWord.{StopWord}
 use Rattle.ng_modal.specs.declared.block.Block.{Block}
-use Rattle.ng_arc.specs.Asked.{arc_of}
+use Rattle.ng_arc.specs.Asked.{shape_of}
+use Rattle.ng_arc.specs.declared.shape.ArcShape.{ArcShape}
 use Rattle.ng_arc.specs.Checking as arc
 use Rattle.ng_arc.specs.Extremes.{extremes_inside}
 use Rattle.ng_offsets.specs.declared.offsets.Offsets.{Offsets}
@@ -44,10 +45,10 @@ use Rattle.ng_block.specs.declared.path.Path.TheVariants as path
 use Rattle.ng_block.specs.declared.action.Action.{Action}
 use Rattle.ng_block.specs.declared.action.Action.TheVariants as action
 use Rattle.ng_block.specs.Action.{action_outputs, action_segments, actions_segments, outputs_after}
-use Rattle.ng_block.specs.Arcs.{turn_of, turning_at, centre_offsets_on, asked_by}
-use Rattle.ng_block.specs.Asked.{Move, Stays, Goes, Turns, GoesHome, Drills, pace_of, straight, round, in_cycle, homeward, move_by}
-use Rattle.ng_block.specs.Motion.{end_of, straight_end_of}
-use Rattle.ng_block.specs.Cycles.{kind_of, own_words, cycle_words, kept_for, context_of}
+use Rattle.ng_block.specs.Arcs.{turning_at, centre_offsets_on, asked_by}
+use Rattle.ng_block.specs.Asked.{Move, Stays, Goes, Turns, GoesHome, Drills, straight, round, in_cycle, homeward, move_for, move_by}
+use Rattle.ng_block.specs.Motion.{fed_pace_of, straight_pace, end_of, straight_end_of}
+use Rattle.ng_block.specs.Cycles.{own_words, cycle_words, kept_for, context_of}
 use Rattle.ng_block.specs.Effects.{Done, plan_of, executed}
 use Rattle.ng_block.specs.Ends.{ends, turned_off, stop_segments}
 use Rattle.ng_block.specs.Faults.{stays_inside, path_faults}
@@ -183,10 +184,10 @@ BeginsAt start (Turns pace asked) = asked.start ≡ start
 BeginsAt start (Drills w s) = s.point ≡ start
 BeginsAt start _ = Unit {0}
 
-turning_joins : (start : Point) (pace : Option Pace) (arc : Arc) → arc.start ≡ start
-    → Joins start (path_segments (turning_at pace arc)) (point_after (turning_at pace arc) start)
-turning_joins start None arc e = refl
-turning_joins start (Some pace) arc e = (e, refl)
+turning_joins : (start : Point) (pace : Option Pace) (shape : ArcShape) → shape.start ≡ start
+    → Joins start (path_segments (turning_at pace shape)) (point_after (turning_at pace shape) start)
+turning_joins start None shape e = refl
+turning_joins start (Some pace) shape e = (e, refl)
 
 path_joins : (start : Point) (geometry : Geometry) (move : Move) (p : Path) → BeginsAt start move
     → path_by start geometry move ≡ Ok p → Joins start (path_segments p) (point_after p start)
@@ -200,11 +201,11 @@ path_joins start geometry (GoesHome between home) p h e =
     subst (λ (q : Path). Joins start (path_segments q) (point_after q start))
     (same_ok (path.Homing (record { start = start; between = between; home = home })) p e) (refl, (refl, refl))
 path_joins start geometry (Turns pace asked) p h e =
-    let found = then_ok (arc.checked asked) (λ a. Ok (turning_at pace a)) p e in
-    let is : arc_of asked ≡ found.0 = (unless_ok (first_fault (arc.causes asked)) (arc_of asked) found.0 found.1).1 in
+    let found = then_ok (arc.checked asked) (λ shape. Ok (turning_at pace shape)) p e in
+    let is : shape_of asked ≡ found.0 = (unless_ok (first_fault (arc.causes asked)) (shape_of asked) found.0 found.1).1 in
     subst (λ (q : Path). Joins start (path_segments q) (point_after q start))
     (same_ok (turning_at pace found.0) p found.2)
-    (turning_joins start pace found.0 (ap (λ (a : Arc). a.start) (sym is) ∙ h))
+    (turning_joins start pace found.0 (ap (λ (shape : ArcShape). shape.start) (sym is) ∙ h))
 path_joins start geometry (Drills w s) p h e =
     let found = then_ok (cycle.canned_of w s geometry) (λ d. Ok (path.Cycle d)) p e in
     let is = unless_ok (first_fault (cycle.causes w s geometry)) (cycle.drill_of w s) found.0 found.1 in
@@ -228,19 +229,17 @@ begins_then : {X : Type 0} (start : Point) (r : Result X Fault) (next : X → Re
 begins_then start (Ok x) next h move e = h x move e
 begins_then start (Err fault) next h move e = absurd (cc e)
 
-straight_begins : (b : Block) (m : ModalState) (o : Offsets) (feed : ℤ) → Begins m.point (straight b m o feed)
-straight_begins b m o feed = begins_then m.point (straight_end_of b m o) _ (λ end. begins_ok m.point (Goes (pace_of b m feed) end) tt)
+straight_begins : (kind : StraightKind) (b : Block) (m : ModalState) (o : Offsets) (feed : ℤ) → Begins m.point (straight kind b m o feed)
+straight_begins kind b m o feed = begins_then m.point (straight_end_of b m o) _ (λ end. begins_ok m.point (Goes (straight_pace kind b m feed) end) tt)
 
-round_begins : (turn : Option ArcDirection) (b : Block) (m : ModalState) (o : Offsets) (feed : ℤ) → Begins m.point (round turn b m o feed)
-round_begins None b m o feed = begins_ok m.point Stays tt
-round_begins (Some turn) b m o feed =
+round_begins : (turn : ArcDirection) (b : Block) (m : ModalState) (o : Offsets) (feed : ℤ) → Begins m.point (round turn b m o feed)
+round_begins turn b m o feed =
     begins_then m.point (end_of b m o) _ (λ end.
     begins_then m.point (centre_offsets_on b m.modes) _ (λ offsets.
-    begins_ok m.point (Turns (pace_of b m feed) (asked_by b m turn end offsets (pace_of b m feed))) refl))
+    begins_ok m.point (Turns (fed_pace_of b m feed) (asked_by b m turn end offsets)) refl))
 
-in_cycle_begins : (kind : Option CycleKind) (b : Block) (m : ModalState) (o : Offsets) (feed : ℤ) → Begins m.point (in_cycle kind b m o feed)
-in_cycle_begins None b m o feed = begins_ok m.point Stays tt
-in_cycle_begins (Some kind) b m o feed =
+in_cycle_begins : (kind : CycleKind) (b : Block) (m : ModalState) (o : Offsets) (feed : ℤ) → Begins m.point (in_cycle kind b m o feed)
+in_cycle_begins kind b m o feed =
     begins_then m.point (own_words b m.modes) _ (λ own.
     begins_then m.point (cycle_words b m.modes kind own) _ (λ words. begins_ok m.point (Drills words (context_of b m o feed (kept_for kind m))) refl))
 
@@ -251,12 +250,15 @@ homeward_begins (Some home) b m o =
     (begins_then m.point (end_of b m o) _ (λ between. begins_ok m.point (GoesHome between home) tt))
     (begins_ok m.point (Goes (Some pace.Traverse) home) tt)
 
+move_for_begins : (moves : Option Movement) (b : Block) (m : ModalState) (o : Offsets) (table : List ℤ) (feed : ℤ)
+    → Begins m.point (move_for moves b m o table feed)
+move_for_begins (Some (movement.Straight kind)) b m o table feed = straight_begins kind b m o feed
+move_for_begins (Some (movement.Arc turn)) b m o table feed = round_begins turn b m o feed
+move_for_begins (Some (movement.Cycle kind)) b m o table feed = in_cycle_begins kind b m o feed
+move_for_begins None b m o table feed = homeward_begins (home_on b.g.non_modal table) b m o
+
 move_begins : (b : Block) (m : ModalState) (o : Offsets) (table : List ℤ) (feed : ℤ) → Begins m.point (move_by b m o table feed)
-move_begins b m o table feed =
-    begins_if m.point (is_straight b.motion) _ _ (straight_begins b m o feed)
-    (begins_if m.point (is_arc b.motion) _ _ (round_begins (turn_of b.motion) b m o feed)
-    (begins_if m.point (is_some (kind_of b.motion)) _ _ (in_cycle_begins (kind_of b.motion) b m o feed)
-    (homeward_begins (home_on b.g.non_modal table) b m o)))
+move_begins b m o table feed = move_for_begins b.movement b m o table feed
 
 -- ---- the segments of a block join
 
@@ -338,9 +340,9 @@ no_drill_goes : (pace : Option Pace) (start end : Point) (d : Drill) → moving_
 no_drill_goes None start end d e = cc e
 no_drill_goes (Some pace) start end d e = cc e
 
-no_drill_turns : (pace : Option Pace) (arc : Arc) (d : Drill) → turning_at pace arc ≡ path.Cycle d → ⊥
-no_drill_turns None arc d e = cc e
-no_drill_turns (Some pace) arc d e = cc e
+no_drill_turns : (pace : Option Pace) (shape : ArcShape) (d : Drill) → turning_at pace shape ≡ path.Cycle d → ⊥
+no_drill_turns None shape d e = cc e
+no_drill_turns (Some pace) shape d e = cc e
 
 drilled : (start : Point) (g : Geometry) (move : Move) (d : Drill) → path_by start g move ≡ Ok (path.Cycle d) → cycle.leaves_travel g d ≡ false
 unfolding path_by
@@ -348,7 +350,7 @@ drilled start g Stays d e = absurd (cc e)
 drilled start g (Goes pace end) d e = absurd (no_drill_goes pace start end d (same_ok (moving_at pace start end) (path.Cycle d) e))
 drilled start g (GoesHome between home) d e = absurd (cc e)
 drilled start g (Turns pace asked) d e =
-    let found = then_ok (arc.checked asked) (λ a. Ok (turning_at pace a)) (path.Cycle d) e in
+    let found = then_ok (arc.checked asked) (λ shape. Ok (turning_at pace shape)) (path.Cycle d) e in
     absurd (no_drill_turns pace found.0 d (same_ok (turning_at pace found.0) (path.Cycle d) found.2))
 drilled start g (Drills w s) d e =
     let found = then_ok (cycle.canned_of w s g) (λ x. Ok (path.Cycle x)) (path.Cycle d) e in

@@ -67,7 +67,7 @@ actions_at b mode before shown Units = with_value action.LengthUnits b.g.unit
 actions_at b mode before shown ToolLength = with_value action.ToolLength shown.tool_length
 actions_at b mode before shown CoordinateSystem = with_value action.OriginOffsets shown.system
 actions_at b mode before shown AxisData = with_value action.OriginOffsets shown.axis_data
-actions_at b mode before shown Motion = with_value action.InverseTime (time_word mode b.motion b.values.f)
+actions_at b mode before shown Motion = with_value action.InverseTime (time_word mode b.movement b.values.f)
 actions_at b mode before shown _ = []
 
 -- the actions of a block, given the outputs before it and what it prints of offsets

@@ -1,7 +1,6 @@
 -- What a line asks for, even if it is refused: its pieces, their values, and the move that these ask for (NISTIR 6556,
 -- 3.3, 3.5).
 use Rattle.std.specs.Prelude.{ℕ, ℤ, List, [], ◌∷◌, Option, Some, None, false, if◌then◌else◌, Result, Ok, Err}
-use Rattle.std.specs.Option.{is_some}
 use Rattle.std.specs.Result.{result_unwrap_or}
 use Rattle.ng_num.specs.Results.{and_then}
 use Rattle.ng_num.specs.declared.fault.Fault.{Fault}
@@ -15,7 +14,9 @@ use Rattle.ng_words.specs.Grammar.{ParsedLine, Piece}
 use Rattle.ng_expr.specs.Settle.{Settled, nothing, followed, given}
 use Rattle.ng_arc.specs.declared.asked.AskedArc.{AskedArc}
 use Rattle.ng_modal.specs.ByLetter.{has_axis}
-use Rattle.ng_modal.specs.Block.{is_straight, is_arc}
+use Rattle.ng_modal.specs.declared.movement.Movement.{Movement}
+use Rattle.ng_modal.specs.declared.movement.Movement.TheVariants as movement
+use Rattle.ng_modal.specs.declared.movement.StraightKind.{StraightKind}
 use Rattle.ng_modal.specs.declared.block.Block.{Block}
 use Rattle.ng_offsets.specs.declared.offsets.Offsets.{Offsets}
 use Rattle.ng_cycles.specs.declared.words.CycleWords.{CycleWords}
@@ -23,9 +24,9 @@ use Rattle.ng_cycles.specs.declared.words.CycleKind.{CycleKind}
 use Rattle.ng_cycles.specs.declared.words.CycleContext.{CycleContext}
 use Rattle.ng_state.specs.declared.modal_state.ModalState.{ModalState}
 use Rattle.ng_block.specs.declared.shifts.Shifted.{Shifted}
-use Rattle.ng_block.specs.Arcs.{turn_of, centre_offsets_on, asked_by}
-use Rattle.ng_block.specs.Motion.{feed_of, feed_mode_after, pace_by, end_of, straight_end_of}
-use Rattle.ng_block.specs.Cycles.{kind_of, kept_for, own_words, cycle_words, context_of}
+use Rattle.ng_block.specs.Arcs.{centre_offsets_on, asked_by}
+use Rattle.ng_block.specs.Motion.{feed_of, fed_pace_of, straight_pace, end_of, straight_end_of}
+use Rattle.ng_block.specs.Cycles.{kept_for, own_words, cycle_words, context_of}
 use Rattle.ng_block.specs.Homes.{home_on}
 use Rattle.ng_block.specs.Shifts.{shift_of}
 
@@ -67,22 +68,17 @@ pub data Move : Type 0 where
   GoesHome : Point → Point → Move  -- to an intermediate point, and on from there to the home
   Drills : CycleWords → CycleContext → Move  -- in a canned cycle
 
-abbrev pub pace_of : Block → ModalState → ℤ → Option Pace
-pace_of b m feed = pace_by b.motion (feed_mode_after b m.modes) feed b.values.f
+abbrev pub straight : StraightKind → Block → ModalState → Offsets → ℤ → Result Move Fault
+straight kind b m o feed = and_then (straight_end_of b m o) (λ end. Ok (Goes (straight_pace kind b m feed) end))
 
-abbrev pub straight : Block → ModalState → Offsets → ℤ → Result Move Fault
-straight b m o feed = and_then (straight_end_of b m o) (λ end. Ok (Goes (pace_of b m feed) end))
-
-abbrev pub round : Option ArcDirection → Block → ModalState → Offsets → ℤ → Result Move Fault
-round None b m o feed = Ok Stays
-round (Some turn) b m o feed =
+abbrev pub round : ArcDirection → Block → ModalState → Offsets → ℤ → Result Move Fault
+round turn b m o feed =
     and_then (end_of b m o) (λ end.
     and_then (centre_offsets_on b m.modes) (λ offsets.
-    Ok (Turns (pace_of b m feed) (asked_by b m turn end offsets (pace_of b m feed)))))
+    Ok (Turns (fed_pace_of b m feed) (asked_by b m turn end offsets))))
 
-abbrev pub in_cycle : Option CycleKind → Block → ModalState → Offsets → ℤ → Result Move Fault
-in_cycle None b m o feed = Ok Stays
-in_cycle (Some kind) b m o feed =
+abbrev pub in_cycle : CycleKind → Block → ModalState → Offsets → ℤ → Result Move Fault
+in_cycle kind b m o feed =
     and_then (own_words b m.modes) (λ own.
     and_then (cycle_words b m.modes kind own) (λ words.
     Ok (Drills words (context_of b m o feed (kept_for kind m)))))
@@ -96,12 +92,14 @@ homeward (Some home) b m o =
 
 -- the move from the machine's position, under these offsets and at this feed; or E3 if a length that its words name is
 -- out of range
+abbrev pub move_for : Option Movement → Block → ModalState → Offsets → List ℤ → ℤ → Result Move Fault
+move_for (Some (movement.Straight kind)) b m o table feed = straight kind b m o feed
+move_for (Some (movement.Arc turn)) b m o table feed = round turn b m o feed
+move_for (Some (movement.Cycle kind)) b m o table feed = in_cycle kind b m o feed
+move_for None b m o table feed = homeward (home_on b.g.non_modal table) b m o
+
 abbrev pub move_by : Block → ModalState → Offsets → List ℤ → ℤ → Result Move Fault
-move_by b m o table feed =
-    if is_straight b.motion then straight b m o feed
-    else if is_arc b.motion then round (turn_of b.motion) b m o feed
-    else if is_some (kind_of b.motion) then in_cycle (kind_of b.motion) b m o feed
-    else homeward (home_on b.g.non_modal table) b m o
+move_by b m o table feed = move_for b.movement b m o table feed
 
 abbrev pub move_on : Block → ModalState → List ℤ → List ℤ → Result Move Fault
 move_on b m table lengths = move_by b m (offsets_at_motion b m table lengths) table (feed_at_motion b m)

@@ -1,6 +1,6 @@
 -- Why a line is refused: all faults, each with its cause, in the order in which they are checked (own; NISTIR 6556, 3.3
 -- to 3.8). Each cause is about what the line asks for, even if the line is refused for another one.
-use Rattle.std.specs.Prelude.{ℕ, ℤ, int_lt, Bool, true, false, ◌||◌, List, [], ◌∷◌, ◌++◌, length, is_none, is_err, Result, Ok, Err}
+use Rattle.std.specs.Prelude.{ℕ, ℤ, int_lt, Bool, true, false, ◌||◌, List, [], ◌∷◌, ◌++◌, length, Some, None, is_none, is_err, Result, Ok, Err}
 use Rattle.std.specs.List.{list_any}
 use Rattle.std.specs.Result.{result_unwrap_or}
 use Rattle.ng_num.specs.declared.fault.Fault.{Fault}
@@ -14,7 +14,8 @@ use Rattle.ng_expr.specs.Settle.{Settled, given}
 use Rattle.ng_modal.specs.BlockOfWords.{block_of}
 use Rattle.ng_modal.specs.Checking.{faults}
 use Rattle.ng_modal.specs.declared.block.Block.{Block}
-use Rattle.ng_arc.specs.Asked.{arc_of}
+use Rattle.ng_arc.specs.Asked.{shape_of}
+use Rattle.ng_arc.specs.Shape.{arc_at}
 use Rattle.ng_arc.specs.Checking.{is_centre_beyond, arc_causes}
 use Rattle.ng_cycles.specs.Faults.{drill_of, names_no_axis, work_causes, leaves_travel}
 use Rattle.ng_cycles.specs.Heights.{lengths, is_far}
@@ -51,7 +52,7 @@ computes_beyond b m table tools =
 
 -- C1 to C4 of an arc
 abbrev pub arc_faults : Move → List (Bool × Fault)
-arc_faults (Turns pace asked) = arc_causes asked (arc_of asked)
+arc_faults (Turns pace asked) = arc_causes asked (shape_of asked)
 arc_faults _ = []
 
 -- Y1 to Y8 of a canned cycle
@@ -77,11 +78,13 @@ has_no_feed (Turns pace asked) = is_none pace
 has_no_feed (Drills w s) = is_none (above_zero s.feed_per_min)
 has_no_feed _ = false
 
--- X2, of a straight move, an arc and a way home; of a cycle, if one of its moves ends outside the travel
+-- X2, of a straight move, an arc and a way home; of a cycle, if one of its moves ends outside the travel. An arc without
+-- a pace has X1, and X2 is asked after it
 abbrev pub goes_outside : Move → Geometry → Bool
 goes_outside Stays geometry = false
 goes_outside (Goes pace end) geometry = ends_outside geometry end
-goes_outside (Turns pace asked) geometry = turns_outside geometry (arc_of asked)
+goes_outside (Turns None asked) geometry = false
+goes_outside (Turns (Some pace) asked) geometry = turns_outside geometry (arc_at (shape_of asked) pace)
 goes_outside (GoesHome between home) geometry = homes_outside geometry between home
 goes_outside (Drills w s) geometry = leaves_travel geometry (drill_of w s)
 

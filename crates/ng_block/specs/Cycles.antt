@@ -1,5 +1,5 @@
 -- G81 to G89: the canned cycle that a line asks for, and the words that it keeps (NISTIR 6556, 3.5.16).
-use Rattle.std.specs.Prelude.{ℤ, Bool, true, false, ◌||◌, Option, Some, None, unwrap_or, Result, Ok, if◌then◌else◌}
+use Rattle.std.specs.Prelude.{ℤ, Bool, true, false, ◌||◌, Option, Some, unwrap_or, Result, Ok, if◌then◌else◌}
 use Rattle.std.specs.Option.{is_some}
 use Rattle.ng_num.specs.Results.{and_then}
 use Rattle.ng_num.specs.declared.fault.Fault.{Fault}
@@ -8,8 +8,9 @@ use Rattle.ng_canon.specs.declared.outputs.Outputs.{Outputs}
 use Rattle.ng_modal.specs.WholeNumbers.{repeats_on}
 use Rattle.ng_modal.specs.declared.block.Block.{Block}
 use Rattle.ng_state.specs.declared.modes.Modes.{Modes}
-use Rattle.ng_state.specs.declared.modes.Motion.{Motion}
-use Rattle.ng_state.specs.declared.modes.Motion.TheVariants as motion
+use Rattle.ng_modal.specs.Movement.{movement_of}
+use Rattle.ng_modal.specs.declared.movement.Movement.{Movement}
+use Rattle.ng_modal.specs.declared.movement.Movement.TheVariants as movement
 use Rattle.ng_state.specs.declared.modes.Distance.{Distance}
 use Rattle.ng_state.specs.declared.modes.Distance.TheVariants.{Absolute, Incremental}
 use Rattle.ng_state.specs.declared.modes.Retract.{Retract}
@@ -25,7 +26,7 @@ use Rattle.ng_cycles.specs.declared.words.CycleKind.TheVariants.{Drilling, Drill
 use Rattle.ng_cycles.specs.declared.words.CycleContext.{CycleContext}
 use Rattle.ng_state.specs.declared.modal_state.ModalState.{ModalState}
 use Rattle.ng_block.specs.declared.path.Path.{Path}
-use Rattle.ng_block.specs.declared.path.Path.TheVariants.{Still, Cycle}
+use Rattle.ng_block.specs.declared.path.Path.TheVariants.{Cycle}
 use Rattle.ng_block.specs.Action.{outputs_after}
 use Rattle.ng_block.specs.Actions.{actions_of}
 use Rattle.ng_block.specs.AxisData.{unit_after, named_on}
@@ -33,16 +34,7 @@ use Rattle.ng_block.specs.Motion.{feed_mode_after, is_inverse}
 use Rattle.ng_block.specs.Ends.{ends}
 use Rattle.ng_block.specs.Shifts.{nothing_shown}
 
--- the kind of cycle of a motion; `None` if it isn't a cycle
-abbrev pub kind_of : Option Motion → Option CycleKind
-kind_of (Some motion.Drilling) = Some Drilling
-kind_of (Some motion.DrillingWithDwell) = Some DrillingWithDwell
-kind_of (Some motion.PeckDrilling) = Some PeckDrilling
-kind_of (Some motion.Boring) = Some Boring
-kind_of (Some motion.BoringWithStop) = Some BoringWithStop
-kind_of (Some motion.BoringWithDwell) = Some BoringWithDwell
-kind_of _ = None
-
+-- one kind of cycle is the other
 abbrev pub is_same : CycleKind → CycleKind → Bool
 is_same Drilling Drilling = true
 is_same DrillingWithDwell DrillingWithDwell = true
@@ -63,12 +55,12 @@ own_words b m =
     Ok (record { r = r; z = z; p = b.values.p; q = q }))))
 
 -- the words that were kept for a cycle; there are none if the motion mode before the line was another
-abbrev pub kept_by : CycleKind → Option CycleKind → KeptWords → KeptWords
-kept_by kind None kept = no_words
-kept_by kind (Some before) kept = if is_same kind before then kept else no_words
+abbrev pub kept_by : CycleKind → Option Movement → KeptWords → KeptWords
+kept_by kind (Some (movement.Cycle before)) kept = if is_same kind before then kept else no_words
+kept_by kind _ kept = no_words
 
 abbrev pub kept_for : CycleKind → ModalState → KeptWords
-kept_for kind m = kept_by kind (kind_of (Some m.modes.motion)) m.kept
+kept_for kind m = kept_by kind (movement_of m.modes.motion) m.kept
 
 -- another motion, G80 and the program's end drop the words that were kept
 abbrev pub kept_beside : Block → ModalState → KeptWords
@@ -79,12 +71,12 @@ abbrev pub kept_in : CycleKind → Block → ModalState → Result KeptWords Fau
 kept_in kind b m = and_then (own_words b m.modes) (λ own. Ok (if ends b.m.stop then no_words else in_force own (kept_for kind m)))
 
 -- the words kept after the line
-abbrev pub kept_where : Option CycleKind → Block → ModalState → Result KeptWords Fault
-kept_where None b m = Ok (kept_beside b m)
-kept_where (Some kind) b m = kept_in kind b m
+abbrev pub kept_after : Option Movement → Block → ModalState → Result KeptWords Fault
+kept_after (Some (movement.Cycle kind)) b m = kept_in kind b m
+kept_after _ b m = Ok (kept_beside b m)
 
 abbrev pub kept_of : Block → ModalState → Result KeptWords Fault
-kept_of b m = kept_where (kind_of b.motion) b m
+kept_of b m = kept_after b.movement b m
 
 -- ---- the cycle
 
@@ -119,18 +111,10 @@ context_of b m o feed kept = record {
   kept = kept;
 }
 
--- the cycle; or E3 if a computed length is out of range, or else the first of Y1 to Y8, X1 and X2
-abbrev pub cycle_of : Block → ModalState → Offsets → ℤ → Geometry → CycleKind → Result Path Fault
-cycle_of b m o feed geometry kind =
+-- the path in the cycle; or E3 if a computed length is out of range, or else the first of Y1 to Y8, X1 and X2
+unfoldable pub cycle_path : CycleKind → Block → ModalState → Offsets → ℤ → Geometry → Result Path Fault
+cycle_path kind b m o feed geometry =
     and_then (own_words b m.modes) (λ own.
     and_then (cycle_words b m.modes kind own) (λ words.
     and_then (canned_of words (context_of b m o feed (kept_for kind m)) geometry) (λ drill.
     Ok (Cycle drill))))
-
--- the path of a line's motion; still if the motion isn't a cycle
-abbrev pub cycle_where : Option CycleKind → Block → ModalState → Offsets → ℤ → Geometry → Result Path Fault
-cycle_where None b m o feed geometry = Ok Still
-cycle_where (Some kind) b m o feed geometry = cycle_of b m o feed geometry kind
-
-unfoldable pub cycle_path : Block → ModalState → Offsets → ℤ → Geometry → Result Path Fault
-cycle_path b m o feed geometry = cycle_where (kind_of b.motion) b m o feed geometry

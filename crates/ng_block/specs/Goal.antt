@@ -1,16 +1,16 @@
 -- Where a line takes the machine: all its lengths, computed before any of its commands (NISTIR 6556, 3.5). Its
 -- assignments act first, so origins, homes and stored offsets are those of the table that they leave.
 use Rattle.std.specs.Prelude.{ℕ, ℤ, List, [], ◌∷◌, ◌++◌, Option, Some, None, Result, Ok, if◌then◌else◌}
-use Rattle.std.specs.Option.{is_some}
 use Rattle.ng_num.specs.Point.{zero_point}
 use Rattle.ng_num.specs.declared.fault.Fault.{Fault}
-use Rattle.ng_num.specs.declared.point.Point.{Point}
 use Rattle.ng_params.specs.Points.{origin_of, selection}
 use Rattle.ng_params.specs.Change.{with_changes}
 use Rattle.ng_params.specs.declared.change.Change.{Change}
 use Rattle.ng_num.specs.Results.{and_then}
 use Rattle.ng_canon.specs.declared.geometry.Geometry.{Geometry}
-use Rattle.ng_modal.specs.Block.{is_straight, is_arc}
+use Rattle.ng_modal.specs.declared.movement.Movement.{Movement}
+use Rattle.ng_modal.specs.declared.movement.Movement.TheVariants.{Straight, Arc, Cycle}
+use Rattle.ng_modal.specs.declared.movement.StraightKind.{StraightKind}
 use Rattle.ng_modal.specs.declared.block.Block.{Block}
 use Rattle.ng_offsets.specs.declared.offsets.Offsets.{Offsets}
 use Rattle.ng_state.specs.declared.kept_words.KeptWords.{KeptWords}
@@ -19,8 +19,8 @@ use Rattle.ng_state.specs.declared.modal_state.ModalState.{ModalState}
 use Rattle.ng_block.specs.declared.path.Path.{Path}
 use Rattle.ng_block.specs.declared.shifts.Shown.{Shown}
 use Rattle.ng_block.specs.Arcs.{path_along_arc}
-use Rattle.ng_block.specs.Cycles.{kind_of, kept_of, cycle_path}
-use Rattle.ng_block.specs.Motion.{feed_of, feed_mode_after, pace_by, straight_end_of}
+use Rattle.ng_block.specs.Cycles.{kept_of, cycle_path}
+use Rattle.ng_block.specs.Motion.{feed_of, straight_pace, straight_end_of}
 use Rattle.ng_block.specs.Ends.{ends}
 use Rattle.ng_block.specs.Homes.{home_on, home_path}
 use Rattle.ng_block.specs.Path.{moving_at}
@@ -64,18 +64,19 @@ bearings_after b params at = if ends b.m.stop then ended params at else at
 
 -- ---- the motion
 
--- straight to a point, with the feed after the line
-abbrev pub straight_to : Block → ModalState → ℤ → Point → Path
-straight_to b m feed end = moving_at (pace_by b.motion (feed_mode_after b m.modes) feed b.values.f) m.point end
+-- straight to the line's end, with the feed after the line; or E3 if a coordinate of the end is out of range
+abbrev pub straight_path : StraightKind → Block → ModalState → Offsets → ℤ → Result Path Fault
+straight_path kind b m o feed = and_then (straight_end_of b m o) (λ end. Ok (moving_at (straight_pace kind b m feed) m.point end))
 
--- the path of the line's motion under these offsets
+-- the path of a movement under these offsets; without one, the way home, if the line asks for it
+abbrev pub path_for : Option Movement → Block → ModalState → Offsets → List ℤ → ℤ → Geometry → Result Path Fault
+path_for (Some (Straight kind)) b m o table feed geometry = straight_path kind b m o feed
+path_for (Some (Arc turn)) b m o table feed geometry = path_along_arc turn b m o feed
+path_for (Some (Cycle kind)) b m o table feed geometry = cycle_path kind b m o feed geometry
+path_for None b m o table feed geometry = home_path b m o (home_on b.g.non_modal table)
+
 abbrev pub path_of : Block → ModalState → Offsets → List ℤ → ℤ → Geometry → Result Path Fault
-path_of b m o table feed geometry =
-    if is_straight b.motion
-    then and_then (straight_end_of b m o) (λ end. Ok (straight_to b m feed end))
-    else if is_arc b.motion then path_along_arc b m o feed
-    else if is_some (kind_of b.motion) then cycle_path b m o feed geometry
-    else home_path b m o (home_on b.g.non_modal table)
+path_of b m o table feed geometry = path_for b.movement b m o table feed geometry
 
 -- ---- all of it
 

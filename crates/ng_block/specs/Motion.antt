@@ -13,8 +13,10 @@ use Rattle.ng_num.specs.Results.{and_then}
 use Rattle.ng_modal.specs.Causes.{is_machine}
 use Rattle.ng_modal.specs.declared.block.Block.{Block}
 use Rattle.ng_state.specs.declared.modes.Modes.{Modes}
-use Rattle.ng_state.specs.declared.modes.Motion.{Motion}
-use Rattle.ng_state.specs.declared.modes.Motion.TheVariants.{Traverse, Feed, ClockwiseArc, CounterclockwiseArc}
+use Rattle.ng_modal.specs.declared.movement.Movement.{Movement}
+use Rattle.ng_modal.specs.declared.movement.Movement.TheVariants.{Straight, Arc}
+use Rattle.ng_modal.specs.declared.movement.StraightKind.{StraightKind}
+use Rattle.ng_modal.specs.declared.movement.StraightKind.TheVariants.{Traverse, Feed}
 use Rattle.ng_state.specs.declared.modes.Distance.{Distance}
 use Rattle.ng_state.specs.declared.modes.Distance.TheVariants.{Absolute, Incremental}
 use Rattle.ng_state.specs.declared.modes.FeedMode.{FeedMode}
@@ -34,10 +36,9 @@ is_inverse PerMinute = false
 is_inverse InverseTime = true
 
 -- G1, G2 and G3 go at a feed
-abbrev pub is_fed : Option Motion → Bool
-is_fed (Some Feed) = true
-is_fed (Some ClockwiseArc) = true
-is_fed (Some CounterclockwiseArc) = true
+abbrev pub is_fed : Option Movement → Bool
+is_fed (Some (Straight Feed)) = true
+is_fed (Some (Arc turn)) = true
 is_fed _ = false
 
 -- the F of a line that sets the feed: under G94
@@ -50,9 +51,9 @@ abbrev pub feed_set : Block → FeedMode → ℤ → Option ℤ
 feed_set b mode feed = option_map (λ f. feed) (feed_word mode b.values.f)
 
 -- the F of a line that is the time of its move: under G93, one minute divided by it
-abbrev pub time_word : FeedMode → Option Motion → Option ℤ → Option ℤ
-time_word PerMinute motion f = None
-time_word InverseTime motion f = if is_fed motion then f else None
+abbrev pub time_word : FeedMode → Option Movement → Option ℤ → Option ℤ
+time_word PerMinute movement f = None
+time_word InverseTime movement f = if is_fed movement then f else None
 
 -- the feed after the line, a length per minute in the unit before the line's own G20 or G21
 abbrev pub feed_by : Option ℤ → LengthUnit → ℤ → Result ℤ Fault
@@ -62,14 +63,19 @@ feed_by (Some f) unit old = in_range (nm_of f unit)
 abbrev pub feed_of : Block → ModalState → Result ℤ Fault
 feed_of b m = feed_by (feed_word (feed_mode_after b m.modes) b.values.f) m.modes.unit m.feed_per_min
 
--- the pace of the line's move; `None` if its feed or its time is missing
+-- the pace of a move at a feed; `None` if the feed or the time is missing
 abbrev pub fed_pace : FeedMode → ℤ → Option ℤ → Option Pace
 fed_pace PerMinute feed f = option_map pace.Feed (above_zero feed)
 fed_pace InverseTime feed f = option_map pace.InverseTime (option_and_then above_zero f)
 
-abbrev pub pace_by : Option Motion → FeedMode → ℤ → Option ℤ → Option Pace
-pace_by (Some Traverse) mode feed f = Some pace.Traverse
-pace_by _ mode feed f = fed_pace mode feed f
+-- with the feed after the line
+abbrev pub fed_pace_of : Block → ModalState → ℤ → Option Pace
+fed_pace_of b m feed = fed_pace (feed_mode_after b m.modes) feed b.values.f
+
+-- the pace of a straight move
+abbrev pub straight_pace : StraightKind → Block → ModalState → ℤ → Option Pace
+straight_pace Traverse b m feed = Some pace.Traverse
+straight_pace Feed b m feed = fed_pace_of b m feed
 
 -- the program coordinate that a length names: the length, or its sum with the current coordinate
 abbrev pub program_coordinate : Distance → ℤ → ℤ → Result ℤ Fault

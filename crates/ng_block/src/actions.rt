@@ -86,7 +86,7 @@ fn rows(block: &Block, mode: FeedMode, before: &Outputs, shown: &Shown) -> [Opti
         shown.tool_length.map(Action::ToolLength),
         shown.system.map(Action::OriginOffsets),
         shown.axis_data.map(Action::OriginOffsets),
-        time_word(mode, block.motion, block.values.f()).map(Action::InverseTime),
+        time_word(mode, block.movement, block.values.f()).map(Action::InverseTime),
     ]
 }
 

@@ -1,27 +1,16 @@
 //! G2 and G3: the arc that a line asks for (NISTIR 6556, 3.5.3).
 ghost use Rattle.std.specs.Prelude.{◌≡◌};
-ghost use Rattle.ng_block.specs.Arcs.{turn_of, axes_on, centre_offsets_on, asked_by, turned, path_along_arc};
+ghost use Rattle.ng_block.specs.Arcs.{axes_on, centre_offsets_on, asked_by, path_along_arc};
 
 use crate::axis_data::unit_after;
-use crate::motion::{end_of, feed_mode_after, pace_by};
+use crate::motion::{end_of, fed_pace_of};
 use crate::path::Path;
 use ng_arc::{AskedArc, CentreOffsets, NamedAxes, check_arc};
-use ng_canon::{ArcDirection, Feed, Pace};
+use ng_canon::{ArcDirection, Feed};
 use ng_modal::{Block, ByLetter};
 use ng_num::{Fault, Point};
 use ng_offsets::{Named, Offsets};
-use ng_state::{ModalState, Modes, Motion};
-
-/// The direction in which a motion turns. `None` if it isn't an arc.
-fn turn_of(motion: Option<Motion>) -> Option<ArcDirection>
-    ensures { result ≡ turn_of motion }
-{
-    match motion {
-        Some(Motion::ClockwiseArc) => Some(ArcDirection::Clockwise),
-        Some(Motion::CounterclockwiseArc) => Some(ArcDirection::Counterclockwise),
-        _ => None,
-    }
-}
+use ng_state::{ModalState, Modes};
 
 /// The axes that a line names.
 fn axes_on(values: &ByLetter) -> NamedAxes
@@ -54,9 +43,8 @@ fn asked_by(
     turn: ArcDirection,
     end: Point,
     offsets: CentreOffsets,
-    pace: &Option<Pace>,
 ) -> AskedArc
-    ensures { result ≡ asked_by block.now modal.now turn end offsets pace.now }
+    ensures { result ≡ asked_by block.now modal.now turn end offsets }
 {
     AskedArc {
         plane: block.plane_after(&modal.modes),
@@ -66,50 +54,28 @@ fn asked_by(
         named: axes_on(&block.values),
         offsets,
         unit: unit_after(block, &modal.modes),
-        pace: match pace {
-            Some(pace) => *pace,
-            None => Pace::Traverse,
-        },
     }
 }
 
-/// Around to the end of a line. E3 if a coordinate of its end or its centre is out of range, else C1 to C4.
-fn turned(
-    block: &Block,
-    modal: &ModalState,
-    offsets: &Offsets,
-    pace: Option<Pace>,
-    turn: ArcDirection,
-) -> Result<Path, Fault>
-    ensures { result ≡ turned block.now modal.now offsets.now pace turn }
-{
-    let end = end_of(block, modal, offsets)?;
-    let centre = centre_offsets_on(block, &modal.modes)?;
-    let asked = asked_by(block, modal, turn, end, centre, &pace);
-    let arc = check_arc(&asked)?;
-    match pace {
-        Some(_) => Ok(Path::Round(arc)),
-        None => Ok(Path::WithoutFeed),
-    }
-}
-
-/// The path of a line's motion along an arc, under offsets and with the feed after the line. It is still if the motion
-/// isn't an arc. E3 if a coordinate of its end or its centre is out of range, else C1 to C4: an arc without an end or
-/// without an offset in its plane, with radii that differ, or with none.
+/// The path of a line's arc, under offsets and with the feed after the line. E3 if a coordinate of its end or its
+/// centre is out of range, else C1 to C4: an arc without an end or without an offset in its plane, with radii that
+/// differ, or with none.
 #[inline(never)]
 #[tactic(auto, unfolding(crate::specs::Arcs::path_along_arc))]
 pub(crate) fn path_along_arc(
+    turn: ArcDirection,
     block: &Block,
     modal: &ModalState,
     offsets: &Offsets,
     feed_per_min: Feed,
 ) -> Result<Path, Fault>
-    ensures { result ≡ path_along_arc block.now modal.now offsets.now feed_per_min }
+    ensures { result ≡ path_along_arc turn block.now modal.now offsets.now feed_per_min }
 {
-    let Some(turn) = turn_of(block.motion) else {
-        return Ok(Path::Still);
-    };
-    let mode = feed_mode_after(block, &modal.modes);
-    let pace = pace_by(block.motion, mode, feed_per_min, block.values.f());
-    turned(block, modal, offsets, pace, turn)
+    let end = end_of(block, modal, offsets)?;
+    let centre = centre_offsets_on(block, &modal.modes)?;
+    let shape = check_arc(&asked_by(block, modal, turn, end, centre))?;
+    match fed_pace_of(block, modal, feed_per_min) {
+        Some(pace) => Ok(Path::Round(shape.at(pace))),
+        None => Ok(Path::WithoutFeed),
+    }
 }

@@ -1,7 +1,7 @@
 //! G81 to G89: the canned cycle that a line asks for, and the words that it keeps (NISTIR 6556, 3.5.16).
-ghost use Rattle.std.specs.Prelude.{◌≡◌, ◌≤◌, IfOk, Ok, Err, MatchResult};
+ghost use Rattle.std.specs.Prelude.{◌≡◌, Ok, Err, MatchResult};
 ghost use Rattle.ng_offsets.specs.Named.{length_by};
-ghost use Rattle.ng_block.specs.Cycles.{kind_of, is_same, own_words, kept_for, kept_beside, kept_in, cycle_words, is_incremental, is_old_z, context_of, cycle_path};
+ghost use Rattle.ng_block.specs.Cycles.{is_same, own_words, kept_for, kept_beside, kept_in, is_incremental, is_old_z, context_of, cycle_path};
 
 use crate::actions::outputs_at_motion;
 use crate::axis_data::{named_on, unit_after};
@@ -10,26 +10,10 @@ use crate::motion::{feed_mode_after, is_inverse};
 use crate::path::Path;
 use ng_canon::{Feed, Geometry};
 use ng_cycles::{Canned, CycleContext, CycleKind, CycleWords};
-use ng_modal::Block;
+use ng_modal::{Block, Movement};
 use ng_num::{Fault, Len, Num, Unit, nm_of};
-use ng_offsets::Offsets;
-use ng_state::{Distance, KeptWords, ModalState, Modes, Motion, Retract};
-
-/// The kind of cycle of a motion. `None` if it isn't a cycle.
-#[inline]
-pub(crate) fn kind_of(motion: Option<Motion>) -> Option<CycleKind>
-    ensures { result ≡ kind_of motion }
-{
-    match motion {
-        Some(Motion::Drilling) => Some(CycleKind::Drilling),
-        Some(Motion::DrillingWithDwell) => Some(CycleKind::DrillingWithDwell),
-        Some(Motion::PeckDrilling) => Some(CycleKind::PeckDrilling),
-        Some(Motion::Boring) => Some(CycleKind::Boring),
-        Some(Motion::BoringWithStop) => Some(CycleKind::BoringWithStop),
-        Some(Motion::BoringWithDwell) => Some(CycleKind::BoringWithDwell),
-        _ => None,
-    }
-}
+use ng_offsets::{Named, Offsets};
+use ng_state::{Distance, KeptWords, ModalState, Modes, Retract};
 
 fn is_same(one: CycleKind, other: CycleKind) -> bool
     ensures { result ≡ is_same one other }
@@ -76,13 +60,13 @@ fn own_words(block: &Block, modes: &Modes) -> Result<KeptWords, Fault>
 fn kept_for(kind: CycleKind, modal: &ModalState) -> KeptWords
     ensures { result ≡ kept_for kind modal.now }
 {
-    match kind_of(Some(modal.modes.motion)) {
-        None => KeptWords::none(),
-        Some(before) => if is_same(kind, before) {
+    match Movement::of(modal.modes.motion) {
+        Some(Movement::Cycle(before)) => if is_same(kind, before) {
             modal.kept
         } else {
             KeptWords::none()
         },
+        Some(Movement::Straight(_)) | Some(Movement::Arc(_)) | None => KeptWords::none(),
     }
 }
 
@@ -134,26 +118,6 @@ pub(crate) fn put_kept_in(
     }
 }
 
-/// What a line asks of a cycle.
-fn cycle_words(
-    block: &Block,
-    modes: &Modes,
-    kind: CycleKind,
-    own: KeptWords,
-) -> Result<CycleWords, Fault>
-    ensures words { result ≡ cycle_words block.now modes.now kind own }
-    ensures some { IfOk result (λ words. 1 ≤ words.repeats) }
-{
-    let named = named_on(block, modes)?;
-    Ok(CycleWords {
-        kind,
-        x: named.x,
-        y: named.y,
-        own,
-        repeats: block.repeats(),
-    })
-}
-
 fn is_incremental(distance: Distance) -> bool
     ensures { result ≡ is_incremental distance }
 {
@@ -197,25 +161,29 @@ fn context_of(
     }
 }
 
-/// The path of a line's motion in a canned cycle, under offsets and with the feed after the line. It is still if the
-/// motion isn't a cycle. E3 if a computed length is out of range, else the first of Y1 to Y8, X1 and X2. The extreme
-/// coordinates decide: neither repeats nor pecks are walked.
+/// The path of a line's canned cycle, under offsets and with the feed after the line. E3 if a computed length is out of
+/// range, else the first of Y1 to Y8, X1 and X2. The extreme coordinates decide: neither repeats nor pecks are walked.
 #[inline(never)]
 #[tactic(auto, unfolding(crate::specs::Cycles::cycle_path))]
 pub(crate) fn cycle_path(
+    kind: CycleKind,
     block: &Block,
     modal: &ModalState,
     offsets: &Offsets,
     feed_per_min: Feed,
     geometry: &Geometry,
 ) -> Result<Path, Fault>
-    ensures { result ≡ cycle_path block.now modal.now offsets.now feed_per_min geometry.now }
+    ensures { result ≡ cycle_path kind block.now modal.now offsets.now feed_per_min geometry.now }
 {
-    let Some(kind) = kind_of(block.motion) else {
-        return Ok(Path::Still);
-    };
     let own = own_words(block, &modal.modes)?;
-    let words = cycle_words(block, &modal.modes, kind, own)?;
+    let Named { x, y, .. } = named_on(block, &modal.modes)?;
+    let words = CycleWords {
+        kind,
+        x,
+        y,
+        own,
+        repeats: block.repeats(),
+    };
     let kept = kept_for(kind, modal);
     let context = context_of(block, modal, offsets, feed_per_min, kept);
     let canned = Canned::of(&words, &context, geometry)?;

@@ -5,18 +5,16 @@ ghost use Rattle.ng_modal.specs.WholeNumbers.{IsSlot};
 ghost use Rattle.ng_block.specs.Path.{moving_at};
 ghost use Rattle.ng_block.specs.Goal.{selecting, storing, bearings_of, path_after_bearings, ended, goal_of, bearings_by, path_with_bearings, goal_by};
 
-use crate::cycles::{kind_of, put_kept_beside, put_kept_in};
+use crate::cycles::{put_kept_beside, put_kept_in};
 use crate::effect::{CHANGES, Changes, Effect};
 use crate::ends::ends;
-use crate::motion::{
-    end_of, feed_mode_after, feed_of, is_straight, pace_by, path_of, put_path_unless_straight,
-};
+use crate::motion::{end_of, feed_of, path_of, put_path, straight_pace};
 use crate::path::Path;
 use crate::place::clear;
 use crate::shifts::{keeps_offsets, shift_of};
 use crate::terms::Terms;
 use ng_canon::{Feed, Pace, StraightMove};
-use ng_modal::Block;
+use ng_modal::{Block, Movement};
 use ng_num::{Fault, Point};
 use ng_offsets::{Offsets, Tools};
 use ng_params::{Change, Params, System};
@@ -148,21 +146,22 @@ impl Effect {
         self.modal.offsets = state.modal.offsets;
         clear(&mut self.shown);
         let modal = &state.modal;
-        if !is_straight(block.motion) {
-            return put_path_unless_straight(
+        match block.movement {
+            Some(Movement::Straight(kind)) => {
+                let end = end_of(block, modal, &modal.offsets)?;
+                let pace = straight_pace(kind, block, modal, feed_per_min);
+                self.go_straight(pace, modal.point, end);
+                Ok(())
+            }
+            Some(Movement::Arc(_)) | Some(Movement::Cycle(_)) | None => put_path(
                 block,
                 state,
                 assignments,
                 feed_per_min,
                 terms.geometry,
                 &mut self.plan.path,
-            );
+            ),
         }
-        let end = end_of(block, modal, &modal.offsets)?;
-        let mode = feed_mode_after(block, &modal.modes);
-        let pace = pace_by(block.motion, mode, feed_per_min, block.values.f());
-        self.go_straight(pace, modal.point, end);
-        Ok(())
     }
 
     /// Puts system 1 in force and drops the G92 offset, as the program's end does.
@@ -202,12 +201,14 @@ impl Effect {
             self.end_bearings(&state.params);
         }
         self.modal.feed_per_min = feed_per_min;
-        match kind_of(block.motion) {
-            None => {
+        match block.movement {
+            Some(Movement::Cycle(kind)) => {
+                put_kept_in(kind, block, &state.modal, &mut self.modal.kept)
+            }
+            Some(Movement::Straight(_)) | Some(Movement::Arc(_)) | None => {
                 put_kept_beside(block, &state.modal, &mut self.modal.kept);
                 Ok(())
             }
-            Some(kind) => put_kept_in(kind, block, &state.modal, &mut self.modal.kept),
         }
     }
 }

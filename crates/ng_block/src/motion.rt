@@ -1,23 +1,22 @@
 //! The motion of a line: its feed, its pace and its path (NISTIR 6556, 3.5.1, 3.5.2, 3.5.12, 3.5.17, 3.5.19). E3 if a
 //! computed length is out of range.
-ghost use Rattle.std.specs.Prelude.{◌≡◌, ◌-ℤ◌, false, Ok, Err, MatchResult};
+ghost use Rattle.std.specs.Prelude.{◌≡◌, ◌-ℤ◌, Ok, Err, MatchResult};
 ghost use Rattle.ng_params.specs.Change.{with_changes};
 ghost use Rattle.ng_modal.specs.Causes.{is_machine};
-ghost use Rattle.ng_modal.specs.Block.{is_straight, is_arc};
-ghost use Rattle.ng_block.specs.Motion.{feed_mode_after, is_inverse, is_fed, feed_word, feed_set, time_word, feed_of, fed_pace, pace_by, program_coordinate, coordinate, end_of, machine_end_of, straight_end_of};
-ghost use Rattle.ng_block.specs.Goal.{straight_to, path_of};
+ghost use Rattle.ng_block.specs.Motion.{feed_mode_after, is_inverse, is_fed, feed_word, feed_set, time_word, feed_of, fed_pace, fed_pace_of, straight_pace, program_coordinate, coordinate, end_of, machine_end_of, straight_end_of};
+ghost use Rattle.ng_block.specs.Goal.{straight_path, path_of};
 
 use crate::arcs::path_along_arc;
 use crate::axis_data::{named_on, unit_after};
-use crate::cycles::{cycle_path, kind_of};
+use crate::cycles::cycle_path;
 use crate::homes::{home_on, home_path};
 use crate::path::Path;
 use ng_canon::{Feed, Geometry, InverseTime, Pace, Rate};
-use ng_modal::{Block, NonModal};
+use ng_modal::{Block, Movement, NonModal, StraightKind};
 use ng_num::{Fault, Len, Num, Point, Unit, nm_of};
 use ng_offsets::{Offsets, Shift};
 use ng_params::Change;
-use ng_state::{Distance, FeedMode, ModalState, Modes, Motion, State};
+use ng_state::{Distance, FeedMode, ModalState, Modes, State};
 use std::alloc::Allocator;
 
 /// How a line's axis words are read.
@@ -46,13 +45,13 @@ pub(crate) fn is_inverse(mode: FeedMode) -> bool
     }
 }
 
-/// Whether a motion goes at a feed: G1, G2, G3.
-fn is_fed(motion: Option<Motion>) -> bool
-    ensures { result ≡ is_fed motion }
+/// Whether a movement goes at a feed: G1, G2, G3.
+fn is_fed(movement: Option<Movement>) -> bool
+    ensures { result ≡ is_fed movement }
 {
-    match motion {
-        Some(Motion::Feed) | Some(Motion::ClockwiseArc) | Some(Motion::CounterclockwiseArc) => true,
-        _ => false,
+    match movement {
+        Some(Movement::Straight(StraightKind::Feed)) | Some(Movement::Arc(_)) => true,
+        Some(Movement::Straight(StraightKind::Traverse)) | Some(Movement::Cycle(_)) | None => false,
     }
 }
 
@@ -80,12 +79,16 @@ pub(crate) fn feed_set(block: &Block, mode: FeedMode, feed_per_min: Feed) -> Opt
 
 /// The F that is the time of its line's move.
 #[inline]
-pub(crate) fn time_word(mode: FeedMode, motion: Option<Motion>, word: Option<Num>) -> Option<Num>
-    ensures { result ≡ time_word mode motion word }
+pub(crate) fn time_word(
+    mode: FeedMode,
+    movement: Option<Movement>,
+    word: Option<Num>,
+) -> Option<Num>
+    ensures { result ≡ time_word mode movement word }
 {
     match mode {
         FeedMode::PerMinute => None,
-        FeedMode::InverseTime => if is_fed(motion) { word } else { None },
+        FeedMode::InverseTime => if is_fed(movement) { word } else { None },
     }
 }
 
@@ -119,19 +122,28 @@ fn fed_pace(mode: FeedMode, feed_per_min: Feed, word: Option<Num>) -> Option<Pac
     }
 }
 
-/// The pace of a line's move. `None` if its feed or its time is missing.
+/// The pace of a line's move at a feed, with the feed after the line. `None` if the feed or the time is missing.
 #[inline]
-pub(crate) fn pace_by(
-    motion: Option<Motion>,
-    mode: FeedMode,
-    feed_per_min: Feed,
-    word: Option<Num>,
-) -> Option<Pace>
-    ensures { result ≡ pace_by motion mode feed_per_min word }
+pub(crate) fn fed_pace_of(block: &Block, modal: &ModalState, feed_per_min: Feed) -> Option<Pace>
+    ensures { result ≡ fed_pace_of block.now modal.now feed_per_min }
 {
-    match motion {
-        Some(Motion::Traverse) => Some(Pace::Traverse),
-        _ => fed_pace(mode, feed_per_min, word),
+    let mode = feed_mode_after(block, &modal.modes);
+    fed_pace(mode, feed_per_min, block.values.f())
+}
+
+/// The pace of a line's straight move. `None` if its feed or its time is missing.
+#[inline]
+pub(crate) fn straight_pace(
+    kind: StraightKind,
+    block: &Block,
+    modal: &ModalState,
+    feed_per_min: Feed,
+) -> Option<Pace>
+    ensures { result ≡ straight_pace kind block.now modal.now feed_per_min }
+{
+    match kind {
+        StraightKind::Traverse => Some(Pace::Traverse),
+        StraightKind::Feed => fed_pace_of(block, modal, feed_per_min),
     }
 }
 
@@ -220,91 +232,23 @@ fn straight_end_of(block: &Block, modal: &ModalState, offsets: &Offsets) -> Resu
     }
 }
 
-/// Whether a motion is G0 or G1.
-#[inline]
-pub(crate) fn is_straight(motion: Option<Motion>) -> bool
-    ensures { result ≡ is_straight motion }
-{
-    match motion {
-        Some(Motion::Traverse) | Some(Motion::Feed) => true,
-        _ => false,
-    }
-}
-
-/// Whether a motion is G2 or G3.
-#[inline]
-fn is_arc(motion: Option<Motion>) -> bool
-    ensures { result ≡ is_arc motion }
-{
-    match motion {
-        Some(Motion::ClockwiseArc) | Some(Motion::CounterclockwiseArc) => true,
-        _ => false,
-    }
-}
-
-/// A straight path to a point, with the feed after the line.
-#[inline]
-fn straight_to(block: &Block, modal: &ModalState, feed_per_min: Feed, end: Point) -> Path
-    ensures { result ≡ straight_to block.now modal.now feed_per_min end }
-{
-    let mode = feed_mode_after(block, &modal.modes);
-    let pace = pace_by(block.motion, mode, feed_per_min, block.values.f());
-    Path::moving_at(pace, modal.point, end)
-}
-
-/// The path of a line's motion that isn't straight: under offsets, with the feed after the line, in the table that its
-/// assignments leave. E3 if one of its coordinates is out of range; else C1 to C4 of an arc, Y1 to Y8, X1, X2 of a
-/// cycle.
-fn path_unless_straight<A: Allocator + Copy + Drop>(
+/// The path of a straight move under offsets, with the feed after the line. E3 if a coordinate of its end is out of
+/// range.
+fn straight_path(
+    kind: StraightKind,
     block: &Block,
-    state: &State<A>,
-    assignments: &[Change],
+    modal: &ModalState,
     offsets: &Offsets,
     feed_per_min: Feed,
-    geometry: &Geometry,
 ) -> Result<Path, Fault>
-    requires { is_straight block.now.motion ≡ false }
-    ensures { let table = with_changes state.now.params assignments.now in
-        result ≡ path_of block.now state.now.modal offsets.now table feed_per_min geometry.now }
+    ensures { result ≡ straight_path kind block.now modal.now offsets.now feed_per_min }
 {
-    let modal = &state.modal;
-    if is_arc(block.motion) {
-        return path_along_arc(block, modal, offsets, feed_per_min);
-    }
-    if kind_of(block.motion).is_some() {
-        return cycle_path(block, modal, offsets, feed_per_min, geometry);
-    }
-    let home = home_on(block.g.non_modal, &state.params, assignments);
-    home_path(block, modal, offsets, home)
+    let end = straight_end_of(block, modal, offsets)?;
+    let pace = straight_pace(kind, block, modal, feed_per_min);
+    Ok(Path::moving_at(pace, modal.point, end))
 }
 
-/// Stores the path of a motion that isn't straight, under the offsets before the line, with the same faults. It isn't
-/// inlined, so that straight moves don't pay for its local variables.
-#[inline(never)]
-pub(crate) fn put_path_unless_straight<A: Allocator + Copy + Drop>(
-    block: &Block,
-    state: &State<A>,
-    assignments: &[Change],
-    feed_per_min: Feed,
-    geometry: &Geometry,
-    place: &mut Path,
-) -> Result<(), Fault>
-    requires { is_straight block.now.motion ≡ false }
-    ensures { let table = with_changes state.now.params assignments.now in
-        let way = path_of block.now state.now.modal state.now.modal.offsets table feed_per_min geometry.now in
-        MatchResult result (λ _. way ≡ Ok place.new) (λ fault. way ≡ Err fault) }
-{
-    let offsets = &state.modal.offsets;
-    match path_unless_straight(block, state, assignments, offsets, feed_per_min, geometry) {
-        Ok(path) => {
-            *place = path;
-            Ok(())
-        }
-        Err(fault) => Err(fault),
-    }
-}
-
-/// The path of a line's motion: under offsets, with the feed after the line, in the table that its assignments leave.
+/// The path of what a line moves: under offsets, with the feed after the line, in the table that its assignments leave.
 /// E3 if one of its coordinates is out of range; else C1 to C4 of an arc, Y1 to Y8, X1, X2 of a cycle.
 pub(crate) fn path_of<A: Allocator + Copy + Drop>(
     block: &Block,
@@ -317,10 +261,46 @@ pub(crate) fn path_of<A: Allocator + Copy + Drop>(
     ensures { let table = with_changes state.now.params assignments.now in
         result ≡ path_of block.now state.now.modal offsets.now table feed_per_min geometry.now }
 {
-    if !is_straight(block.motion) {
-        return path_unless_straight(block, state, assignments, offsets, feed_per_min, geometry);
-    }
     let modal = &state.modal;
-    let end = straight_end_of(block, modal, offsets)?;
-    Ok(straight_to(block, modal, feed_per_min, end))
+    match block.movement {
+        Some(Movement::Straight(kind)) => straight_path(kind, block, modal, offsets, feed_per_min),
+        Some(Movement::Arc(turn)) => path_along_arc(turn, block, modal, offsets, feed_per_min),
+        Some(Movement::Cycle(kind)) => cycle_path(
+            kind,
+            block,
+            modal,
+            offsets,
+            feed_per_min,
+            geometry,
+        ),
+        None => {
+            let home = home_on(block.g.non_modal, &state.params, assignments);
+            home_path(block, modal, offsets, home)
+        }
+    }
+}
+
+/// Stores the path under the offsets before the line, with the same faults. It isn't inlined, so that straight moves
+/// don't pay for its local variables.
+#[inline(never)]
+pub(crate) fn put_path<A: Allocator + Copy + Drop>(
+    block: &Block,
+    state: &State<A>,
+    assignments: &[Change],
+    feed_per_min: Feed,
+    geometry: &Geometry,
+    place: &mut Path,
+) -> Result<(), Fault>
+    ensures { let table = with_changes state.now.params assignments.now in
+        let way = path_of block.now state.now.modal state.now.modal.offsets table feed_per_min geometry.now in
+        MatchResult result (λ _. way ≡ Ok place.new) (λ fault. way ≡ Err fault) }
+{
+    let offsets = &state.modal.offsets;
+    match path_of(block, state, assignments, offsets, feed_per_min, geometry) {
+        Ok(path) => {
+            *place = path;
+            Ok(())
+        }
+        Err(fault) => Err(fault),
+    }
 }

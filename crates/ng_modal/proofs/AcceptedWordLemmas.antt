@@ -1,6 +1,6 @@
 -- If no cause holds, the words are as required.
 use Rattle.std.proofs.Common.{◌≡◌, ◌≤◌, arith, rules, ℕ, ℤ, pos, negsuc, Bool, true, false, List, Option, Some, None, refl, subst}
-use Rattle.std.specs.Prelude.{not, ◌||◌, ◌&&◌, nat_lt, nat_le, ◌≤ℤ◌, ◌≢◌, max, IsSome, IfSome, Result, Ok, Err, MatchResult, OnOk}
+use Rattle.std.specs.Prelude.{not, ◌||◌, ◌&&◌, nat_lt, nat_le, ◌≤ℤ◌, max, IsSome, IfSome, Result, Ok, Err, MatchResult, OnOk}
 use Rattle.std.specs.Option.{is_none, option_and_then}
 use Rattle.std.proofs.lemmas.Bool.{ltb-false}
 use Rattle.ng_num.specs.Whole.{whole_of}
@@ -9,8 +9,8 @@ use Rattle.ng_params.specs.Numbers.{system_of}
 use Rattle.ng_canon.specs.declared.plane.Plane.{Plane}
 use Rattle.ng_canon.specs.declared.plane.Plane.TheVariants.{Xy, Xz, Yz}
 use Rattle.ng_expr.specs.declared.word.Word.{Word}
-use Rattle.ng_modal.specs.ByLetter.{has_axis}
-use Rattle.ng_modal.specs.Block.{takes_axes, motion_by, plane_after, is_cycle, moving}
+use Rattle.ng_modal.specs.Block.{plane_after}
+use Rattle.ng_modal.specs.Movement.{is_cycle}
 use Rattle.ng_modal.specs.BlockOfWords.{block_of}
 use Rattle.ng_modal.specs.Causes.{is_unused_word, is_dwell, is_set_origin, is_of_slot, is_whole_within, is_between, is_negative, is_positive, is_along_z}
 use Rattle.ng_num.specs.Causes.{first_fault, NoneHolds}
@@ -21,8 +21,6 @@ use Rattle.ng_modal.specs.declared.requests.NonModal.{NonModal}
 use Rattle.ng_modal.specs.declared.requests.ToolLength.{ToolLength}
 use Rattle.ng_modal.specs.declared.block.Block.{Block}
 use Rattle.ng_state.specs.declared.modes.Modes.{Modes}
-use Rattle.ng_state.specs.declared.modes.Motion.{Motion}
-use Rattle.ng_state.specs.declared.modes.Motion.TheVariants.{Off}
 use Rattle.ng_modal.proofs.FirstCauseLemmas.{least}
 use Rattle.ng_modal.proofs.TestLemmas.{and_left, and_right, or_left, or_right, not_true, not_false}
 
@@ -83,15 +81,6 @@ is_xy Xy e = refl
 is_xy Xz e = absurd (cc e)
 is_xy Yz e = absurd (cc e)
 
-never_off : (motion : Motion) → moving motion ≢ Some Off
-never_off Off e = cc e
-never_off _ e = cc e
-
-moves_on : (word : Option Motion) (calls : Bool) (mode : Motion) → motion_by word calls mode ≢ Some Off
-moves_on (Some word) calls mode = never_off word
-moves_on None true mode = never_off mode
-moves_on None false mode = λ e. cc e
-
 pub accepted : (ws : List Word) (m : Modes) (slots : ℕ) → slots ≤ 255 → NoneHolds (faults ws m slots) → IsAccepted (block_of ws m) m slots
 accepted ws m slots few h =
     let b : Block = block_of ws m in
@@ -102,9 +91,9 @@ accepted ws m slots few h =
     let slot_h : Bool = is_unused_word v.h (is_whole_within (pos 0) (pos slots) v.h) in
     let is_still : Bool = is_dwell b.g.non_modal && is_negative v.p in
     let later : (is_negative v.s || is_still) ≡ false = or_right (is_negative v.f) (is_negative v.s || is_still) from13.0 in
-    let counts : (is_cycle b.motion && is_unused_word v.l (is_positive (option_and_then whole_of v.l))) ≡ false =
+    let counts : (is_cycle b.movement && is_unused_word v.l (is_positive (option_and_then whole_of v.l))) ≡ false =
     or_right (is_set_origin b.g.non_modal && not (is_whole_within (pos 2) (pos 2) v.l))
-    (is_cycle b.motion && is_unused_word v.l (is_positive (option_and_then whole_of v.l))) from15.0 in
+    (is_cycle b.movement && is_unused_word v.l (is_positive (option_and_then whole_of v.l))) from15.0 in
     record {
       selected = a_slot slots few v.t (or_left slot_t slot_h from13.1.0);
       of_length = a_slot slots few v.h (or_right slot_t slot_h from13.1.0);
@@ -123,7 +112,6 @@ accepted ws m slots few h =
           (let P : Bool → Type 0 = λ x. (x && is_unused_word v.l (is_positive (option_and_then whole_of v.l)))
           ≡ false in subst P is counts);
       plane = λ is. is_xy (plane_after b m) (let P : Bool → Type 0 = λ x. (x && is_along_z (plane_after b m)) ≡ false in subst P is from15.1.1.1.1.0);
-      moves = moves_on b.g.motion (has_axis v && not (takes_axes b.g.non_modal)) m.motion;
     }
 
 -- an answer whose block is stored elsewhere

@@ -7,7 +7,8 @@ use Rattle.ng_words.specs.declared.letter.Letter.TheVariants.{M}
 use Rattle.ng_expr.specs.declared.word.Word.{Word}
 use Rattle.ng_modal.specs.Words.{of_letter}
 use Rattle.ng_modal.specs.ByLetter.{has_axis}
-use Rattle.ng_modal.specs.Block.{takes_axes, moving, motion_by, motion_after, is_straight, is_cycle}
+use Rattle.ng_modal.specs.Block.{takes_axes, movement_of_word, motion_by, motion_after}
+use Rattle.ng_modal.specs.Movement.{movement_of, is_straight, is_cycle}
 use Rattle.ng_modal.specs.BlockOfWords.{block_of}
 use Rattle.ng_modal.specs.WordCauses.{is_repeated, has_unknown, has_left_out, has_group_twice, has_many_m}
 use Rattle.ng_modal.specs.Causes.{is_off, is_negative, takes_axes_twice, leaves_axis_unused, moves_no_axis}
@@ -20,22 +21,24 @@ use Rattle.ng_modal.specs.Sorted.{sorted_in, is_marked, has_others, is_plain}
 use Rattle.ng_modal.specs.declared.block.Block.{Block}
 use Rattle.ng_state.specs.declared.modes.Modes.{Modes}
 use Rattle.ng_state.specs.declared.modes.Motion.{Motion}
-use Rattle.ng_state.specs.declared.modes.Motion.TheVariants.{Traverse, Feed, Off}
+use Rattle.ng_state.specs.declared.modes.Motion.TheVariants.{Off}
+use Rattle.ng_modal.specs.declared.movement.Movement.{Movement}
+use Rattle.ng_modal.specs.declared.movement.Movement.TheVariants.{Straight}
 use Rattle.ng_modal.specs.declared.sorted.Sorted.{Sorted}
 use Rattle.ng_modal.proofs.TestLemmas.{and_left, and_right, or_left, or_right, not_true, and_false, nothing_there}
 
 -- if a line makes a straight move, the mode after it is that of a straight move
-straight_after : (word : Option Motion) (calls : Bool) (mode : Motion) → is_straight (motion_by word calls mode) ≡ true → is_off (unwrap_or word mode) ≡ false
+straight_after : (word : Option Motion) (calls : Bool) (mode : Motion) → is_straight (option_and_then movement_of (motion_by word calls mode)) ≡ true
+    → is_off (unwrap_or word mode) ≡ false
 straight_after (Some Off) calls mode e = absurd (cc e)
 straight_after (Some _) calls mode e = refl
 straight_after None true Off e = absurd (cc e)
 straight_after None true _ e = refl
 straight_after None false mode e = absurd (cc e)
 
-straight_no_cycle : (motion : Option Motion) → is_straight motion ≡ true → is_cycle motion ≡ false
+straight_no_cycle : (movement : Option Movement) → is_straight movement ≡ true → is_cycle movement ≡ false
 straight_no_cycle None e = refl
-straight_no_cycle (Some Traverse) e = refl
-straight_no_cycle (Some Feed) e = refl
+straight_no_cycle (Some (Straight kind)) e = refl
 straight_no_cycle (Some _) e = absurd (cc e)
 
 few : (n : ℕ) → nat_lt 4 (min 5 n) ≡ false → nat_lt 4 n ≡ false
@@ -49,12 +52,12 @@ valid_block : (ws : List Word) (b : Block) (m : Modes) (slots : ℕ) →
     b.values.h ≡ None → b.values.i ≡ None → b.values.j ≡ None → b.values.k ≡ None → b.values.l ≡ None → b.values.p ≡ None →
     b.values.q ≡ None → b.values.r ≡ None → b.values.s ≡ None → b.values.t ≡ None →
     b.g.non_modal ≡ None → b.g.tool_length ≡ None →
-    is_negative b.values.f ≡ false → has_axis b.values ≡ true → is_off (motion_after b m) ≡ false → is_cycle b.motion ≡ false →
+    is_negative b.values.f ≡ false → has_axis b.values ≡ true → is_off (motion_after b m) ≡ false → is_cycle b.movement ≡ false →
     NoneHolds (faults_of ws b m slots)
 valid_block ws b m slots c1 c2 c3 c4 c5 h i j k l p q r s t non_modal tool_length feed axis on cycle =
-    let c6 : takes_axes_twice b ≡ false = rw non_modal (and_false (is_some (option_and_then moving b.g.motion))) in
+    let c6 : takes_axes_twice b ≡ false = rw non_modal (and_false (is_some (movement_of_word b))) in
     let c7 : leaves_axis_unused b m ≡ false = rw (axis, on) refl in
-    let c8 : moves_no_axis b ≡ false = rw axis (and_false (is_straight b.g.motion)) in
+    let c8 : moves_no_axis b ≡ false = rw axis (and_false (is_straight (movement_of_word b))) in
     let c9 : sets_nothing b ≡ false = rw non_modal refl in
     let c10 : has_bad_g53 b m ≡ false = rw non_modal refl in
     let c11 : has_radius_arc b ≡ false = rw r refl in
@@ -112,8 +115,8 @@ plain_is_valid ws m slots plain =
     let refused : Bool = is_marked s || has_others b.values || takers in
     let fed : Bool = not (is_negative b.values.f) && not refused in
     let moves : Bool = has_axis b.values && fed in
-    let straight : is_straight b.motion ≡ true = and_left (is_straight b.motion) moves plain in
-    let has_moves : moves ≡ true = and_right (is_straight b.motion) moves plain in
+    let straight : is_straight b.movement ≡ true = and_left (is_straight b.movement) moves plain in
+    let has_moves : moves ≡ true = and_right (is_straight b.movement) moves plain in
     let axis : has_axis b.values ≡ true = and_left (has_axis b.values) fed has_moves in
     let is_fed : fed ≡ true = and_right (has_axis b.values) fed has_moves in
     let feed : is_negative b.values.f ≡ false = not_true (is_negative b.values.f) (and_left (not (is_negative b.values.f)) (not refused) is_fed) in
@@ -131,4 +134,4 @@ plain_is_valid ws m slots plain =
     words.0.0 words.0.1 words.0.2 words.0.3 words.0.4 words.1.0 words.1.1 words.1.2 words.1.3 words.1.4
     non_modal tool_length feed axis
     (straight_after b.g.motion (has_axis v && not (takes_axes b.g.non_modal)) m.motion straight)
-    (straight_no_cycle b.motion straight))
+    (straight_no_cycle b.movement straight))

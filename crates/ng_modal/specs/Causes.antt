@@ -6,7 +6,8 @@ use Rattle.ng_num.specs.Whole.{whole_of}
 use Rattle.ng_canon.specs.declared.plane.Plane.{Plane}
 use Rattle.ng_canon.specs.declared.plane.Plane.TheVariants.{Xy, Xz, Yz}
 use Rattle.ng_modal.specs.ByLetter.{has_axis}
-use Rattle.ng_modal.specs.Block.{takes_axes, moving, motion_after, plane_after, is_straight, is_arc, is_cycle}
+use Rattle.ng_modal.specs.Block.{takes_axes, movement_of_word, motion_after, plane_after}
+use Rattle.ng_modal.specs.Movement.{movement_of, is_straight, is_arc, is_cycle, dwells, pecks}
 use Rattle.ng_modal.specs.declared.requests.NonModal.{NonModal}
 use Rattle.ng_modal.specs.declared.requests.NonModal.TheVariants.{Dwell, SetOrigin, MachineCoordinates, SetOffset}
 use Rattle.ng_modal.specs.declared.requests.ToolLength.{ToolLength}
@@ -14,11 +15,11 @@ use Rattle.ng_modal.specs.declared.requests.ToolLength.TheVariants.{OfSlot}
 use Rattle.ng_modal.specs.declared.block.Block.{Block}
 use Rattle.ng_state.specs.declared.modes.Modes.{Modes}
 use Rattle.ng_state.specs.declared.modes.Motion.{Motion}
-use Rattle.ng_state.specs.declared.modes.Motion.TheVariants.{Off, DrillingWithDwell, PeckDrilling, BoringWithStop, BoringWithDwell}
+use Rattle.ng_state.specs.declared.modes.Motion.TheVariants.{Off}
 
 -- B6: a group 1 word other than G80 on a line with G10, G28, G30 or G92
 abbrev pub takes_axes_twice : Block → Bool
-takes_axes_twice b = is_some (option_and_then moving b.g.motion) && takes_axes b.g.non_modal
+takes_axes_twice b = is_some (movement_of_word b) && takes_axes b.g.non_modal
 
 abbrev pub is_off : Motion → Bool
 is_off Off = true
@@ -30,7 +31,7 @@ leaves_axis_unused b m = has_axis b.values && (is_off (motion_after b m) && not 
 
 -- B8: a G0 or G1 word without X, Y, Z
 abbrev pub moves_no_axis : Block → Bool
-moves_no_axis b = is_straight b.g.motion && not (has_axis b.values)
+moves_no_axis b = is_straight (movement_of_word b) && not (has_axis b.values)
 
 abbrev pub is_set_offset : Option NonModal → Bool
 is_set_offset (Some SetOffset) = true
@@ -46,11 +47,11 @@ is_machine _ = false
 
 -- B10: G53 when the motion mode after the line isn't G0 or G1
 abbrev pub has_bad_g53 : Block → Modes → Bool
-has_bad_g53 b m = is_machine b.g.non_modal && not (is_straight (Some (motion_after b m)))
+has_bad_g53 b m = is_machine b.g.non_modal && not (is_straight (movement_of (motion_after b m)))
 
--- B11: R on a line whose motion is G2 or G3
+-- B11: R on a line that moves by G2 or G3
 abbrev pub has_radius_arc : Block → Bool
-has_radius_arc b = is_some b.values.r && is_arc b.motion
+has_radius_arc b = is_some b.values.r && is_arc b.movement
 
 abbrev pub is_dwell : Option NonModal → Bool
 is_dwell (Some Dwell) = true
@@ -63,18 +64,6 @@ is_set_origin _ = false
 abbrev pub is_of_slot : Option ToolLength → Bool
 is_of_slot (Some OfSlot) = true
 is_of_slot _ = false
-
--- G82, G86 and G89
-abbrev pub dwells : Option Motion → Bool
-dwells (Some DrillingWithDwell) = true
-dwells (Some BoringWithStop) = true
-dwells (Some BoringWithDwell) = true
-dwells _ = false
-
--- G83
-abbrev pub pecks : Option Motion → Bool
-pecks (Some PeckDrilling) = true
-pecks _ = false
 
 -- X is an axis of the plane
 abbrev pub is_along_x : Plane → Bool
@@ -96,9 +85,9 @@ is_unused_word word taken = is_some word && not taken
 -- I, J, K: one that isn't an offset of an arc in its plane
 abbrev pub has_unused_offset : Block → Plane → Bool
 has_unused_offset b plane =
-    is_unused_word b.values.i (is_arc b.motion && is_along_x plane)
-    || (is_unused_word b.values.j (is_arc b.motion && is_along_y plane)
-    || is_unused_word b.values.k (is_arc b.motion && is_along_z plane))
+    is_unused_word b.values.i (is_arc b.movement && is_along_x plane)
+    || (is_unused_word b.values.j (is_arc b.movement && is_along_y plane)
+    || is_unused_word b.values.k (is_arc b.movement && is_along_z plane))
 
 -- B12: a word that nothing uses: H without G43; I, J, K except as offsets of an arc in its plane; L without G10 or a
 -- cycle; P without G4, G10, G82, G86 or G89; Q without G83; R without a cycle or an arc
@@ -106,10 +95,10 @@ abbrev pub leaves_word_unused : Block → Modes → Bool
 leaves_word_unused b m =
     is_unused_word b.values.h (is_of_slot b.g.tool_length)
     || (has_unused_offset b (plane_after b m)
-    || (is_unused_word b.values.l (is_set_origin b.g.non_modal || is_cycle b.motion)
-    || (is_unused_word b.values.p (is_dwell b.g.non_modal || (is_set_origin b.g.non_modal || dwells b.motion))
-    || (is_unused_word b.values.q (pecks b.motion)
-    || is_unused_word b.values.r (is_cycle b.motion || is_arc b.motion)))))
+    || (is_unused_word b.values.l (is_set_origin b.g.non_modal || is_cycle b.movement)
+    || (is_unused_word b.values.p (is_dwell b.g.non_modal || (is_set_origin b.g.non_modal || dwells b.movement))
+    || (is_unused_word b.values.q (pecks b.movement)
+    || is_unused_word b.values.r (is_cycle b.movement || is_arc b.movement)))))
 
 abbrev pub is_negative : Option ℤ → Bool
 is_negative None = false
@@ -143,7 +132,7 @@ is_positive (Some n) = not (int_lt n (pos 1))
 abbrev pub has_bad_l : Block → Bool
 has_bad_l b =
     (is_set_origin b.g.non_modal && not (is_whole_within (pos 2) (pos 2) b.values.l))
-    || (is_cycle b.motion && is_unused_word b.values.l (is_positive (option_and_then whole_of b.values.l)))
+    || (is_cycle b.movement && is_unused_word b.values.l (is_positive (option_and_then whole_of b.values.l)))
 
 -- B16: P of G10 is missing or isn't a whole number from 1 to 9
 abbrev pub has_bad_system : Block → Bool
@@ -157,6 +146,6 @@ has_no_dwell b = is_dwell b.g.non_modal && is_none b.values.p
 abbrev pub has_no_h : Block → Bool
 has_no_h b = is_of_slot b.g.tool_length && is_none b.values.h
 
--- B19: the motion is a cycle and the plane after the line isn't G17
+-- B19: the line moves in a cycle and the plane after the line isn't G17
 abbrev pub has_cycle_plane : Block → Modes → Bool
-has_cycle_plane b m = is_cycle b.motion && is_along_z (plane_after b m)
+has_cycle_plane b m = is_cycle b.movement && is_along_z (plane_after b m)

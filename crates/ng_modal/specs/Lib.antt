@@ -4,6 +4,7 @@ pub mod Words
 pub mod ByLetterModel
 pub mod ByLetter
 pub mod ByGroup
+pub mod Movement
 pub mod Block
 pub mod BlockOfWords
 pub mod WordCauses

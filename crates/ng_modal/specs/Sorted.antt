@@ -6,21 +6,21 @@ use Rattle.ng_modal.specs.Words.{g_words_of, m_words_of}
 use Rattle.ng_modal.specs.ByLetter.{by_letter, has_axis}
 use Rattle.ng_modal.specs.ByGroup.{g_words, m_words}
 use Rattle.ng_modal.specs.WordCauses.{is_repeated, has_unknown, has_left_out, has_left_out_code, is_group_twice, is_m_group_twice, count_of_m}
-use Rattle.ng_modal.specs.Block.{is_straight}
+use Rattle.ng_modal.specs.Movement.{is_straight}
 use Rattle.ng_modal.specs.BlockOfWords.{block_of}
 use Rattle.ng_modal.specs.Causes.{is_negative}
 use Rattle.ng_modal.specs.declared.by_letter.ByLetter.{ByLetter}
 use Rattle.ng_state.specs.declared.modes.Modes.{Modes}
 use Rattle.ng_modal.specs.declared.sorted.Sorted.{Sorted}
 
--- the motion and the letters that are left out are found after all words were added
+-- the movement and the letters that are left out are found after all words were added
 abbrev pub sorted : List Word → Sorted
 sorted ws = record {
   block = record {
     values = by_letter ws;
     g = g_words (g_words_of ws);
     m = m_words (m_words_of ws);
-    motion = None;
+    movement = None;
   };
   repeated = is_repeated ws;
   unknown = has_unknown ws;
@@ -45,7 +45,7 @@ has_others v = is_some v.h || is_some v.i || is_some v.j || is_some v.k || is_so
 -- a straight move, and nothing that may be refused
 abbrev pub is_plain : Sorted → Bool
 is_plain s =
-    is_straight s.block.motion
+    is_straight s.block.movement
     && (has_axis s.block.values
     && (not (is_negative s.block.values.f)
     && not (is_marked s || has_others s.block.values || (is_some s.block.g.non_modal || is_some s.block.g.tool_length))))

@@ -1,15 +1,15 @@
 -- The whole numbers in words, and what is known about the words of an accepted block.
-use Rattle.std.specs.Prelude.{◌≡◌, ◌≢◌, ◌≤◌, ℕ, ℤ, pos, negsuc, ◌≤ℤ◌, true, nat_le, max, if◌then◌else◌, Option, Some, None, IsSome, IfSome}
+use Rattle.std.specs.Prelude.{◌≡◌, ◌≤◌, ℕ, ℤ, pos, negsuc, ◌≤ℤ◌, true, nat_le, max, if◌then◌else◌, Option, Some, None, IsSome, IfSome}
 use Rattle.std.specs.Option.{option_and_then}
 use Rattle.ng_num.specs.Whole.{whole_of}
 use Rattle.ng_params.specs.Numbers.{system_of}
 use Rattle.ng_canon.specs.declared.plane.Plane.TheVariants.{Xy}
-use Rattle.ng_modal.specs.Block.{plane_after, is_cycle}
+use Rattle.ng_modal.specs.Block.{plane_after}
+use Rattle.ng_modal.specs.Movement.{is_cycle}
 use Rattle.ng_modal.specs.declared.requests.NonModal.TheVariants.{Dwell, SetOrigin}
 use Rattle.ng_modal.specs.declared.requests.ToolLength.TheVariants.{OfSlot}
 use Rattle.ng_modal.specs.declared.block.Block.{Block}
 use Rattle.ng_state.specs.declared.modes.Modes.{Modes}
-use Rattle.ng_state.specs.declared.modes.Motion.TheVariants.{Off}
 
 -- the slot with a number, from 0 to 255
 abbrev pub slot_of : ℤ → Option ℕ
@@ -50,6 +50,5 @@ pub record IsAccepted (b : Block) (m : Modes) (slots : ℕ) : Type 0 where
   pub speed : IsFromZero b.values.s
   pub dwell : b.g.non_modal ≡ Some Dwell → (p : ℤ) × (b.values.p ≡ Some p) × (pos 0 ≤ℤ p)
   pub system : b.g.non_modal ≡ Some SetOrigin → (n : ℕ) × (system_on b.values.p ≡ Some n)
-  pub repeats : is_cycle b.motion ≡ true → IfSome b.values.l (λ v. whole_of v ≡ Some (pos (repeats_on b.values.l)))
-  pub plane : is_cycle b.motion ≡ true → plane_after b m ≡ Xy
-  pub moves : b.motion ≢ Some Off
+  pub repeats : is_cycle b.movement ≡ true → IfSome b.values.l (λ v. whole_of v ≡ Some (pos (repeats_on b.values.l)))
+  pub plane : is_cycle b.movement ≡ true → plane_after b m ≡ Xy

@@ -2,10 +2,11 @@
 ghost use Rattle.std.specs.Prelude.{◌≡◌};
 ghost use Rattle.ng_modal.specs.Causes.{takes_axes_twice, leaves_axis_unused, moves_no_axis, sets_nothing, has_bad_g53, has_radius_arc, has_unused_offset, leaves_word_unused, has_negative, has_bad_slot, has_bad_l, has_bad_system, has_no_dwell, has_no_h, has_cycle_plane};
 
-use crate::block::{Block, is_arc, is_cycle, is_straight, moving, takes_axes};
+use crate::block::{Block, takes_axes};
+use crate::movement::{Movement, dwells, is_arc, is_cycle, is_straight, pecks};
 use crate::predicates::{
-    dwells, is_along_x, is_along_y, is_along_z, is_dwell, is_machine, is_negative, is_of_slot,
-    is_off, is_positive, is_set_offset, is_set_origin, is_unused_word, is_whole_within, pecks,
+    is_along_x, is_along_y, is_along_z, is_dwell, is_machine, is_negative, is_of_slot, is_off,
+    is_positive, is_set_offset, is_set_origin, is_unused_word, is_whole_within,
 };
 use ng_canon::Plane;
 use ng_state::Modes;
@@ -16,10 +17,7 @@ impl Block {
     pub(crate) fn takes_axes_twice(&self) -> bool
         ensures { result ≡ takes_axes_twice self.now }
     {
-        match self.g.motion {
-            None => false,
-            Some(word) => moving(word).is_some() && takes_axes(self.g.non_modal),
-        }
+        self.movement_of_word().is_some() && takes_axes(self.g.non_modal)
     }
 
     /// B7: an axis word that nothing uses.
@@ -35,7 +33,7 @@ impl Block {
     pub(crate) fn moves_no_axis(&self) -> bool
         ensures { result ≡ moves_no_axis self.now }
     {
-        is_straight(self.g.motion) && !self.values.has_axis()
+        is_straight(self.movement_of_word()) && !self.values.has_axis()
     }
 
     /// B9: G92 without an axis word.
@@ -51,15 +49,15 @@ impl Block {
     pub(crate) fn has_bad_g53(&self, modes: &Modes) -> bool
         ensures { result ≡ has_bad_g53 self.now modes.now }
     {
-        is_machine(self.g.non_modal) && !is_straight(Some(self.motion_after(modes)))
+        is_machine(self.g.non_modal) && !is_straight(Movement::of(self.motion_after(modes)))
     }
 
-    /// B11: R on a line whose motion is an arc.
+    /// B11: R on a line that moves along an arc.
     #[inline]
     pub(crate) fn has_radius_arc(&self) -> bool
         ensures { result ≡ has_radius_arc self.now }
     {
-        self.values.r().is_some() && is_arc(self.motion)
+        self.values.r().is_some() && is_arc(self.movement)
     }
 
     /// Whether there is a centre offset that an arc in the plane doesn't use.
@@ -67,9 +65,9 @@ impl Block {
     fn has_unused_offset(&self, plane: Plane) -> bool
         ensures { result ≡ has_unused_offset self.now plane }
     {
-        is_unused_word(self.values.i(), is_arc(self.motion) && is_along_x(plane))
-            || is_unused_word(self.values.j(), is_arc(self.motion) && is_along_y(plane))
-            || is_unused_word(self.values.k(), is_arc(self.motion) && is_along_z(plane))
+        is_unused_word(self.values.i(), is_arc(self.movement) && is_along_x(plane))
+            || is_unused_word(self.values.j(), is_arc(self.movement) && is_along_y(plane))
+            || is_unused_word(self.values.k(), is_arc(self.movement) && is_along_z(plane))
     }
 
     /// B12: a word that nothing on the line uses.
@@ -81,18 +79,18 @@ impl Block {
             || self.has_unused_offset(self.plane_after(modes))
             || is_unused_word(
                 self.values.l(),
-                is_set_origin(self.g.non_modal) || is_cycle(self.motion),
+                is_set_origin(self.g.non_modal) || is_cycle(self.movement),
             )
             || is_unused_word(
                 self.values.p(),
                 is_dwell(self.g.non_modal)
                     || is_set_origin(self.g.non_modal)
-                    || dwells(self.motion),
+                    || dwells(self.movement),
             )
-            || is_unused_word(self.values.q(), pecks(self.motion))
+            || is_unused_word(self.values.q(), pecks(self.movement))
             || is_unused_word(
                 self.values.r(),
-                is_cycle(self.motion) || is_arc(self.motion),
+                is_cycle(self.movement) || is_arc(self.movement),
             )
     }
 
@@ -126,7 +124,7 @@ impl Block {
         ensures { result ≡ has_bad_l self.now }
     {
         is_set_origin(self.g.non_modal) && !is_whole_within(2, 2, self.values.l())
-            || is_cycle(self.motion)
+            || is_cycle(self.movement)
                 && is_unused_word(self.values.l(), is_positive(self.values.l()))
     }
 
@@ -159,6 +157,6 @@ impl Block {
     pub(crate) fn has_cycle_plane(&self, modes: &Modes) -> bool
         ensures { result ≡ has_cycle_plane self.now modes.now }
     {
-        is_cycle(self.motion) && is_along_z(self.plane_after(modes))
+        is_cycle(self.movement) && is_along_z(self.plane_after(modes))
     }
 }

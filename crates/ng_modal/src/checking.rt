@@ -5,7 +5,8 @@ ghost use Rattle.ng_num.specs.Causes.{first_fault, NoneHolds, IsFirstFault};
 ghost use Rattle.ng_modal.specs.Checking.{faults, checked};
 ghost use Rattle.ng_modal.specs.WholeNumbers.{IsAccepted};
 
-use crate::block::{Block, is_straight};
+use crate::block::Block;
+use crate::movement::is_straight;
 use crate::predicates::is_negative;
 use crate::sorted::Sorted;
 use ng_expr::{Values, Word};
@@ -40,20 +41,20 @@ impl Sorted {
             | values.s().is_some()
             | values.t().is_some();
         let takers = block.g.non_modal.is_some() | block.g.tool_length.is_some();
-        is_straight(block.motion)
+        is_straight(block.movement)
             && values.has_axis()
             && !is_negative(values.f())
             && !(marked | others | takers)
     }
 
-    /// Replaces what is kept by the words of a line, and finds whether a letter is left out and which motion the line
-    /// makes in these modes.
+    /// Replaces what is kept by the words of a line, and finds whether a letter is left out and what the line moves in
+    /// these modes.
     fn sort_in(&mut self, words: &[Word], modes: &Modes)
         ensures { self.new ≡ sorted_in words.now modes.now }
     {
         self.sort(words);
         self.left_out |= self.block.values.has_left_out_letter();
-        self.block.motion = self.block.motion_for(modes.motion);
+        self.block.movement = self.block.movement_for(modes.motion);
     }
 
     /// The first of B1 to B19 whose cause holds for the words that are kept. Few lines come here, so this is a call of

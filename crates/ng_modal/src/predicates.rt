@@ -2,7 +2,7 @@
 ghost use Rattle.std.specs.Prelude.{◌≡◌};
 ghost use Rattle.std.specs.Option.{option_and_then};
 ghost use Rattle.ng_num.specs.Whole.{whole_of};
-ghost use Rattle.ng_modal.specs.Causes.{is_off, is_set_offset, is_machine, is_dwell, is_set_origin, is_of_slot, dwells, pecks, is_along_x, is_along_y, is_along_z, is_unused_word, is_negative, is_between, is_whole_within, is_positive};
+ghost use Rattle.ng_modal.specs.Causes.{is_off, is_set_offset, is_machine, is_dwell, is_set_origin, is_of_slot, is_along_x, is_along_y, is_along_z, is_unused_word, is_negative, is_between, is_whole_within, is_positive};
 
 use crate::requests::{NonModal, ToolLength};
 use ng_canon::Plane;
@@ -71,30 +71,6 @@ pub(crate) fn is_of_slot(word: Option<ToolLength>) -> bool
 {
     match word {
         Some(ToolLength::OfSlot) => true,
-        _ => false,
-    }
-}
-
-/// Whether a motion is G82, G86 or G89.
-#[inline]
-pub(crate) fn dwells(motion: Option<Motion>) -> bool
-    ensures { result ≡ dwells motion }
-{
-    match motion {
-        Some(Motion::DrillingWithDwell)
-        | Some(Motion::BoringWithStop)
-        | Some(Motion::BoringWithDwell) => true,
-        _ => false,
-    }
-}
-
-/// Whether a motion is the cycle G83.
-#[inline]
-pub(crate) fn pecks(motion: Option<Motion>) -> bool
-    ensures { result ≡ pecks motion }
-{
-    match motion {
-        Some(Motion::PeckDrilling) => true,
         _ => false,
     }
 }

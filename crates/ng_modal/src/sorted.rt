@@ -68,7 +68,7 @@ impl Sorted {
                 values: ByLetter::nothing(),
                 g: GWords::nothing(),
                 m: MWords::nothing(),
-                motion: None,
+                movement: None,
             },
             repeated: false,
             unknown: false,
@@ -87,7 +87,7 @@ impl Sorted {
         self.block.values.clear();
         self.block.g = GWords::nothing();
         self.block.m = MWords::nothing();
-        self.block.motion = None;
+        self.block.movement = None;
         self.repeated = false;
         self.unknown = false;
         self.left_out = false;

@@ -20,4 +20,4 @@ returns c =
     (row action.OriginOffsets shown.system _ c.map-10.result _ _ refl c.map-10.ensures.cases
     (row action.OriginOffsets shown.axis_data _ c.map-11.result _ _ refl c.map-11.ensures.cases
     (row action.InverseTime c.time_word.result _ c.map-12.result [] []
-    (c.time_word.ensures ∙ ap (λ (f : Option ℤ). time_word c.args.mode b.motion f) c.f.ensures) c.map-12.ensures.cases refl)))))))))))
+    (c.time_word.ensures ∙ ap (λ (f : Option ℤ). time_word c.args.mode b.movement f) c.f.ensures) c.map-12.ensures.cases refl)))))))))))
