@@ -1,15 +1,13 @@
--- A format: sectors are written one after another. And the state once the header of the first epoch is synced.
-use Rattle.std.proofs.Common.{◌≡◌, ◌≢◌, ◌⊎◌, inl, inr, ℕ, ◌+◌, ◌-◌, ◌%◌, ◌<◌, ◌==◌, ◌&&◌, nat_lt, Bool, false}
+-- A format: the state once the header of the first epoch is synced.
+use Rattle.std.proofs.Common.{◌≡◌, ◌⊎◌, inl, inr, ℕ, ◌+◌, ◌-◌, ◌%◌, ◌<◌, ◌==◌, ◌&&◌, nat_lt, Bool, false}
 use Rattle.std.proofs.Common.{if◌then◌else◌, List, [], ℤ, pos, set, replicate, Option, Some, None, Result, Ok, Err}
 use Rattle.std.proofs.Common.{length, refl, sym, ◌∙◌, ap, subst, arith}
-use Rattle.std.proofs.lemmas.Bool.{cases_eq}
 use Rattle.std.proofs.lemmas.List.{length-replicate}
 use Rattle.std.proofs.Math.ListN.{length-set}
 use Rattle.std.specs.Prelude.{OnOk}
 use Rattle.ng_rig.specs.Trace.{Image, Trace, Wrote, Synced, reads}
-use Rattle.ng_rig.specs.Calls.{WriteSpec, SyncSpec}
+use Rattle.ng_rig.specs.Calls.{SyncSpec}
 use Rattle.ng_rig.proofs.ContinuationLemmas.{is_synced}
-use Rattle.ng_rig.proofs.WritesOnlyLemmas.{only_more, only_write, only_synced}
 use Rattle.ng_layout.specs.Fields.{number_at}
 use Rattle.ng_layout.specs.Codes.{format_of}
 use Rattle.ng_layout.specs.Decoding.{and_then, up_to}
@@ -27,73 +25,13 @@ use Rattle.ng_layout.specs.Stored.{StoredModel}
 use Rattle.ng_layout.proofs.SectorLemmas.{number-zeros}
 use Rattle.ng_layout.proofs.ImageLemmas.{stretch-at}
 use Rattle.ng_layout.proofs.SnapshotLemmas.{snapshot-new}
-use Rattle.ng_journal.specs.Area.{BelongsIn}
 use Rattle.ng_log.specs.AtEnd.{no_records, EndsIn, IsAtEnd}
 use Rattle.ng_journal.specs.AtRest.{IsLaidOut}
 use Rattle.ng_journal.specs.Formatting.{IsEmpty, first_header}
-use Rattle.ng_journal.specs.Private.Overwrites.{OverwritesTo, Overwrites}
+use Rattle.ng_journal.specs.Private.Overwrites.{Overwrites}
 use Rattle.ng_journal.proofs.WrittenSectorLemmas.{there, elsewhere, WritesFirst, first_headers, first_log}
 use Rattle.ng_journal.proofs.WrittenSectorLemmas.{first_area, first_tools, empty_lengths, first_sync, first_write}
 use Rattle.ng_journal.proofs.WrittenSectorLemmas.{laid_out}
-
--- what a read of another sector returns after a write that may have failed
-untouched : {T E : Type 0} (result : Result T E) (m n : ℕ) (bytes : List ℕ) (old new : Trace) → m ≢ n
-    → WriteSpec result n bytes old new → reads new m ≡ reads old m
-untouched (Ok _) m n bytes old new other is = ap (λ (l : Trace). reads l m) is ∙ elsewhere m n bytes old other
-untouched (Err _) m n bytes old new other (inl is) = ap (λ (l : Trace). reads l m) is
-untouched (Err _) m n bytes old new other (inr (inl is)) = ap (λ (l : Trace). reads l m) is ∙ elsewhere m n bytes old other
-untouched (Err _) m n bytes old new other (inr (inr is)) = ap (λ (l : Trace). reads l m) is
-
--- One more sector of a stretch is right.
-module _ (n at first size : ℕ) (IsRight : ℕ → List ℕ → Type 0) (bytes : List ℕ) (old mid : Trace) (lt : n < size)
-    (at_is : at ≡ first + n) (right : IsRight n bytes) (w : OverwritesTo n first size IsRight old mid) where
-  abbrev May : ℕ → List ℕ → Type 0
-  May m c = BelongsIn first size IsRight m c
-
-  may : BelongsIn first size IsRight at bytes
-  may = record { place = n; within = lt; is = at_is; right = right }
-
-  beside_it : (m : ℕ) → ¬ IsAmong first size m → m ≢ at
-  beside_it m out e = out (record { from = omega arith; to = omega arith })
-
-  pub written : (new : Trace) → new ≡ Wrote at bytes mid → OverwritesTo (n + 1) first size IsRight old new
-  written new is =
-      let ok : Result ℕ ℕ = Ok 0 in
-      let there_is : reads (Wrote at bytes mid) (first + n) ≡ bytes = ap (λ (m : ℕ). reads (Wrote at bytes mid) m) (sym at_is) ∙ there at bytes mid in
-      subst (λ (l : Trace). OverwritesTo (n + 1) first size IsRight old l) (sym is) (record {
-        writes = only_more May old mid (Wrote at bytes mid) w.writes (only_write May ok at bytes mid (Wrote at bytes mid) may refl);
-        outside = λ m out. elsewhere m at bytes mid (beside_it m out) ∙ w.outside m out;
-        parts = λ j below. elim (cases_eq j n) [
-          | inl same ↦ subst (λ (x : ℕ). IsRight x (reads (Wrote at bytes mid) (first + x))) (sym same) (subst (IsRight n) (sym there_is) right)
-          | inr other ↦ subst (IsRight j) (sym (elsewhere (first + j) at bytes mid (λ e. other (omega arith)))) (w.parts j (omega arith))
-        ];
-      })
-
-  -- or its write failed
-  pub not_written : {T E F : Type 0} (e : E) (result : Result T F) (new : Trace) → WriteSpec result at bytes mid new
-      → Overwrites {T = T} (Err e) first size IsRight old new
-  not_written e result new is = record {
-    writes = only_more May old mid new w.writes (only_write May result at bytes mid new may is);
-    outside = λ m out. untouched result m at bytes mid new (beside_it m out) is ∙ w.outside m out;
-    parts = tt;
-  }
-
--- A sync changes nothing of that.
-pub written_on : (n first size : ℕ) (IsRight : ℕ → List ℕ → Type 0) (old mid new : Trace)
-    → OverwritesTo n first size IsRight old mid → new ≡ Synced mid → OverwritesTo n first size IsRight old new
-written_on n first size IsRight old mid new w is = subst (λ (l : Trace). OverwritesTo n first size IsRight old l)
-    (sym is) (record {
-      writes = only_synced (λ m c. BelongsIn first size IsRight m c) old mid w.writes;
-      outside =
-          w.outside;
-      parts = w.parts;
-    })
-
-pub not_synced : {T E : Type 0} (e : E) (n first size : ℕ) (IsRight : ℕ → List ℕ → Type 0) (old mid new : Trace)
-    → OverwritesTo n first size IsRight old mid → new ≡ mid → Overwrites {T = T} (Err e) first size IsRight old new
-not_synced {T = T} {E = E} e n first size IsRight old mid new w same =
-    subst (λ (l : Trace). Overwrites {T = T} {E = E} (Err e) first size IsRight old l) (sym same)
-    (record { writes = w.writes; outside = w.outside; parts = tt })
 
 -- A sector that begins with zeros is neither a header nor a part.
 no_mark : (bytes : List ℕ) → number_at 8 0 bytes ≡ 0 → is_marked bytes ≡ false

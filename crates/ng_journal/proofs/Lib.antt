@@ -8,6 +8,7 @@ pub mod LineReadLemmas
 pub mod MigrationLemmas
 pub mod StoredChangeLemmas
 pub mod LoadLemmas
+pub mod OverwriteLemmas
 pub mod ProgramHeldLemmas
 pub mod RecordStoreLemmas
 pub mod RecoverLemmas

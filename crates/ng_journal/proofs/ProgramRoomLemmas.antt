@@ -1,5 +1,5 @@
 -- What is written of a state doesn't depend on its room for a program.
-use Rattle.std.proofs.Common.{◌≡◌, inl, inr, ⊎_elim, ℕ, ◌+◌, ◌<◌, ◌≤◌, List, ℤ, length, Option, Result, Ok, Err, sym, subst}
+use Rattle.std.proofs.Common.{◌≡◌, inl, inr, ⊎_elim, ℕ, ◌+◌, ◌<◌, ◌≤◌, List, length, Option, Result, Ok, Err, sym, ◌∙◌, ap, subst}
 use Rattle.std.specs.Prelude.{OnOk, IfOk}
 use Rattle.ng_canon.specs.declared.item.Item.{Item}
 use Rattle.ng_rig.specs.Trace.{Image, Trace, reads, items}
@@ -8,7 +8,6 @@ use Rattle.ng_rig.proofs.ContinuationLemmas.{weaker}
 use Rattle.ng_rig.proofs.WritesOnlyLemmas.{only_wider, reads_blend}
 use Rattle.ng_params.specs.declared.change.Change.{Change}
 use Rattle.ng_params.specs.Differences.{differences}
-use Rattle.ng_offsets.specs.Tools.{first_change, IsOneSlotFrom}
 use Rattle.ng_offsets.specs.declared.tools.SlotChange.{SlotChange}
 use Rattle.ng_layout.specs.Areas.{snapshot_first, snapshot_size, log_first, log_size_of}
 use Rattle.ng_layout.specs.declared.header.Format.TheVariants.{Two}
@@ -22,12 +21,13 @@ use Rattle.ng_layout.proofs.ToolTableLemmas.{valid, restored}
 use Rattle.ng_log.specs.declared.log_end.LogEnd.{LogEnd}
 use Rattle.ng_log.specs.Writing.{WritesRecord, AppendSpec}
 use Rattle.ng_log.specs.AtEnd.{end_after, EndsIn, IsAtEnd, IsEither}
-use Rattle.ng_log.specs.Records.{LogRecord, size_of, IsPartOf, BelongsToRecord, record_at, record_from}
-use Rattle.ng_log.proofs.RecordWriteLemmas.{next_of}
+use Rattle.ng_log.specs.Records.{LogRecord, size_of, IsPartOf, BelongsToRecord, record_at}
+use Rattle.ng_log.proofs.RecordWriteLemmas.{next_from}
 use Rattle.ng_log.proofs.LogEndLemmas.{IsBlend, IsNext, blend-force, blend-stands, blend-written, blend-ends}
 use Rattle.ng_journal.specs.AtRest.{BelongsToAreas, BelongsTo, IsLaidOut, next_header}
 use Rattle.ng_journal.specs.Loads.{BelongsToLoad, StoresLoad}
 use Rattle.ng_journal.specs.Private.CheckpointSteps.{WritesAreas}
+use Rattle.ng_journal.specs.Private.Records.{LeadsTo}
 
 abbrev pub with_room : ℕ → StoredModel → StoredModel
 with_room room saved = record saved { room = room }
@@ -184,36 +184,26 @@ module _ (old : Trace) (header : Header) (before : DurableState) (end : LogEnd) 
       }
 
 -- A record of a state stands for that state with the old state's room.
-pub append_kept : {E : Type 0} (result : Result LogEnd E) (header : Header) (end : LogEnd) (table : List ℤ)
-    (slot : Option SlotChange) (before : DurableState) (was stored : StoredModel) (count : ℕ) (old new : Trace)
-    → IsAtEnd old header before end
-    → before.saved.setup.params ≡ was.setup.params → before.saved.tools ≡ was.tools → before.saved.room ≡ was.room
-    → table ≡ was.setup.params → length was.setup.params ≡ 5399 → slot ≡ first_change was.tools stored.tools
-    → IsOneSlotFrom was.tools stored.tools → IsStorable stored
-    → count ≡ length (differences was.setup.params stored.setup.params)
-    → end.sector + parts_for count ≤ log_size_of header → stored.length ≡ header.length → header.format ≡ Two
-    → IfOk result (λ after. after ≡ end_after end count)
-    → WritesRecord result (record_from header.epoch end table slot stored) old new → AppendSpec result header before (with_room was.room stored) old new
-append_kept {E = E} result header end table slot before was stored count old new at params tools room table_is all
-    slot_is one storable count_is fits long two after_is w =
-    written old header before end saved changes slot at next result new (go result after_is)
-    (record_kept was.room header.epoch end stored changes slot result old new of_was)
+pub append_kept : {E : Type 0} (result : Result LogEnd E) (header : Header) (end : LogEnd) (changes : List Change)
+    (slot : Option SlotChange) (before : DurableState) (was stored : StoredModel) (old new : Trace)
+    → IsAtEnd old header before end → before.saved ≡ was → LeadsTo was stored changes slot → IsStorable stored
+    → end.sector + parts_for (length changes) ≤ log_size_of header → stored.length ≡ header.length
+    → header.format ≡ Two → IfOk result (λ after. after ≡ end_after end (length changes))
+    → WritesRecord result (record_at header.epoch end stored changes slot) old new
+    → AppendSpec result header before (with_room was.room stored) old new
+append_kept result header end changes slot before was stored old new at is leads storable fits long two after_is w =
+    written old header before end saved changes slot at next result new after_is
+    (record_kept was.room header.epoch end stored changes slot result old new w)
   where
     saved : StoredModel
     saved = with_room was.room stored
 
-    changes : List Change
-    changes = differences was.setup.params stored.setup.params
-
-    of_was : WritesRecord result (record_at header.epoch end stored changes slot) old new
-    of_was = subst (λ (t : List ℤ). WritesRecord result (record_from header.epoch end t slot stored) old new) table_is w
+    tools : before.saved.tools ≡ was.tools
+    tools = ap (λ (s : StoredModel). s.tools) is
 
     next : IsNext (reads old) header before end saved changes slot
-    next = next_of (reads old) header before end was.setup.params slot saved count two
-        (valid was.tools stored.tools before.saved.tools slot tools slot_is one storable.tools)
-        (restored was.tools stored.tools before.saved.tools slot tools slot_is one)
-        at.image params all storable.table count_is fits long room
-
-    go : (result : Result LogEnd E) → IfOk result (λ after. after ≡ end_after end count) → IfOk result (λ after. after ≡ end_after end (length changes))
-    go (Ok after) is = subst (λ (n : ℕ). after ≡ end_after end n) count_is is
-    go (Err f) is = tt
+    next = next_from (reads old) header before end slot saved changes two
+        (valid was.tools stored.tools before.saved.tools slot tools leads.slot_is leads.one storable.tools)
+        (restored was.tools stored.tools before.saved.tools slot tools leads.slot_is leads.one) at.image
+        (leads.changes_are ∙ ap (λ (s : StoredModel). differences s.setup.params stored.setup.params) (sym is))
+        storable.table fits long (ap (λ (s : StoredModel). s.room) is)

@@ -1,7 +1,7 @@
 -- Room is made for a record, and then the record is written.
-use Rattle.std.proofs.Common.{◌≡◌, ◌⊎◌, inl, inr, ⊎_elim, ℕ, ◌+◌, ◌<◌, ◌≤◌, ◌↔◌, Bool, true, false, List, ℤ, Option}
+use Rattle.std.proofs.Common.{◌≡◌, ◌⊎◌, inl, inr, ⊎_elim, ℕ, ◌+◌, ◌<◌, ◌≤◌, ◌↔◌, Bool, true, false, List, ℤ, Option, Some, None}
 use Rattle.std.proofs.Common.{Result, Ok, Err, length, refl, sym, ◌∙◌, ap, subst, arith}
-use Rattle.std.specs.Prelude.{OnOk, IfOk}
+use Rattle.std.specs.Prelude.{OnOk, IfOk, IfSome}
 use Rattle.std.proofs.lemmas.Bool.{cases_lt}
 use Rattle.ng_rig.specs.Trace.{Trace, reads, items}
 use Rattle.ng_rig.specs.Continuation.{IsContinuation}
@@ -17,13 +17,17 @@ use Rattle.ng_layout.specs.Limits.{greatest_count}
 use Rattle.ng_layout.specs.Stands.{is_large, stands, stretch}
 use Rattle.ng_layout.specs.Stored.{StoredModel, DurableState}
 use Rattle.ng_log.specs.declared.log_end.LogEnd.{LogEnd}
-use Rattle.ng_log.specs.AtEnd.{no_records, IsAtEnd}
+use Rattle.ng_log.specs.AtEnd.{end_after, no_records, IsAtEnd}
 use Rattle.ng_log.specs.Writing.{AppendSpec, WritesRecord}
-use Rattle.ng_offsets.specs.Tools.{first_change}
+use Rattle.std.specs.Option.{ForSome}
+use Rattle.ng_layout.specs.Storable.{IsStorableChange}
+use Rattle.ng_layout.specs.Update.{UpdateModel, updated}
+use Rattle.ng_offsets.specs.Tools.{first_change, with_change, IsSlotChange}
 use Rattle.ng_offsets.specs.declared.tools.SlotChange.{SlotChange}
 use Rattle.ng_params.specs.Differences.{differences}
-use Rattle.ng_log.specs.Records.{LogRecord, size_of, BelongsToRecord, record_from}
-use Rattle.ng_params.proofs.DifferenceLemmas.{differences-none}
+use Rattle.ng_params.specs.declared.change.Change.{Change}
+use Rattle.ng_log.specs.Records.{LogRecord, size_of, BelongsToRecord, record_at}
+use Rattle.ng_params.proofs.DifferenceLemmas.{differences-all, differences-few}
 use Rattle.ng_layout.proofs.ImageLemmas.{force-within, log-short}
 use Rattle.ng_log.proofs.LogEndLemmas.{ends-stand}
 use Rattle.ng_journal.specs.declared.storing.Tip.{Tip}
@@ -32,8 +36,8 @@ use Rattle.ng_layout.specs.declared.header.Format.TheVariants.{Two}
 use Rattle.ng_journal.proofs.SnapshotAloneLemmas.{begun-end}
 use Rattle.ng_journal.specs.AtRest.{IsEither, IsOfEpoch, BelongsTo, IsLaidOut, next_header}
 use Rattle.ng_journal.specs.Journal.{IsTip, StandsFor}
-use Rattle.ng_journal.specs.Private.Records.{ledger, tip_of, IsRoom, MakeRoomSpec, IsRenewed, StoresRoom, StoreRecordSpec}
-use Rattle.ng_journal.specs.Storing.{Ledger, changes_to, HasRoomFor, IsFullFor, renewed, with_record, IsLedgerAfter}
+use Rattle.ng_journal.specs.Private.Records.{ledger, tip_of, IsRoom, MakeRoomSpec, IsRenewed, StoresRoom, StoreRecordSpec, LeadsTo, AppendsRecord, IsTipAfter}
+use Rattle.ng_journal.specs.Storing.{Ledger, changes_to, HasRoomFor, IsFullFor, renewed, IsLedgerAfter, IsSettled}
 use Rattle.ng_journal.specs.Storing.{record_of, BelongsToStoring, IsRecorded, IsStoredIn, StoresRecord}
 
 pub own : {trace : Trace} {header : Header} {standing : DurableState} {end : LogEnd} → IsAtEnd trace header standing end → IsOwnImage trace header
@@ -265,16 +269,16 @@ stored {T = T} {E = E} result tip l changes saved old mid new few count (inr ful
 -- the ledger after it
 pub ledger_after : {E : Type 0} (result : Result Tip E) (tip : Tip) (l : Ledger) (changes : ℕ) (saved : StoredModel)
     → changes ≡ changes_to l saved → IsRoom l changes tip
-    → IfOk result (λ t. t ≡ tip_of (with_record (ledger tip l.saved) saved))
+    → IfOk result (λ t. t ≡ record { header = tip.header; end = end_after tip.end changes })
     → IfOk result (λ t. IsLedgerAfter l saved (ledger t saved))
 ledger_after (Err e) tip l changes saved count room is = tt
 ledger_after (Ok after) tip l changes saved count (inl there) is = record {
-  room = λ _. ap (λ (t : Tip). ledger t saved) (is ∙ ap (λ (t : Tip). tip_of (with_record (ledger t l.saved) saved)) there.1);
+  room = λ _. ap (λ (t : Tip). ledger t saved) (is ∙ (λ i. record { header = (there.1 i).header; end = end_after (there.1 i).end (count i) }));
   full = λ full. let room = subst (HasRoomFor l.header l.end) count there.0 in absurd (omega (arith, room, full));
 }
 ledger_after (Ok after) tip l changes saved count (inr full) is = record {
   room = λ room. let none = subst (IsFullFor l.header l.end) count full.0 in absurd (omega (arith, room, none));
-  full = λ _. ap (λ (t : Tip). ledger t saved) (is ∙ ap (λ (t : Tip). tip_of (with_record (ledger t l.saved) saved)) full.1);
+  full = λ _. ap (λ (t : Tip). ledger t saved) (is ∙ (λ i. record { header = (full.1 i).header; end = end_after (full.1 i).end (count i) }));
 }
 
 -- each of the two logs has room
@@ -284,9 +288,10 @@ has_room tip l changes few (inr full) = subst (λ (t : Tip). HasRoomFor t.header
     (let room : HasRoomFor (renewed l).header no_records changes = omega (arith, few, log-short l.header.format) in
     room)
 
--- a table doesn't differ from itself
-pub none_changed : (saved : StoredModel) → 0 ≡ length (differences saved.setup.params saved.setup.params)
-none_changed saved = ap length (sym (differences-none saved.setup.params))
+-- no more parameters differ than there are
+pub changes_few : (was saved : StoredModel) → length (differences was.setup.params saved.setup.params) ≤ 5399
+changes_few was saved = subst (λ (made : List Change). length made ≤ 5399)
+    (differences-all was.setup.params saved.setup.params) (differences-few 5399 was.setup.params saved.setup.params)
 
 pub has_room_yet : (b : Bool) (header : Header) (end : LogEnd) (changes : ℕ)
     → ((b ≡ true) ↔ IsFullFor header end changes) → b ≡ false → HasRoomFor header end changes
@@ -299,43 +304,65 @@ has_room_yet b header end changes iff no_ = elim (cases_lt (log_size_of header) 
 pub same_length : (a b : ℕ) (tip : Tip) → b ≡ a → IsTip a tip.header tip.end → IsTip b tip.header tip.end
 same_length a b tip is t = record { long = is ∙ t.long; format = t.format; within = t.within; number = t.number }
 
-record_is : (tip : Tip) (table : List ℤ) (slot : Option SlotChange) (was saved : StoredModel)
-    → table ≡ was.setup.params → slot ≡ first_change was.tools saved.tools
-    → record_from tip.header.epoch tip.end table slot saved ≡ record_of (ledger tip was) saved
-record_is tip table slot was saved is slot_is = λ i. record_from tip.header.epoch tip.end (is i) (slot_is i) saved
+record_is : (tip : Tip) (was saved : StoredModel) (changes : List Change) (slot : Option SlotChange)
+    → changes ≡ differences was.setup.params saved.setup.params → slot ≡ first_change was.tools saved.tools
+    → record_at tip.header.epoch tip.end saved changes slot ≡ record_of (ledger tip was) saved
+record_is tip was saved changes slot is slot_is = λ i. record_at tip.header.epoch tip.end saved (is i) (slot_is i)
 
 -- a record that failed, for the result of another call
-pub not_recorded : {T U E F : Type 0} (e : E) (result : Result U F) (tip : Tip) (table : List ℤ)
-    (slot : Option SlotChange) (was saved : StoredModel) (old new : Trace) → table ≡ was.setup.params
-    → slot ≡ first_change was.tools saved.tools
-    → WritesRecord result (record_from tip.header.epoch tip.end table slot saved) old new
+pub not_recorded : {T U E F : Type 0} (e : E) (result : Result U F) (tip : Tip) (was saved : StoredModel)
+    (changes : List Change) (slot : Option SlotChange) (old new : Trace)
+    → changes ≡ differences was.setup.params saved.setup.params → slot ≡ first_change was.tools saved.tools
+    → WritesRecord result (record_at tip.header.epoch tip.end saved changes slot) old new
     → WritesRecord {T = T} (Err e) (record_of (ledger tip was) saved) old new
-not_recorded e result tip table slot was saved old new is slot_is w =
+not_recorded e result tip was saved changes slot old new is slot_is w =
     record {
       writes = subst (λ (r : LogRecord). WritesOnly (BelongsToRecord r) old new)
-          (record_is tip table slot was saved is slot_is) w.writes;
+          (record_is tip was saved changes slot is slot_is) w.writes;
       parts = tt;
       synced = tt;
     }
 
-pub recorded : {T U E F : Type 0} (t : T) (u : U) (tip : Tip) (table : List ℤ) (slot : Option SlotChange)
-    (was saved : StoredModel) (old new : Trace) → table ≡ was.setup.params
+pub recorded : {T U E F : Type 0} (t : T) (u : U) (tip : Tip) (was saved : StoredModel) (changes : List Change)
+    (slot : Option SlotChange) (old new : Trace) → changes ≡ differences was.setup.params saved.setup.params
     → slot ≡ first_change was.tools saved.tools
-    → WritesRecord {E = F} (Ok u) (record_from tip.header.epoch tip.end table slot saved) old new
+    → WritesRecord {E = F} (Ok u) (record_at tip.header.epoch tip.end saved changes slot) old new
     → WritesRecord {E = E} (Ok t) (record_of (ledger tip was) saved) old new
-recorded t u tip table slot was saved old new is slot_is w = record {
-  writes = subst (λ (r : LogRecord). WritesOnly (BelongsToRecord r) old new) (record_is tip table slot was saved is slot_is) w.writes;
-  parts = subst (λ (r : LogRecord). IsRecorded r (reads new)) (record_is tip table slot was saved is slot_is) w.parts;
-  synced = w.synced;
+recorded t u tip was saved changes slot old new is slot_is w =
+    let same = record_is tip was saved changes slot is slot_is in
+    record {
+      writes = subst (λ (r : LogRecord). WritesOnly (BelongsToRecord r) old new) same w.writes;
+      parts = subst (λ (r : LogRecord). IsRecorded r (reads new)) same w.parts;
+      synced = w.synced;
+    }
+
+-- what an update leads to
+valid_slot : (tools : List ℤ) (slot : Option SlotChange) → ForSome slot (IsStorableChange tools) → IfSome slot (IsSlotChange tools)
+valid_slot tools None can = tt
+valid_slot tools (Some change) can = (can change refl).slot
+
+pub update-leads : (was : StoredModel) (update : UpdateModel) (slot : Option SlotChange) → IsSettled was update
+    → slot ≡ first_change was.tools (with_change update.slot was.tools)
+    → LeadsTo was (updated was update) update.changes slot
+update-leads was update slot settled is = record {
+  changes_are = settled.changes;
+  slot_is = is;
+  one = record { change = update.slot; valid = valid_slot was.tools update.slot settled.slot; is = refl };
 }
 
--- what is stored with another half-done block
-pub as_taken : {E : Type 0} (result : Result Tip E) (before : DurableState) (taken saved : StoredModel)
-    (old new : Trace) → taken ≡ saved → StoreRecordSpec result before taken old new
-    → StoreRecordSpec result before saved old new
-as_taken result before taken saved old new is s = subst (λ (x : StoredModel). StoreRecordSpec result before x old new) is s
+-- what its record leaves, if the state was taken over
+pub as_taken : {E : Type 0} (result : Result Tip E) (tip : Tip) (was taken next : StoredModel) (changes : List Change)
+    (slot : Option SlotChange) (old new : Trace) → taken ≡ next → LeadsTo was next changes slot
+    → ((from : StoredModel) → LeadsTo from taken changes slot
+    → AppendsRecord result (ledger tip from) (record taken { room = from.room }) old new)
+    → AppendsRecord result (ledger tip was) (record next { room = was.room }) old new
+as_taken result tip was taken next changes slot old new is leads appends =
+    subst (λ (s : StoredModel). AppendsRecord result (ledger tip was) (record s { room = was.room }) old new) is
+    (appends was (subst (λ (s : StoredModel). LeadsTo was s changes slot) (sym is) leads))
 
-pub recorded_as : {T E : Type 0} (result : Result T E) (tip : Tip) (taken saved : StoredModel) (old new : Trace)
-    → taken ≡ saved → WritesRecord result (record_of (ledger tip taken) taken) old new
-    → WritesRecord result (record_of (ledger tip saved) saved) old new
-recorded_as result tip taken saved old new is w = subst (λ (x : StoredModel). WritesRecord result (record_of (ledger tip x) x) old new) is w
+-- the tip that a record leaves
+pub tip_after : {E : Type 0} (result : Result Tip E) (l : Ledger) (saved : StoredModel)
+    → IfOk result (λ t. IsLedgerAfter l saved (ledger t saved)) → IfOk result (λ t. IsTip saved.length t.header t.end)
+    → IfOk result (IsTipAfter l saved)
+tip_after (Err e) l saved ledger_is tip_is = tt
+tip_after (Ok tip) l saved ledger_is tip_is = record { ledger_is = ledger_is; tip_is = tip_is }

@@ -20,7 +20,7 @@ use Rattle.ng_layout.proofs.ImageLemmas.{force-within}
 use Rattle.ng_journal.specs.Private.CheckpointSteps.{FitsDevice, IsOwnImage, IsBegun, IsEitherUnder, MayFollow}
 use Rattle.ng_journal.specs.Private.CheckpointSteps.{WritesState, StoresState, beside, CheckpointSpec}
 use Rattle.ng_journal.specs.AtRest.{BelongsTo, IsLaidOut, next_header}
-use Rattle.ng_journal.specs.Recovery.{recovered_of, epochs_for, HasCause, BelongsToNext, BelongsToMigration, IsRenewed, Renews, IsEitherBeside}
+use Rattle.ng_journal.specs.Recovery.{recovered_of, epochs_for, HasCause, BelongsToNext, BelongsToMigration, Renews, IsEitherBeside}
 use Rattle.ng_journal.specs.Journal.{StandsBeside}
 use Rattle.ng_journal.specs.Private.RecoverySteps.{StandsUnder, IsRead, RestoreSpec, ModernizeSpec, StoresModern, BelongsToModern, modern_by}
 

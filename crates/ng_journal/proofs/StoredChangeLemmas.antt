@@ -1,11 +1,12 @@
 -- Storing moves a journal at rest from the old state to the new one.
-use Rattle.std.proofs.Common.{◌≡◌, ◌∙◌, ℕ, inl, inr, ⊎_elim, Result, Ok, Err, sym, subst}
+use Rattle.std.proofs.Common.{◌≡◌, ◌≤◌, ◌∙◌, ℕ, inl, inr, ⊎_elim, Result, Ok, Err, length, sym, ap, subst, arith}
 use Rattle.ng_rig.specs.Trace.{Trace, reads, items}
 use Rattle.ng_rig.specs.Continuation.{IsContinuation}
 use Rattle.ng_rig.proofs.ContinuationLemmas.{weaker}
 use Rattle.ng_layout.specs.declared.header.Header.{Header}
+use Rattle.ng_layout.specs.Limits.{greatest_count}
 use Rattle.ng_layout.specs.Stands.{stands}
-use Rattle.ng_layout.specs.Stored.{StoredModel, DurableState}
+use Rattle.ng_layout.specs.Stored.{HalfModel, StoredModel, DurableState}
 use Rattle.ng_log.specs.declared.log_end.LogEnd.{LogEnd}
 use Rattle.ng_log.specs.AtEnd.{no_records, IsAtEnd}
 use Rattle.ng_log.proofs.LogEndLemmas.{ends-stand}
@@ -14,10 +15,15 @@ use Rattle.ng_journal.specs.AtRest.{IsEither, next_header}
 use Rattle.ng_journal.specs.Private.LoadSteps.{LoadSpec}
 use Rattle.ng_journal.specs.Loads.{StoresLoad}
 use Rattle.ng_journal.specs.Journal.{JournalModel, CommitSpec}
-use Rattle.ng_journal.specs.Private.Records.{ledger, tip_of, StoreRecordSpec}
-use Rattle.ng_journal.specs.Storing.{Ledger, IsLedgerAfter, StoresRecord, ledger_of}
+use Rattle.ng_journal.specs.Private.Records.{tip_of, StoreRecordSpec, StoresNext, IsTipAfter}
+use Rattle.ng_params.specs.Differences.{differences}
+use Rattle.ng_params.proofs.DifferenceLemmas.{differences-none}
+use Rattle.ng_num.specs.declared.fault.Fault.{Fault}
+use Rattle.ng_journal.specs.Storing.{Commit, Open, UsesUp, IsFullFor, FailsToStore}
+use Rattle.ng_journal.specs.Storing.{Ledger, IsLedgerAfter, StoresRecord, StoresEntry, changes_to, ledger_of}
+use Rattle.ng_journal.proofs.ProgramHeldLemmas.{holds_record}
 
-pub moved : {R T E F : Type 0} (v : T) (tip : Tip) (journal : JournalModel R) (before : DurableState)
+moved : {R T E F : Type 0} (v : T) (tip : Tip) (journal : JournalModel R) (before : DurableState)
     (saved : StoredModel) (old new : Trace) → tip ≡ tip_of (ledger_of journal) → journal.saved ≡ saved
     → StoreRecordSpec {E = F} (Ok tip) before saved old new
     → CommitSpec {E = E} (Ok v) journal before (record before { saved = saved }) old new
@@ -28,24 +34,67 @@ moved v tip journal before saved old new is saved_is s = record {
 }
 
 -- or fails to
-pub not_moved : {R T E F : Type 0} (e : E) (result : Result Tip F) (journal : JournalModel R)
+not_moved : {R T E F : Type 0} (e : E) (result : Result Tip F) (journal : JournalModel R)
     (before : DurableState) (saved : StoredModel) (old new : Trace) → StoreRecordSpec result before saved old new
     → CommitSpec {T = T} (Err e) journal before (record before { saved = saved }) old new
 not_moved e result journal before saved old new s = record { stops = s.stops; items_are = s.items_are; at = tt }
 
--- what the journal then keeps
-pub ledger_moved : (tip : Tip) (l : Ledger) (saved kept : StoredModel) → kept ≡ saved
-    → IsLedgerAfter l saved (ledger tip saved) → IsLedgerAfter l saved (ledger tip kept)
-ledger_moved tip l saved kept is after = subst (λ (s : StoredModel). IsLedgerAfter l saved (ledger tip s)) (sym is) after
-
 -- what is written, for the result of another call
-pub stored_as : {T U E F : Type 0} (t : T) (u : U) (l : Ledger) (saved : StoredModel) (old new : Trace)
+stored_as : {T U E F : Type 0} (t : T) (u : U) (l : Ledger) (saved : StoredModel) (old new : Trace)
     → StoresRecord {E = F} (Ok u) l saved old new → StoresRecord {E = E} (Ok t) l saved old new
 stored_as t u l saved old new s = record { writes = s.writes; laid = s.laid; synced = s.synced }
 
-pub not_stored_as : {T U E F : Type 0} (e : E) (result : Result U F) (l : Ledger) (saved : StoredModel)
+not_stored_as : {T U E F : Type 0} (e : E) (result : Result U F) (l : Ledger) (saved : StoredModel)
     (old new : Trace) → StoresRecord result l saved old new → StoresRecord {T = T} (Err e) l saved old new
 not_stored_as e result l saved old new s = record { writes = s.writes; laid = tt; synced = tt }
+
+-- the journal took a state and a tip over
+pub record HasTaken {R : Type 0} (journal : JournalModel R) (saved : StoredModel) (tip : Tip) : Type 0 where
+  pub tip_is : tip ≡ tip_of (ledger_of journal)
+  pub saved_is : journal.saved ≡ saved
+
+ledger_moved : {R : Type 0} (was journal : JournalModel R) (saved : StoredModel) (tip : Tip) → HasTaken journal saved tip
+    → IsTipAfter (ledger_of was) saved tip → IsLedgerAfter (ledger_of was) saved (ledger_of journal)
+ledger_moved was journal saved tip taken after = subst (IsLedgerAfter (ledger_of was) saved)
+    (λ i. record { header = (taken.tip_is i).header; end = (taken.tip_is i).end; saved = sym taken.saved_is i }) after.ledger_is
+
+-- what storing an entry leaves
+pub entry_stored : {R T E F : Type 0} (v : T) (was journal : JournalModel R) (saved : StoredModel) (tip : Tip) (old new : Trace)
+    → was.header.area ≤ 3 → changes_to (ledger_of was) saved ≤ 5399 → HasTaken journal saved tip
+    → IsTipAfter (ledger_of was) saved tip → StoresNext {E = F} (Ok tip) (ledger_of was) saved old new
+    → StoresEntry {E = E} (Ok v) saved was journal old new
+entry_stored v was journal saved tip old new most few taken after s = record {
+  stops = λ standing rest. moved v tip journal standing saved old new taken.tip_is taken.saved_is (s.stops standing rest.at rest.saved_is);
+  writes = stored_as v tip (ledger_of was) saved old new s.writes;
+  holds = λ program held. holds_record tip was journal saved program old new most few s.writes (ledger_moved was journal saved tip taken after) held;
+}
+
+-- or failing to
+pub entry_not_stored : {R T E F : Type 0} (e : E) (result : Result Tip F) (was journal : JournalModel R) (saved : StoredModel)
+    (old new : Trace) → StoresNext result (ledger_of was) saved old new → StoresEntry {T = T} (Err e) saved was journal old new
+entry_not_stored e result was journal saved old new s = record {
+  stops = λ standing rest. not_moved e result journal standing saved old new (s.stops standing rest.at rest.saved_is);
+  writes = not_stored_as e result (ledger_of was) saved old new s.writes;
+  holds = λ program held. tt;
+}
+
+-- Opening something uses up a counter as an entry does that changes neither the count nor a parameter.
+pub opens_as : {R T : Type 0} (result : Result T Fault) (half : HalfModel) (saved : StoredModel) (was journal : JournalModel R)
+    → was.saved.entries ≤ greatest_count → saved.entries ≡ was.saved.entries → saved.setup.params ≡ was.saved.setup.params
+    → FailsToStore result (Commit saved) was journal → FailsToStore result (Open half) was journal
+unfolding UsesUp
+opens_as result half saved was journal few count same fails =
+    let none : changes_to (ledger_of was) saved ≡ 0 =
+    ap length (ap (differences was.saved.setup.params) same ∙ differences-none was.saved.setup.params) in
+    record {
+      causes = fails.causes;
+      used_up = (
+        λ used. ⊎_elim (λ past. absurd (omega (arith, past, count, few)))
+            (λ full. (full.0, subst (IsFullFor was.header was.end) none full.1)) (fails.used_up.0 used),
+        λ full. fails.used_up.1 (inr (full.0, subst (IsFullFor was.header was.end) (sym none) full.1)),
+      );
+      unchanged = fails.unchanged;
+    }
 
 -- A load that succeeds moves it too.
 as_moved : (old new : Trace) (header : Header) (end : LogEnd) (before loaded : DurableState)

@@ -2,7 +2,6 @@
 -- and a format a fresh controller among zeros.
 use Rattle.std.proofs.Common.{◌≡◌, ◌≢◌, ◌⊎◌, inl, inr, ⊎_elim, ℕ, ◌+◌, ◌-◌, ◌*◌, ◌%◌, ◌<◌, ◌≤◌, List, [], ℤ, length}
 use Rattle.std.proofs.Common.{replicate, Result, Ok, Err, refl, sym, ◌∙◌, ap, subst, arith}
-use Rattle.std.proofs.lemmas.Bool.{cases_eq}
 use Rattle.std.proofs.lemmas.Bool.Decides.{nat_tests}
 use Rattle.std.specs.Prelude.{OnOk}
 use Rattle.ng_rig.specs.Trace.{Trace, Wrote, Synced, reads}
@@ -22,12 +21,12 @@ use Rattle.ng_layout.specs.declared.header.Format.TheVariants.{One, Two}
 use Rattle.ng_layout.specs.Spare.{IsAmong}
 use Rattle.ng_layout.specs.Stored.{StoredModel, DurableState}
 use Rattle.ng_journal.specs.Area.{BelongsIn}
-use Rattle.ng_journal.specs.Private.CheckpointSteps.{AreaTo, WritesArea, WritesAreas, WritesState, StoresState}
+use Rattle.ng_journal.specs.Private.CheckpointSteps.{WritesAreas, WritesState, StoresState}
 use Rattle.ng_journal.specs.AtRest.{IsOfAreas, IsOfEpoch, BelongsToAreas, BelongsTo, IsLaidOut, next_header}
 use Rattle.ng_journal.specs.Formatting.{IsEmpty, first_header}
 use Rattle.ng_journal.specs.Private.Overwrites.{Overwrites}
 use Rattle.ng_journal.specs.Loads.{BelongsToText, BelongsToLoad, IsTextAt, WritesLoad}
-use Rattle.ng_journal.specs.Private.LoadSteps.{TextTo, WritesText}
+use Rattle.ng_journal.specs.Private.LoadSteps.{WritesText}
 
 -- what a read returns after a write
 pub there : (n : ℕ) (bytes : List ℕ) (trace : Trace) → reads (Wrote n bytes trace) n ≡ bytes
@@ -65,7 +64,7 @@ MayAreas header saved n bytes = BelongsToAreas header saved n bytes
 
 -- the snapshot alone, in format 1 or if its write or a later one failed
 area_only : {T E : Type 0} (result : Result T E) (first : ℕ) (header : Header) (saved : StoredModel)
-    (old new : Trace) → first ≡ snapshot_first header.epoch → WritesArea result first saved old new
+    (old new : Trace) → first ≡ snapshot_first header.epoch → Overwrites result first snapshot_size (HoldsPart saved) old new
     → WritesOnly (MayAreas header saved) old new
 area_only result first header saved old new is area =
     only_wider (BelongsIn first snapshot_size (HoldsPart saved)) (MayAreas header saved) old new
@@ -73,12 +72,12 @@ area_only result first header saved old new is area =
 
 pub areas_failed : {T E F : Type 0} (e : E) (result : Result T F) (first : ℕ) (header : Header)
     (saved : StoredModel) (old new : Trace) → first ≡ snapshot_first header.epoch
-    → WritesArea result first saved old new → WritesAreas {T = T} (Err e) header saved old new
+    → Overwrites result first snapshot_size (HoldsPart saved) old new → WritesAreas {T = T} (Err e) header saved old new
 areas_failed e result first header saved old new is area = record { writes = area_only result first header saved old new is area; parts = tt; tools = tt }
 
 pub areas_one : {T U E F : Type 0} (u : U) (v : T) (first : ℕ) (header : Header) (saved : StoredModel)
     (old new : Trace) → first ≡ snapshot_first header.epoch → header.format ≡ One
-    → WritesArea {E = F} (Ok v) first saved old new → WritesAreas {E = E} (Ok u) header saved old new
+    → Overwrites {E = F} (Ok v) first snapshot_size (HoldsPart saved) old new → WritesAreas {E = E} (Ok u) header saved old new
 areas_one {F = F} u v first header saved old new is one area =
     let ok : Result _ F = Ok v in
     record {
@@ -89,7 +88,7 @@ areas_one {F = F} u v first header saved old new is one area =
 
 pub areas_two : {T U E F : Type 0} (result : Result T E) (u : U) (first at : ℕ) (header : Header)
     (saved : StoredModel) (old mid new : Trace) → first ≡ snapshot_first header.epoch
-    → at ≡ tools_first header.epoch → header.format ≡ Two → WritesArea {E = F} (Ok u) first saved old mid
+    → at ≡ tools_first header.epoch → header.format ≡ Two → Overwrites {E = F} (Ok u) first snapshot_size (HoldsPart saved) old mid
     → Overwrites result at tools_size (HoldsToolPart saved) mid new → WritesAreas result header saved old new
 areas_two {T = T} {U = U} {E = E} {F = F} result u first at header saved old mid new is at_is two area tools =
     record {
@@ -199,69 +198,6 @@ pub state_under : {T E : Type 0} (result : Result T E) (next header : Header) (s
     (old new : Trace) → next ≡ header → StoresState result next saved old new
     → StoresState result header saved old new
 state_under result next header saved old new is s = subst (λ (h : Header). StoresState result h saved old new) is s
-
--- one more sector of a stretch is right
-pub one_more : (n first size : ℕ) (IsRight : ℕ → List ℕ → Type 0) (bytes : List ℕ) (old mid new : Trace) → n < size → IsRight n bytes
-    → WritesOnly (BelongsIn first size IsRight) old mid → ((j : ℕ) → j < n → IsRight j (reads mid (first + j))) → new ≡ Wrote (first + n) bytes mid
-    → WritesOnly (BelongsIn first size IsRight) old new × ((j : ℕ) → j < n + 1 → IsRight j (reads new (first + j)))
-one_more n first size IsRight bytes old mid new lt right w parts is =
-    let ok : Result ℕ ℕ = Ok 0 in (
-      only_more (BelongsIn first size IsRight) old mid new w
-          (only_write (BelongsIn first size IsRight) ok (first + n) bytes mid new
-          (record { place = n; within = lt; is = refl; right = right }) is),
-      λ j below. elim (cases_eq j n) [
-        | inl same ↦ subst (λ (x : ℕ). IsRight x (reads new (first + x))) (sym same)
-            (subst (IsRight n) (sym (ap (λ (l : Trace). reads l (first + n)) is ∙ there (first + n) bytes mid))
-            right)
-        | inr other ↦ subst (IsRight j)
-            (sym (ap (λ (l : Trace). reads l (first + j)) is
-            ∙ elsewhere (first + j) (first + n) bytes mid (λ e. other (omega arith)))) (parts j (omega arith))
-      ],
-    )
-
--- or its write failed
-pub one_failed : {T E : Type 0} (result : Result T E) (n first size : ℕ) (IsRight : ℕ → List ℕ → Type 0)
-    (bytes : List ℕ) (old mid new : Trace) → n < size → IsRight n bytes
-    → WritesOnly (BelongsIn first size IsRight) old mid → WriteSpec result (first + n) bytes mid new → WritesOnly (BelongsIn first size IsRight) old new
-one_failed result n first size IsRight bytes old mid new lt right w is =
-    only_more (BelongsIn first size IsRight) old mid new w
-    (only_write (BelongsIn first size IsRight) result (first + n) bytes mid new
-    (record { place = n; within = lt; is = refl; right = right }) is)
-
-pub area_more : (n first : ℕ) (saved : StoredModel) (bytes : List ℕ) (old mid new : Trace) → n < snapshot_size
-    → HoldsPart saved n bytes → AreaTo n first saved old mid → new ≡ Wrote (first + n) bytes mid
-    → AreaTo (n + 1) first saved old new
-area_more n first saved bytes old mid new lt right w is =
-    let more = one_more n first snapshot_size (HoldsPart saved) bytes old mid new lt right w.writes w.parts is in
-    record { writes = more.0; parts = more.1 }
-
-pub text_more : (n first area : ℕ) (text bytes : List ℕ) (old mid new : Trace) → first ≡ program_first area
-    → n < program_size area → HoldsText text (512 * n) bytes → TextTo n area text old mid
-    → new ≡ Wrote (first + n) bytes mid → TextTo (n + 1) area text old new
-text_more n first area text bytes old mid new at lt right w is =
-    let more = one_more n (program_first area) (program_size area) (λ j part. HoldsText text (512 * j) part) bytes
-    old mid new lt right w.writes w.parts (is ∙ ap (λ (k : ℕ). Wrote (k + n) bytes mid) at) in
-    record { writes = more.0; parts = more.1 }
-
-pub text_failed : {T E F : Type 0} (e : E) (result : Result T F) (n first area : ℕ) (text bytes : List ℕ)
-    (old mid new : Trace) → first ≡ program_first area → n < program_size area → HoldsText text (512 * n) bytes
-    → TextTo n area text old mid → WriteSpec result (first + n) bytes mid new
-    → WritesText {T = T} (Err e) area text old new
-text_failed e result n first area text bytes old mid new at lt right w is =
-    record {
-      writes = one_failed result n (program_first area) (program_size area)
-          (λ j part. HoldsText text (512 * j) part) bytes old mid new lt right w.writes
-          (subst (λ (k : ℕ). WriteSpec result (k + n) bytes mid new) at is);
-      parts = tt;
-    }
-
--- the write of a part that failed
-pub area_failed : {T E F : Type 0} (e : E) (result : Result T F) (n first : ℕ) (saved : StoredModel)
-    (bytes : List ℕ) (old mid new : Trace) → n < snapshot_size → HoldsPart saved n bytes
-    → AreaTo n first saved old mid → WriteSpec result (first + n) bytes mid new
-    → WritesArea {T = T} (Err e) first saved old new
-area_failed e result n first saved bytes old mid new lt right w is =
-    record { writes = one_failed result n first snapshot_size (HoldsPart saved) bytes old mid new lt right w.writes is; parts = tt }
 
 -- all of that is in sectors of the epoch
 pub of_areas : (header : Header) (saved : StoredModel) (n : ℕ) (bytes : List ℕ) → BelongsToAreas header saved n bytes → IsOfAreas header n

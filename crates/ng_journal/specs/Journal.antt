@@ -2,6 +2,7 @@
 use Rattle.std.specs.Prelude.{◌≡◌, ◌⊎◌, ◌≤◌, ◌+◌, ◌%◌, ◌^◌, ℕ, ℤ, Bool, if◌then◌else◌, false, List, [], ◌∷◌, ◌++◌, Result, Ok, Err, OnOk}
 use Rattle.ng_num.specs.declared.fault.Fault.{Fault}
 use Rattle.ng_canon.specs.declared.item.Item.{Item}
+use Rattle.ng_rig.specs.Rig.{Device}
 use Rattle.ng_rig.specs.Trace.{Image, Trace, reads, items}
 use Rattle.ng_rig.specs.Continuation.{IsContinuation, IsSynced}
 use Rattle.ng_layout.specs.declared.header.Header.{Header}
@@ -96,3 +97,9 @@ CountsFailure (Ok _) old new = new ≡ old
 abbrev pub IsBrokenBy : {T : Type 0} → Result T Fault → Bool → Type 0
 IsBrokenBy (Err e) broken = broken ≡ is_device_failure e
 IsBrokenBy (Ok _) broken = broken ≡ false
+
+-- Whatever the device does: it keeps its size and counts a failure, and the journal is broken exactly if there was one.
+pub record JournalCall {R T : Type 0} (seen : R → Device) (result : Result T Fault) (old new : JournalModel R) : Type 0 where
+  pub size : (seen new.rig).sectors ≡ (seen old.rig).sectors
+  pub failures : CountsFailure result (seen old.rig).failed (seen new.rig).failed
+  pub broken : IsBrokenBy result new.broken

@@ -8,8 +8,8 @@ ghost use Rattle.ng_layout.specs.Areas.{least_size, snapshot_size, tools_size};
 ghost use Rattle.ng_layout.specs.Storable.{IsStorable};
 ghost use Rattle.ng_layout.specs.Header.{header_in, HoldsHeader, IsValidHeader};
 ghost use Rattle.ng_layout.specs.declared.header.Header.{Header};
-ghost use Rattle.ng_journal.specs.Private.CheckpointSteps.{WritesArea, WritesAreas, MayFollow, FitsDevice, IsOwnImage, CheckpointSpec, StoresState};
-ghost use Rattle.ng_layout.specs.Snapshot.{HoldsToolPart};
+ghost use Rattle.ng_journal.specs.Private.CheckpointSteps.{WritesAreas, MayFollow, FitsDevice, IsOwnImage, CheckpointSpec, StoresState};
+ghost use Rattle.ng_layout.specs.Snapshot.{HoldsPart, HoldsToolPart};
 ghost use Rattle.ng_journal.specs.Private.Overwrites.{Overwrites};
 ghost use Rattle.ng_journal.specs.AtRest.{next_header, migrated};
 
@@ -30,7 +30,7 @@ fn write_snapshot<R: Rig, A: Allocator + Copy + Drop>(
     requires count { stored.now.entries ≤ greatest_count }
     requires storable { IsStorable stored.now }
     ensures area { IfHonest (R.seen rig.old) (R.seen rig.new)
-        (WritesArea result first stored.now (R.seen rig.old).trace (R.seen rig.new).trace) }
+        (Overwrites result first snapshot_size (HoldsPart stored.now) (R.seen rig.old).trace (R.seen rig.new).trace) }
     ensures call { IsCall result (R.seen rig.old) (R.seen rig.new) }
 {
     for part in 0..SNAPSHOT_SIZE {

@@ -1,29 +1,31 @@
 //! The journal of a device.
-ghost use Rattle.std.specs.Prelude.{◌≡◌, ◌≤◌, ◌<◌, ◌⊎◌, ◌↔◌, ℕ, ℤ, List, false, true, [], Some, length, OnOk, IfOk, IfErr, IsSome, IsErrOf, IsErrAnd};
-ghost use Rattle.ng_num.specs.declared.fault.Fault.TheVariants.{DeviceFailed, NotFormatted, CountersUsed, ProgramTooLong, OutOfMemory};
+ghost use Rattle.std.specs.Prelude.{◌≡◌, ◌≤◌, ◌<◌, ◌⊎◌, ◌↔◌, ℤ, List, false, true, [], Some, length, OnOk, IfOk, IfErr, IsSome, IsErrAnd};
+ghost use Rattle.ng_num.specs.declared.fault.Fault.TheVariants.{DeviceFailed, NotFormatted, OutOfMemory};
 ghost use Rattle.ng_rig.specs.Calls.{IfHonest, HandOutSpec};
 ghost use Rattle.ng_layout.specs.Areas.{is_large_size, least_size, spare_area};
 ghost use Rattle.ng_layout.specs.Limits.{greatest_count};
+ghost use Rattle.ng_params.specs.Differences.{differences};
 ghost use Rattle.ng_params.specs.Numbers.{parameter_count};
 ghost use Rattle.ng_layout.specs.Storable.{IsStorableHalf, IsStorable};
 ghost use Rattle.ng_offsets.specs.Tools.{IsOneSlotFrom};
 ghost use Rattle.ng_layout.specs.Stored.{DurableState};
+ghost use Rattle.ng_layout.specs.Update.{updated};
 ghost use Rattle.ng_log.specs.AtEnd.{no_records};
 ghost use Rattle.ng_journal.specs.Recover.{RecoverSpec, IsRecoveryFault, recover_rig, recover_fault};
 ghost use Rattle.ng_journal.specs.Journal.{CountsFailure};
 ghost use Rattle.ng_journal.specs.Recovery.{IsTableOver};
 ghost use Rattle.ng_rig.specs.Trace.{reads};
-ghost use Rattle.ng_journal.specs.Loads.{StoresLoad};
-ghost use Rattle.ng_journal.specs.Storing.{Commit, Open, Load, UsesUp, IsFullFor, IsLedgerAfter, StoresRecord, ledger_of, with_program};
+ghost use Rattle.ng_journal.specs.Loads.{LoadsProgram, KeepsLoad, FailsToLoad};
+ghost use Rattle.ng_journal.specs.Storing.{Commit, Open, IsFullFor, IsSettled, StoresEntry, KeepsEntry, FailsToStore, ledger_of};
 
 use crate::checkpoint::next_header;
 use crate::loading::load;
 use crate::recovery::restore;
-use crate::storing::{
-    Tip, changes_between, slot_between, store, store_half, take_changed, take_state,
-};
+use crate::storing::{Tip, count_between, store, store_update, take_state};
 use ng_canon::Item;
-use ng_layout::{GREATEST_COUNT, Half, LARGE_SIZE, LEAST_SIZE, Stored, program_room, spare_area};
+use ng_layout::{
+    GREATEST_COUNT, Half, LARGE_SIZE, LEAST_SIZE, Stored, Update, program_room, spare_area,
+};
 use ng_num::Fault;
 use ng_offsets::Tools;
 use ng_rig::{Failed, Rig};
@@ -116,7 +118,7 @@ fn two_fresh<A: Allocator + Copy + Drop>(
 }
 
 impl<R: Rig, A: Allocator + Copy + Drop> Journal<R, A> {
-    ghost use Rattle.ng_journal.specs.Journal.{JournalModel, IsDurablyAt, HoldsProgram, CommitSpec, JournalHandOutSpec, IsBrokenBy, kept_by};
+    ghost use Rattle.ng_journal.specs.Journal.{JournalModel, JournalCall, IsDurablyAt, JournalHandOutSpec, kept_by};
 
     /// The device as it is, without a call to it.
     pub fn into_rig(self) -> R
@@ -151,34 +153,50 @@ impl<R: Rig, A: Allocator + Copy + Drop> Journal<R, A> {
         requires storable { IsStorable stored.now }
         requires program { stored.now.length ≡ self.old.saved.length }
         requires tools { IsOneSlotFrom self.old.saved.tools stored.now.tools }
-        ensures stops { IfHonest (R.seen self.old.rig) (R.seen self.new.rig)
-            ((before : DurableState) → IsDurablyAt (R.seen self.old.rig).trace self.old before
-            → CommitSpec result self.new before (record before { saved = kept_by self.old stored.now })
-            (R.seen self.old.rig).trace (R.seen self.new.rig).trace) }
         ensures stores { IfHonest (R.seen self.old.rig) (R.seen self.new.rig)
-            (StoresRecord result (ledger_of self.old) (kept_by self.old stored.now)
+            (StoresEntry result (kept_by self.old stored.now) self.old self.new
             (R.seen self.old.rig).trace (R.seen self.new.rig).trace) }
-        ensures holds { (R.seen self.old.rig).honest → (program : List ℕ)
-            → HoldsProgram (R.seen self.old.rig).trace self.old program
-            → OnOk result (HoldsProgram (R.seen self.new.rig).trace self.new program) }
-        ensures saved { OnOk result (self.new.saved ≡ kept_by self.old stored.now) }
-        ensures ledger { OnOk result (IsLedgerAfter (ledger_of self.old) (kept_by self.old stored.now) (ledger_of self.new)) }
-        ensures broken { IsBrokenBy result self.new.broken }
-        ensures errors { IfErr result (λ e. (e ≡ CountersUsed) ⊎ (e ≡ DeviceFailed)) }
-        ensures used_up { IsErrOf result CountersUsed ↔ UsesUp (ledger_of self.old) (Commit stored.now) }
-        ensures count { OnOk result (stored.now.entries ≤ greatest_count) }
-        ensures unchanged { IsErrOf result CountersUsed → self.new ≡ self.old }
-        ensures size { (R.seen self.new.rig).sectors ≡ (R.seen self.old.rig).sectors }
-        ensures failures { CountsFailure result (R.seen self.old.rig).failed (R.seen self.new.rig).failed }
+        ensures keeps { OnOk result (KeepsEntry (kept_by self.old stored.now) self.old self.new) }
+        ensures fails { FailsToStore result (Commit stored.now) self.old self.new }
+        ensures call { JournalCall R.seen result self.old self.new }
     {
-        let count = changes_between(&self.stored, stored);
-        let slot = slot_between(&self.stored, stored);
-        if stored.entries > GREATEST_COUNT || self.is_used_up_by(count) {
+        if stored.entries > GREATEST_COUNT || self.is_used_up_between(stored) {
             return Err(Fault::CountersUsed);
         }
-        match store(&mut self.rig, self.tip, &self.stored, stored, count, slot) {
+        match store(&mut self.rig, self.tip, &self.stored, stored) {
             Ok(tip) => {
-                take_changed(&mut self.stored, stored, count);
+                take_state(&mut self.stored, stored);
+                self.tip = tip;
+                Ok(())
+            }
+            Err(Failed) => {
+                self.broken = true;
+                Err(Fault::DeviceFailed)
+            }
+        }
+    }
+
+    /// Stores an entry, as `commit` does, given as what it changes (own). It compares no tables and copies none.
+    ///
+    /// The changes of parameters must be the differences that they make, in order (`ng_params::settled_changes`). A
+    /// slot may get the length that it has. J4 and J1 as for `commit`. Nothing is allocated.
+    #[tactic(auto, unfolding(crate::specs::Storing::UsesUp))]
+    pub fn commit_update(&mut self, update: &Update<'_>) -> Result<(), Fault>
+        requires whole { self.old.broken ≡ false }
+        requires storable { IsStorable (updated self.old.saved update.now) }
+        requires settled { IsSettled self.old.saved update.now }
+        ensures stores { IfHonest (R.seen self.old.rig) (R.seen self.new.rig)
+            (StoresEntry result (updated self.old.saved update.now) self.old self.new
+            (R.seen self.old.rig).trace (R.seen self.new.rig).trace) }
+        ensures keeps { OnOk result (KeepsEntry (updated self.old.saved update.now) self.old self.new) }
+        ensures fails { FailsToStore result (Commit (updated self.old.saved update.now)) self.old self.new }
+        ensures call { JournalCall R.seen result self.old self.new }
+    {
+        if update.decoded.entries > GREATEST_COUNT || self.is_used_up_by(update.changes.len()) {
+            return Err(Fault::CountersUsed);
+        }
+        match store_update(&mut self.rig, self.tip, &mut self.stored, update) {
+            Ok(tip) => {
                 self.tip = tip;
                 Ok(())
             }
@@ -199,39 +217,19 @@ impl<R: Rig, A: Allocator + Copy + Drop> Journal<R, A> {
         requires whole { self.old.broken ≡ false }
         requires half { IsStorableHalf half.now }
         requires is_open { IsSome half.now.opened }
-        ensures stops { IfHonest (R.seen self.old.rig) (R.seen self.new.rig)
-            ((before : DurableState) → IsDurablyAt (R.seen self.old.rig).trace self.old before
-            → CommitSpec result self.new before (record before { saved = record self.old.saved { half = Some half.now } })
-            (R.seen self.old.rig).trace (R.seen self.new.rig).trace) }
         ensures stores { IfHonest (R.seen self.old.rig) (R.seen self.new.rig)
-            (StoresRecord result (ledger_of self.old) (record self.old.saved { half = Some half.now })
+            (StoresEntry result (record self.old.saved { half = Some half.now }) self.old self.new
             (R.seen self.old.rig).trace (R.seen self.new.rig).trace) }
-        ensures holds { (R.seen self.old.rig).honest → (program : List ℕ)
-            → HoldsProgram (R.seen self.old.rig).trace self.old program
-            → OnOk result (HoldsProgram (R.seen self.new.rig).trace self.new program) }
-        ensures saved { OnOk result (self.new.saved ≡ record self.old.saved { half = Some half.now }) }
-        ensures ledger { let saved = record self.old.saved { half = Some half.now } in
-            OnOk result (IsLedgerAfter (ledger_of self.old) saved (ledger_of self.new)) }
-        ensures broken { IsBrokenBy result self.new.broken }
-        ensures errors { IfErr result (λ e. (e ≡ CountersUsed) ⊎ (e ≡ DeviceFailed)) }
-        ensures used_up { IsErrOf result CountersUsed ↔ UsesUp (ledger_of self.old) (Open half.now) }
-        ensures unchanged { IsErrOf result CountersUsed → self.new ≡ self.old }
-        ensures size { (R.seen self.new.rig).sectors ≡ (R.seen self.old.rig).sectors }
-        ensures failures { CountsFailure result (R.seen self.old.rig).failed (R.seen self.new.rig).failed }
+        ensures keeps { OnOk result (KeepsEntry (record self.old.saved { half = Some half.now }) self.old self.new) }
+        ensures fails { FailsToStore result (Open half.now) self.old self.new }
+        ensures call { JournalCall R.seen result self.old self.new }
     {
-        if self.is_used_up_by(0) {
-            return Err(Fault::CountersUsed);
-        }
-        match store_half(&mut self.rig, self.tip, &mut self.stored, half) {
-            Ok(tip) => {
-                self.tip = tip;
-                Ok(())
-            }
-            Err(Failed) => {
-                self.broken = true;
-                Err(Fault::DeviceFailed)
-            }
-        }
+        let decoded = self.stored.decoded_with(half.copy());
+        self.commit_update(&Update {
+            decoded,
+            changes: &[],
+            slot: None,
+        })
     }
 
     /// Stores a program and the state that goes with it (own). The text replaces the program in force, and the log
@@ -249,29 +247,14 @@ impl<R: Rig, A: Allocator + Copy + Drop> Journal<R, A> {
         requires whole { self.old.broken ≡ false }
         requires storable { length text.now ≤ self.old.saved.room → IsStorable stored.now }
         requires long { stored.now.length ≡ length text.now }
-        ensures stops { IfHonest (R.seen self.old.rig) (R.seen self.new.rig)
-            ((before : DurableState) → IsDurablyAt (R.seen self.old.rig).trace self.old before
-            → CommitSpec result self.new before (record { saved = kept_by self.old stored.now; program = text.now })
+        ensures stores { let area = spare_area (is_large_size (R.seen self.old.rig).sectors) self.old.header.area in
+            IfHonest (R.seen self.old.rig) (R.seen self.new.rig)
+            (LoadsProgram result area (record { saved = kept_by self.old stored.now; program = text.now }) self.old self.new
             (R.seen self.old.rig).trace (R.seen self.new.rig).trace) }
-        ensures stores { IfHonest (R.seen self.old.rig) (R.seen self.new.rig)
-            (let area = spare_area (is_large_size (R.seen self.old.rig).sectors) self.old.header.area in
-            StoresLoad result area self.old.header (record { saved = kept_by self.old stored.now; program = text.now })
-            (R.seen self.old.rig).trace (R.seen self.new.rig).trace) }
-        ensures holds { (R.seen self.old.rig).honest
-            → OnOk result (HoldsProgram (R.seen self.new.rig).trace self.new text.now) }
-        ensures saved { OnOk result (self.new.saved ≡ kept_by self.old stored.now) }
-        ensures end { OnOk result (self.new.end ≡ no_records) }
-        ensures ledger { let area = spare_area (is_large_size (R.seen self.old.rig).sectors) self.old.header.area in
-            OnOk result (ledger_of self.new ≡ with_program area (ledger_of self.old) (kept_by self.old stored.now)) }
-        ensures broken { IsBrokenBy result self.new.broken }
-        ensures errors { IfErr result (λ e. (e ≡ ProgramTooLong) ⊎ ((e ≡ CountersUsed) ⊎ (e ≡ DeviceFailed))) }
-        ensures too_long { IsErrOf result ProgramTooLong ↔ (self.old.saved.room < length text.now) }
-        ensures used_up { IsErrOf result CountersUsed
-            ↔ ((length text.now ≤ self.old.saved.room) × UsesUp (ledger_of self.old) (Load stored.now)) }
-        ensures count { OnOk result (stored.now.entries ≤ greatest_count) }
-        ensures unchanged { (IsErrOf result CountersUsed ⊎ IsErrOf result ProgramTooLong) → self.new ≡ self.old }
-        ensures size { (R.seen self.new.rig).sectors ≡ (R.seen self.old.rig).sectors }
-        ensures failures { CountsFailure result (R.seen self.old.rig).failed (R.seen self.new.rig).failed }
+        ensures keeps { let area = spare_area (is_large_size (R.seen self.old.rig).sectors) self.old.header.area in
+            OnOk result (KeepsLoad area (kept_by self.old stored.now) self.old self.new) }
+        ensures fails { FailsToLoad result text.now stored.now self.old self.new }
+        ensures call { JournalCall R.seen result self.old self.new }
     {
         if text.len() as u64 > self.stored.room {
             return Err(Fault::ProgramTooLong);
@@ -305,10 +288,8 @@ impl<R: Rig, A: Allocator + Copy + Drop> Journal<R, A> {
             ((standing : DurableState) → IsDurablyAt (R.seen self.old.rig).trace self.old standing
             → JournalHandOutSpec result self.new standing item (R.seen self.old.rig).trace (R.seen self.new.rig).trace) }
         ensures ledger { ledger_of self.new ≡ ledger_of self.old }
-        ensures broken { IsBrokenBy result self.new.broken }
         ensures errors { IfErr result (λ e. e ≡ DeviceFailed) }
-        ensures size { (R.seen self.new.rig).sectors ≡ (R.seen self.old.rig).sectors }
-        ensures failures { CountsFailure result (R.seen self.old.rig).failed (R.seen self.new.rig).failed }
+        ensures call { JournalCall R.seen result self.old self.new }
     {
         match self.rig.hand_out(item) {
             Ok(()) => Ok(()),
@@ -332,5 +313,13 @@ impl<R: Rig, A: Allocator + Copy + Drop> Journal<R, A> {
         ensures { (result ≡ true) ↔ ((greatest_count ≤ self.now.header.epoch) × IsFullFor self.now.header self.now.end count) }
     {
         self.tip.header.epoch >= GREATEST_COUNT && self.tip.is_full_for(count)
+    }
+    /// The same for the record that leads to this state. Its changes are counted only in the last epoch.
+    fn is_used_up_between(&self, stored: &Stored<A>) -> bool
+        ensures { (result ≡ true) ↔ ((greatest_count ≤ self.now.header.epoch) × IsFullFor self.now.header self.now.end
+            (length (differences self.now.saved.setup.params stored.now.setup.params))) }
+    {
+        self.tip.header.epoch >= GREATEST_COUNT
+            && self.is_used_up_by(count_between(&self.stored, stored))
     }
 }

@@ -5,16 +5,14 @@ ghost use Rattle.ng_rig.specs.Calls.{IfHonest, IsCall};
 ghost use Rattle.ng_layout.specs.Limits.{greatest_count};
 ghost use Rattle.ng_params.specs.Numbers.{parameter_count};
 ghost use Rattle.ng_layout.specs.Areas.{least_size};
-ghost use Rattle.ng_layout.specs.Header.{program_room, IsValidHeader};
+ghost use Rattle.ng_layout.specs.Header.{program_room};
 ghost use Rattle.ng_layout.specs.Storable.{IsStorable, IsStorableTools};
 ghost use Rattle.ng_log.specs.Reading.{ReadSpec};
 ghost use Rattle.ng_rig.specs.Trace.{reads};
 ghost use Rattle.ng_layout.specs.declared.header.Format.TheVariants.{One, Two};
-ghost use Rattle.ng_layout.specs.Stored.{DurableState};
 ghost use Rattle.ng_layout.specs.Stands.{is_large, saved_beside};
 ghost use Rattle.ng_journal.specs.Recovery.{epochs_for, IsTableOver};
-ghost use Rattle.ng_journal.specs.Private.CheckpointSteps.{IsBegun};
-ghost use Rattle.ng_journal.specs.Private.RecoverySteps.{IsRead, IsRefusal, RestoreSpec, ModernizeSpec, StoresModern, modern_by};
+ghost use Rattle.ng_journal.specs.Private.RecoverySteps.{IsRead, IsRefusal, IsWholeUnder, RestoreSpec, Modernizes, modern_by};
 
 use crate::checkpoint::{checkpoint, migrated, next_header};
 use crate::reading::{header_in_force, read_snapshot};
@@ -40,11 +38,8 @@ fn found<R: Rig, A: Allocator + Copy + Drop>(
     ensures read { IfHonest (R.seen rig.old) (R.seen rig.new)
         (ReadSpec result (IsRead stored.new) (R.seen rig.old).trace (R.seen rig.new).trace) }
     // Also for a device that isn't honest.
-    ensures valid { IfOk result (λ answer. IfOk answer (IsValidHeader large)) }
+    ensures whole { IfOk result (λ answer. IfOk answer (IsWholeUnder large stored.new)) }
     ensures limit { stored.new.room ≡ stored.old.room }
-    ensures storable { IfOk result (λ answer. OnOk answer (IsStorable stored.new)) }
-    ensures count { IfOk result (λ answer. OnOk answer (stored.new.entries ≤ greatest_count)) }
-    ensures long { IfOk result (λ answer. IfOk answer (λ header. stored.new.length ≡ header.length)) }
     ensures faults { IfOk result (λ answer. IfErr answer IsRefusal) }
     ensures call { IsCall result (R.seen rig.old) (R.seen rig.new) }
 {
@@ -77,23 +72,15 @@ fn modernize<R: Rig, A: Allocator + Copy + Drop>(
     requires count { stored.old.entries ≤ greatest_count }
     requires storable { IsStorable stored.old }
     requires tools { IsStorableTools tools.now }
-    ensures stops { IfHonest (R.seen rig.old) (R.seen rig.new)
-        ((table : List ℤ) → (header.format ≡ One → table ≡ tools.now) → (standing : DurableState)
-        → IsBegun (R.seen rig.old).trace header standing → standing.saved ≡ stored.old
-        → ModernizeSpec table result header standing (R.seen rig.old).trace (R.seen rig.new).trace) }
-    ensures stores { IfHonest (R.seen rig.old) (R.seen rig.new)
+    ensures modernizes { IfHonest (R.seen rig.old) (R.seen rig.new)
         ((table : List ℤ) → (header.format ≡ One → table ≡ tools.now)
-        → StoresModern table result header stored.old (R.seen rig.old).trace (R.seen rig.new).trace) }
-    ensures header { IfOk result (λ last. last ≡ modern_by header.format header) }
+        → Modernizes table result header stored.old (R.seen rig.old).trace (R.seen rig.new).trace) }
+    ensures header { IfOk result (λ last. (last ≡ modern_by header.format header) × (last.format ≡ Two)) }
     ensures saved { (table : List ℤ) → (header.format ≡ One → table ≡ tools.now)
         → OnOk result (stored.new ≡ saved_beside table header.format stored.old) }
     // Also for a device that isn't honest.
-    ensures valid { (large : Bool) → IsValidHeader large header → IfOk result (IsValidHeader large) }
+    ensures whole { (large : Bool) → IsWholeUnder large stored.old header → IfOk result (IsWholeUnder large stored.new) }
     ensures limit { stored.new.room ≡ stored.old.room }
-    ensures format { IfOk result (λ last. last.format ≡ Two) }
-    ensures storable { OnOk result (IsStorable stored.new) }
-    ensures count { OnOk result (stored.new.entries ≡ stored.old.entries) }
-    ensures same { IfOk result (λ last. (last.length ≡ header.length) × (stored.new.length ≡ stored.old.length)) }
     ensures call { IsCall result (R.seen rig.old) (R.seen rig.new) }
 {
     match header.format {
@@ -138,11 +125,8 @@ pub(crate) fn restore<R: Rig, A: Allocator + Copy + Drop>(
         ((table : List ℤ) → IsTableOver tools.now table (reads (R.seen rig.old).trace)
         → RestoreSpec table result stored.new (R.seen rig.old).trace (R.seen rig.new).trace) }
     // Also for a device that isn't honest.
-    ensures valid { IfOk result (λ answer. IfOk answer (IsValidHeader large)) }
+    ensures whole { IfOk result (λ answer. IfOk answer (IsWholeUnder large stored.new)) }
     ensures limit { stored.new.room ≡ stored.old.room }
-    ensures storable { IfOk result (λ answer. OnOk answer (IsStorable stored.new)) }
-    ensures count { IfOk result (λ answer. OnOk answer (stored.new.entries ≤ greatest_count)) }
-    ensures long { IfOk result (λ answer. IfOk answer (λ header. stored.new.length ≡ header.length)) }
     ensures faults { IfOk result (λ answer. IfErr answer IsRefusal) }
     ensures call { IsCall result (R.seen rig.old) (R.seen rig.new) }
 {

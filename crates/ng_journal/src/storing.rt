@@ -1,22 +1,23 @@
 //! Storing a state as a record. If the log has no room for it, the old state is checkpointed first.
-ghost use Rattle.std.specs.Prelude.{◌≡◌, ◌≤◌, ◌<◌, ◌+◌, ◌⊎◌, ◌↔◌, true, Some, length, OnOk, IfOk};
+ghost use Rattle.std.specs.Prelude.{◌≡◌, ◌≤◌, ◌<◌, ◌+◌, ◌⊎◌, ◌↔◌, true, length, OnOk, IfOk};
+ghost use Rattle.std.specs.Option.{ForSome};
 ghost use Rattle.ng_rig.specs.Calls.{IfHonest, IsCall};
 ghost use Rattle.ng_layout.specs.Limits.{greatest_count};
 ghost use Rattle.ng_params.specs.Numbers.{parameter_count};
 ghost use Rattle.ng_layout.specs.Areas.{log_size_of, least_size};
-ghost use Rattle.ng_layout.specs.Storable.{IsStorableHalf, IsStorable};
-ghost use Rattle.ng_layout.specs.Stored.{DurableState};
-ghost use Rattle.ng_log.specs.Writing.{WritesRecord};
-ghost use Rattle.ng_log.specs.AtEnd.{IsAtEnd, no_records};
-ghost use Rattle.ng_offsets.specs.Tools.{first_change, IsOneSlotFrom};
+ghost use Rattle.ng_layout.specs.Stored.{StoredModel};
+ghost use Rattle.ng_layout.specs.Update.{updated};
+ghost use Rattle.ng_log.specs.AtEnd.{end_after, no_records};
+ghost use Rattle.ng_offsets.specs.Tools.{first_change, with_change, IsOneSlotFrom};
+ghost use Rattle.ng_layout.specs.Storable.{IsStorableChange};
 ghost use Rattle.ng_params.specs.Differences.{differences};
 ghost use Rattle.ng_journal.specs.Journal.{IsTip};
-ghost use Rattle.ng_journal.specs.Private.Records.{IsRoom, MakeRoomSpec, StoreRecordSpec, StoresRoom, ledger, tip_of};
-ghost use Rattle.ng_journal.specs.Storing.{HasRoomFor, IsFullFor, IsLedgerAfter, StoresRecord, record_of, with_record};
+ghost use Rattle.ng_journal.specs.Private.Records.{IsRoom, MakesRoom, MayStand, LeadsTo, AppendsRecord, StoresNext, IsTipAfter, ledger};
+ghost use Rattle.ng_journal.specs.Storing.{HasRoomFor, IsFullFor, IsSettled};
 
 use crate::checkpoint::{checkpoint, next_header};
-use ng_layout::{Half, Header, Stored, parts_for};
-use ng_log::{LogEnd, append};
+use ng_layout::{Header, Stored, Update, changed_slot, parts_for};
+use ng_log::{LogEnd, RecordChanges, append};
 use ng_offsets::SlotChange;
 use ng_params::difference_count;
 use ng_rig::{Failed, Rig};
@@ -50,8 +51,8 @@ impl Tip {
     }
 }
 
-/// How many changes lead from one state to the other.
-pub(crate) fn changes_between<A: Allocator + Copy + Drop>(
+/// How many changes of parameters lead from one state to the other.
+pub(crate) fn count_between<A: Allocator + Copy + Drop>(
     old: &Stored<A>,
     stored: &Stored<A>,
 ) -> usize
@@ -61,14 +62,36 @@ pub(crate) fn changes_between<A: Allocator + Copy + Drop>(
     difference_count(&old.state.params, &stored.state.params)
 }
 
+/// The changes of parameters that lead from one state to the other.
+fn changes_between<'a, A: Allocator + Copy + Drop>(
+    old: &'a Stored<A>,
+    stored: &'a Stored<A>,
+) -> RecordChanges<'a, A>
+    ensures changes { result ≡ differences old.now.setup.params stored.now.setup.params }
+    ensures few { length result ≤ parameter_count }
+{
+    RecordChanges::between(&old.state.params, &stored.state.params)
+}
+
 /// The slot whose change leads from one tool table to the other.
-pub(crate) fn slot_between<A: Allocator + Copy + Drop>(
+fn slot_between<A: Allocator + Copy + Drop>(
     old: &Stored<A>,
     stored: &Stored<A>,
 ) -> Option<SlotChange>
     ensures { result ≡ first_change old.now.tools stored.now.tools }
 {
     old.tools.change_to(&stored.tools)
+}
+
+/// The slot whose length an update changes.
+fn slot_of<A: Allocator + Copy + Drop>(
+    stored: &Stored<A>,
+    update: &Update<'_>,
+) -> Option<SlotChange>
+    requires { ForSome update.now.slot (IsStorableChange stored.now.tools) }
+    ensures { result ≡ first_change stored.now.tools (with_change update.now.slot stored.now.tools) }
+{
+    changed_slot(&stored.tools, update.slot)
 }
 
 /// Takes over all of another state but its room for a program, which stays that of the device. Nothing is allocated.
@@ -82,26 +105,6 @@ pub(crate) fn take_state<A: Allocator + Copy + Drop>(stored: &mut Stored<A>, oth
     stored.room = room;
 }
 
-/// Takes a state over as `take_state` does, if its table differs in `count` parameters: if that is 0, the table stays.
-pub(crate) fn take_changed<A: Allocator + Copy + Drop>(
-    stored: &mut Stored<A>,
-    other: &Stored<A>,
-    count: usize,
-)
-    requires own { length stored.old.setup.params ≡ parameter_count }
-    requires other { length other.now.setup.params ≡ parameter_count }
-    requires count { count ≡ length (differences stored.old.setup.params other.now.setup.params) }
-    ensures { stored.new ≡ record other.now { room = stored.old.room } }
-{
-    if count == 0 {
-        let room = stored.room;
-        stored.take_all_but_parameters(other);
-        stored.room = room;
-    } else {
-        take_state(stored, other);
-    }
-}
-
 /// Writes the old state under the next epoch, if the log has no room for a record of this many changes.
 fn make_room<R: Rig, A: Allocator + Copy + Drop>(
     rig: &mut R,
@@ -113,13 +116,9 @@ fn make_room<R: Rig, A: Allocator + Copy + Drop>(
     requires tip { IsTip stored.now.length tip.header tip.end }
     requires few { count ≤ parameter_count }
     requires epoch { IsFullFor tip.header tip.end count → tip.header.epoch < greatest_count }
-    requires entries { stored.now.entries ≤ greatest_count }
-    requires storable { IsStorable stored.now }
+    requires stands { MayStand stored.now }
     ensures makes { IfHonest (R.seen rig.old) (R.seen rig.new)
-        ((before : DurableState) → IsAtEnd (R.seen rig.old).trace tip.header before tip.end
-        → before.saved ≡ stored.now → MakeRoomSpec result before (R.seen rig.old).trace (R.seen rig.new).trace) }
-    ensures stores { IfHonest (R.seen rig.old) (R.seen rig.new)
-        (StoresRoom result (ledger tip stored.now) count (R.seen rig.old).trace (R.seen rig.new).trace) }
+        (MakesRoom result (ledger tip stored.now) count (R.seen rig.old).trace (R.seen rig.new).trace) }
     ensures room { IfOk result (IsRoom (ledger tip stored.now) count) }
     // Also for a device that isn't honest.
     ensures tip { IfOk result (λ t. IsTip stored.now.length t.header t.end) }
@@ -133,127 +132,91 @@ fn make_room<R: Rig, A: Allocator + Copy + Drop>(
     Ok(Tip::beginning(next))
 }
 
-/// Writes a record of this many changes, for which the log has room.
+/// Writes the record of what is stored, with the changes that lead to it. The log has room for it.
 fn append_to<R: Rig, A: Allocator + Copy + Drop>(
     rig: &mut R,
     tip: Tip,
-    old: &Stored<A>,
     stored: &Stored<A>,
-    count: usize,
+    changes: RecordChanges<'_, A>,
     slot: Option<SlotChange>,
 ) -> Result<Tip, Failed>
     requires sectors { least_size ≤ (R.seen rig.old).sectors }
     requires tip { IsTip stored.now.length tip.header tip.end }
-    requires slot { slot ≡ first_change old.now.tools stored.now.tools }
-    requires one { IsOneSlotFrom old.now.tools stored.now.tools }
-    requires table { length old.now.setup.params ≡ parameter_count }
-    requires count { count ≡ length (differences old.now.setup.params stored.now.setup.params) }
-    requires few { count ≤ parameter_count }
-    requires room { HasRoomFor tip.header tip.end count }
-    requires entries { stored.now.entries ≤ greatest_count }
-    requires storable { IsStorable stored.now }
+    requires few { length changes ≤ parameter_count }
+    requires room { HasRoomFor tip.header tip.end (length changes) }
+    requires stands { MayStand stored.now }
+    // The room for a program is that of the device.
     ensures appends { IfHonest (R.seen rig.old) (R.seen rig.new)
-        ((before : DurableState) → IsAtEnd (R.seen rig.old).trace tip.header before tip.end
-        → before.saved.setup.params ≡ old.now.setup.params → before.saved.tools ≡ old.now.tools
-        → before.saved.room ≡ old.now.room
-        → StoreRecordSpec result before (record stored.now { room = old.now.room }) (R.seen rig.old).trace (R.seen rig.new).trace) }
-    ensures writes { IfHonest (R.seen rig.old) (R.seen rig.new)
-        (WritesRecord result (record_of (ledger tip old.now) (record stored.now { room = old.now.room }))
+        ((was : StoredModel) → LeadsTo was stored.now changes.entry slot
+        → AppendsRecord result (ledger tip was) (record stored.now { room = was.room })
         (R.seen rig.old).trace (R.seen rig.new).trace) }
     // Also for a device that isn't honest.
-    ensures end { let saved = record stored.now { room = old.now.room } in
-        IfOk result (λ t. t ≡ tip_of (with_record (ledger tip old.now) saved)) }
+    ensures end { IfOk result (λ t. t ≡ record { header = tip.header; end = end_after tip.end (length changes.entry) }) }
     ensures tip { IfOk result (λ t. IsTip stored.now.length t.header t.end) }
     ensures call { IsCall result (R.seen rig.old) (R.seen rig.new) }
 {
-    let end = append(
-        rig,
-        tip.header,
-        tip.end,
-        &old.state.params,
-        stored,
-        count,
-        slot,
-    )?;
+    let end = append(rig, tip.header, tip.end, stored, changes, slot)?;
     Ok(Tip {
         header: tip.header,
         end,
     })
 }
 
-/// Writes a new state as a record after the end of the log or, if this log has no room, of the next epoch's. `count` is
-/// the number of changes that lead to it from the old state. Nothing is allocated.
-pub(crate) fn store<R: Rig, A: Allocator + Copy + Drop>(
+/// Writes a new state as a record after the end of the log or, if this log has no room, of the next epoch's. Nothing is
+/// allocated.
+pub(crate) fn store<'a, R: Rig, A: Allocator + Copy + Drop>(
     rig: &mut R,
     tip: Tip,
-    old: &Stored<A>,
-    stored: &Stored<A>,
-    count: usize,
-    slot: Option<SlotChange>,
+    old: &'a Stored<A>,
+    stored: &'a Stored<A>,
 ) -> Result<Tip, Failed>
     requires sectors { least_size ≤ (R.seen rig.old).sectors }
     requires tip { IsTip old.now.length tip.header tip.end }
-    requires slot { slot ≡ first_change old.now.tools stored.now.tools }
     requires one { IsOneSlotFrom old.now.tools stored.now.tools }
-    requires count { count ≡ length (differences old.now.setup.params stored.now.setup.params) }
-    requires few { count ≤ parameter_count }
-    requires epoch { IsFullFor tip.header tip.end count → tip.header.epoch < greatest_count }
-    requires old_entries { old.now.entries ≤ greatest_count }
-    requires old_storable { IsStorable old.now }
-    requires entries { stored.now.entries ≤ greatest_count }
-    requires storable { IsStorable stored.now }
+    requires epoch { IsFullFor tip.header tip.end (length (differences old.now.setup.params stored.now.setup.params))
+        → tip.header.epoch < greatest_count }
+    requires old { MayStand old.now }
+    requires new { MayStand stored.now }
     requires long { stored.now.length ≡ old.now.length }
-    ensures stops { IfHonest (R.seen rig.old) (R.seen rig.new)
-        ((before : DurableState) → IsAtEnd (R.seen rig.old).trace tip.header before tip.end
-        → before.saved ≡ old.now
-        → StoreRecordSpec result before (record stored.now { room = old.now.room }) (R.seen rig.old).trace (R.seen rig.new).trace) }
     ensures stores { IfHonest (R.seen rig.old) (R.seen rig.new)
-        (StoresRecord result (ledger tip old.now) (record stored.now { room = old.now.room })
+        (StoresNext result (ledger tip old.now) (record stored.now { room = old.now.room })
         (R.seen rig.old).trace (R.seen rig.new).trace) }
     // Also for a device that isn't honest.
-    ensures ledger { let saved = record stored.now { room = old.now.room } in
-        IfOk result (λ t. IsLedgerAfter (ledger tip old.now) saved (ledger t saved)) }
-    ensures tip { IfOk result (λ t. IsTip stored.now.length t.header t.end) }
+    ensures tip { IfOk result (IsTipAfter (ledger tip old.now) (record stored.now { room = old.now.room })) }
     ensures call { IsCall result (R.seen rig.old) (R.seen rig.new) }
 {
-    let tip = make_room(rig, tip, old, count)?;
-    append_to(rig, tip, old, stored, count, slot)
+    let slot = slot_between(old, stored);
+    let changes = changes_between(old, stored);
+    let tip = make_room(rig, tip, old, changes.count())?;
+    append_to(rig, tip, stored, changes, slot)
 }
 
-/// Stores another half-done block, which it takes over, as `store` does.
-pub(crate) fn store_half<R: Rig, A: Allocator + Copy + Drop>(
+/// Makes an update of a state and writes its record, as `store` does. It compares no tables and copies none.
+pub(crate) fn store_update<R: Rig, A: Allocator + Copy + Drop>(
     rig: &mut R,
     tip: Tip,
     stored: &mut Stored<A>,
-    half: &Half,
+    update: &Update<'_>,
 ) -> Result<Tip, Failed>
     requires sectors { least_size ≤ (R.seen rig.old).sectors }
     requires tip { IsTip stored.old.length tip.header tip.end }
-    requires epoch { IsFullFor tip.header tip.end 0 → tip.header.epoch < greatest_count }
-    requires entries { stored.old.entries ≤ greatest_count }
-    requires storable { IsStorable stored.old }
-    requires half { IsStorableHalf half.now }
-    ensures stops { IfHonest (R.seen rig.old) (R.seen rig.new)
-        ((before : DurableState) → IsAtEnd (R.seen rig.old).trace tip.header before tip.end
-        → before.saved ≡ stored.old
-        → StoreRecordSpec result before (record stored.old { half = Some half.now })
-        (R.seen rig.old).trace (R.seen rig.new).trace) }
+    requires settled { IsSettled stored.old update.now }
+    requires few { length update.now.changes ≤ parameter_count }
+    requires epoch { IsFullFor tip.header tip.end (length update.now.changes) → tip.header.epoch < greatest_count }
+    requires old { MayStand stored.old }
+    requires new { MayStand (updated stored.old update.now) }
     ensures stores { IfHonest (R.seen rig.old) (R.seen rig.new)
-        (StoresRecord result (ledger tip stored.old) (record stored.old { half = Some half.now })
+        (StoresNext result (ledger tip stored.old) (updated stored.old update.now)
         (R.seen rig.old).trace (R.seen rig.new).trace) }
-    ensures saved { OnOk result (stored.new ≡ record stored.old { half = Some half.now }) }
+    ensures saved { OnOk result (stored.new ≡ updated stored.old update.now) }
+    ensures either { (stored.new ≡ stored.old) ⊎ (stored.new ≡ updated stored.old update.now) }
     // Also for a device that isn't honest.
-    ensures ledger { let saved = record stored.old { half = Some half.now } in
-        IfOk result (λ t. IsLedgerAfter (ledger tip stored.old) saved (ledger t saved)) }
-    // Also for a device that isn't honest, and after an error.
-    ensures storable { IsStorable stored.new }
-    ensures entries { stored.new.entries ≡ stored.old.entries }
-    ensures length { stored.new.length ≡ stored.old.length }
-    ensures limit { stored.new.room ≡ stored.old.room }
-    ensures tip { IfOk result (λ t. IsTip stored.old.length t.header t.end) }
+    ensures tip { IfOk result (IsTipAfter (ledger tip stored.old) (updated stored.old update.now)) }
     ensures call { IsCall result (R.seen rig.old) (R.seen rig.new) }
 {
-    let tip = make_room(rig, tip, stored, 0)?;
-    stored.take_half(half);
-    append_to(rig, tip, stored, stored, 0, None)
+    let slot = slot_of(stored, update);
+    let tip = make_room(rig, tip, stored, update.changes.len())?;
+    stored.take_update(update);
+    let changes = RecordChanges::listed(update.changes);
+    append_to(rig, tip, stored, changes, slot)
 }

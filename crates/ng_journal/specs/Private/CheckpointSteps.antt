@@ -9,7 +9,6 @@ use Rattle.ng_layout.specs.Snapshot.{HoldsPart, HoldsToolPart}
 use Rattle.ng_layout.specs.declared.header.Format.TheVariants.{One, Two}
 use Rattle.ng_layout.specs.Areas.{snapshot_size, snapshot_first, tools_size, tools_first, shortest_log, log_first, program_first, program_size}
 use Rattle.ng_layout.specs.Stored.{StoredModel, DurableState}
-use Rattle.ng_journal.specs.Area.{BelongsIn}
 use Rattle.ng_rig.specs.Continuation.{IsContinuation, IsSynced}
 use Rattle.ng_layout.specs.declared.header.Header.{Header}
 use Rattle.ng_layout.specs.Sectors.{program_text}
@@ -17,15 +16,6 @@ use Rattle.ng_layout.specs.Header.{program_room, IsValidHeader}
 use Rattle.ng_layout.specs.Stands.{is_large, stretch, program_under, in_force, snapshot, stands, IsWritten}
 use Rattle.ng_log.specs.AtEnd.{replay_state_in}
 use Rattle.ng_journal.specs.AtRest.{BelongsToAreas, BelongsTo, IsLaidOut}
-
--- the first n sectors from there on hold the snapshot's parts, and only such parts are written, each in its place
-pub record AreaTo (n first : ℕ) (saved : StoredModel) (old new : Trace) : Type 0 where
-  pub writes : WritesOnly (BelongsIn first snapshot_size (HoldsPart saved)) old new
-  pub parts : (j : ℕ) → j < n → HoldsPart saved j (reads new (first + j))
-
-pub record WritesArea {T E : Type 0} (result : Result T E) (first : ℕ) (saved : StoredModel) (old new : Trace) : Type 0 where
-  pub writes : WritesOnly (BelongsIn first snapshot_size (HoldsPart saved)) old new
-  pub parts : OnOk result ((j : ℕ) → j < snapshot_size → HoldsPart saved j (reads new (first + j)))
 
 -- The areas of a header are written, and after Ok what is stored is there.
 pub record WritesAreas {T E : Type 0} (result : Result T E) (next : Header) (saved : StoredModel) (old new : Trace) : Type 0 where

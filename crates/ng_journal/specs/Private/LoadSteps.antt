@@ -1,23 +1,16 @@
 -- What writing a program's text leaves, and what a load leaves.
-use Rattle.std.specs.Prelude.{◌≡◌, ◌+◌, ◌*◌, ◌<◌, ℕ, List, Result, Ok, OnOk}
+use Rattle.std.specs.Prelude.{◌≡◌, ℕ, List, Result, Ok, OnOk}
 use Rattle.ng_rig.specs.Trace.{Trace, reads, items}
 use Rattle.ng_rig.specs.Continuation.{IsContinuation}
 use Rattle.ng_rig.specs.Only.{WritesOnly}
 use Rattle.ng_layout.specs.declared.header.Header.{Header}
-use Rattle.ng_layout.specs.Limits.{sector_size}
-use Rattle.ng_layout.specs.Sectors.{HoldsText}
-use Rattle.ng_layout.specs.Areas.{program_first}
 use Rattle.ng_layout.specs.Stands.{stands}
 use Rattle.ng_layout.specs.Stored.{DurableState}
 use Rattle.ng_log.specs.AtEnd.{no_records, IsAtEnd}
 use Rattle.ng_journal.specs.AtRest.{IsEither, next_header}
 use Rattle.ng_journal.specs.Loads.{BelongsToText, IsTextAt}
 
--- the first n sectors of a program area hold the text, and only that is written there
-pub record TextTo (n area : ℕ) (text : List ℕ) (old new : Trace) : Type 0 where
-  pub writes : WritesOnly (λ m bytes. BelongsToText text area m bytes) old new
-  pub parts : (j : ℕ) → j < n → HoldsText text (sector_size * j) (reads new (program_first area + j))
-
+-- Only the text is written to a program area, each part in its place; after Ok all of it is there.
 pub record WritesText {T E : Type 0} (result : Result T E) (area : ℕ) (text : List ℕ) (old new : Trace) : Type 0 where
   pub writes : WritesOnly (λ m bytes. BelongsToText text area m bytes) old new
   pub parts : OnOk result (IsTextAt area text (reads new))

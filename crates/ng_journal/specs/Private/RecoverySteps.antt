@@ -1,5 +1,5 @@
 -- What the steps of a recovery find and leave.
-use Rattle.std.specs.Prelude.{◌≡◌, ◌⊎◌, ℕ, ℤ, List, Some, Result, Ok, Err, OnOk, IfOk, IfErr}
+use Rattle.std.specs.Prelude.{◌≡◌, ◌≤◌, ◌⊎◌, ℕ, ℤ, Bool, List, Some, Result, Ok, Err, OnOk, IfOk, IfErr}
 use Rattle.ng_num.specs.declared.fault.Fault.{Fault}
 use Rattle.ng_num.specs.declared.fault.Fault.TheVariants.{NotFormatted, Damaged, CountersUsed}
 use Rattle.ng_rig.specs.Trace.{Image, Trace, Synced, reads, items}
@@ -8,14 +8,24 @@ use Rattle.ng_rig.specs.Only.{WritesOnly}
 use Rattle.ng_layout.specs.declared.header.Format.{Format}
 use Rattle.ng_layout.specs.declared.header.Format.TheVariants.{One, Two}
 use Rattle.ng_layout.specs.declared.header.Header.{Header}
-use Rattle.ng_layout.specs.Header.{program_room}
+use Rattle.ng_layout.specs.Header.{program_room, IsValidHeader}
+use Rattle.ng_layout.specs.Limits.{greatest_count}
+use Rattle.ng_layout.specs.Storable.{IsStorable}
 use Rattle.ng_layout.specs.Stands.{is_large, in_force, stands, stands_beside, beside_format, saved_beside, IsWritten}
 use Rattle.ng_layout.specs.Stored.{StoredModel, DurableState}
 use Rattle.ng_log.specs.AtEnd.{no_records, IsAtEnd}
 use Rattle.ng_journal.specs.AtRest.{BelongsTo, IsLaidOut, migrated}
 use Rattle.ng_journal.specs.Journal.{StandsBeside}
-use Rattle.ng_journal.specs.Private.CheckpointSteps.{beside}
+use Rattle.ng_journal.specs.Private.CheckpointSteps.{beside, IsBegun}
 use Rattle.ng_journal.specs.Recovery.{HasCause, IsFound, IsNextEpoch, Renews, IsEitherBeside, recovered_of}
+
+-- What was found or made is whole, also for a device that isn't honest: it can be stored under this header, which is
+-- valid.
+pub record IsWholeUnder (large : Bool) (saved : StoredModel) (header : Header) : Type 0 where
+  pub valid : IsValidHeader large header
+  pub storable : IsStorable saved
+  pub count : saved.entries ≤ greatest_count
+  pub long : saved.length ≡ header.length
 
 -- the faults of what a device holds
 abbrev pub IsRefusal : Fault → Type 0
@@ -80,3 +90,8 @@ pub record StoresModern {E : Type 0} (tools : List ℤ) (result : Result Header 
   pub writes : WritesOnly (λ n bytes. BelongsToModern tools header saved n bytes) old new
   pub laid : IsLaidOut header saved (reads old) → IfOk result (λ last. IsLaidOut last (saved_beside tools header.format saved) (reads new))
   pub synced : IsSynced old → OnOk result (IsSynced new)
+
+-- Both, over a device at rest with this state under the header, and over any.
+pub record Modernizes {E : Type 0} (tools : List ℤ) (result : Result Header E) (header : Header) (saved : StoredModel) (old new : Trace) : Type 0 where
+  pub stops : (standing : DurableState) → IsBegun old header standing → standing.saved ≡ saved → ModernizeSpec tools result header standing old new
+  pub writes : StoresModern tools result header saved old new

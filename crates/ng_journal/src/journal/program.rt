@@ -7,7 +7,6 @@ ghost use Rattle.ng_layout.specs.Stored.{DurableState};
 ghost use Rattle.ng_log.specs.Reading.{ReadSpec};
 ghost use Rattle.ng_text.specs.Percent.{first_kind};
 ghost use Rattle.ng_text.specs.Programs.{lines_before, program_line_at};
-ghost use Rattle.ng_journal.specs.Journal.{CountsFailure};
 ghost use Rattle.ng_journal.specs.Program.{FirstKindSpec, ProgramLineSpec};
 ghost use Rattle.ng_journal.specs.Storing.{ledger_of};
 
@@ -20,7 +19,7 @@ use ng_words::LineKind;
 use std::alloc::Allocator;
 
 impl<R: Rig, A: Allocator + Copy + Drop> Journal<R, A> {
-    ghost use Rattle.ng_journal.specs.Journal.{IsDurablyAt, IsBrokenBy};
+    ghost use Rattle.ng_journal.specs.Journal.{IsDurablyAt, JournalCall};
 
     /// The kind of the first line before a place of the program in force that isn't blank; blank if all lines are
     /// (own). It reads at most to the end of that line.
@@ -36,10 +35,8 @@ impl<R: Rig, A: Allocator + Copy + Drop> Journal<R, A> {
             ((standing : DurableState) → IsDurablyAt (R.seen self.old.rig).trace self.old standing
             → FirstKindSpec result self.new standing place (R.seen self.old.rig).trace (R.seen self.new.rig).trace) }
         ensures ledger { ledger_of self.new ≡ ledger_of self.old }
-        ensures broken { IsBrokenBy result self.new.broken }
         ensures errors { IfErr result (λ e. e ≡ DeviceFailed) }
-        ensures size { (R.seen self.new.rig).sectors ≡ (R.seen self.old.rig).sectors }
-        ensures failures { CountsFailure result (R.seen self.old.rig).failed (R.seen self.new.rig).failed }
+        ensures call { JournalCall R.seen result self.old self.new }
     {
         let header = self.tip.header;
         match read_first_kind(&mut self.rig, header.area, place as usize) {
@@ -66,10 +63,8 @@ impl<R: Rig, A: Allocator + Copy + Drop> Journal<R, A> {
             → ProgramLineSpec result self.new standing place (R.seen self.old.rig).trace (R.seen self.new.rig).trace) }
         ensures next { IfOk result (λ line. IfSome line (λ l. (place < l.next) × (l.next ≤ self.old.saved.length))) }
         ensures ledger { ledger_of self.new ≡ ledger_of self.old }
-        ensures broken { IsBrokenBy result self.new.broken }
         ensures errors { IfErr result (λ e. e ≡ DeviceFailed) }
-        ensures size { (R.seen self.new.rig).sectors ≡ (R.seen self.old.rig).sectors }
-        ensures failures { CountsFailure result (R.seen self.old.rig).failed (R.seen self.new.rig).failed }
+        ensures call { JournalCall R.seen result self.old self.new }
     {
         let header = self.tip.header;
         let program_end = header.length as usize;

@@ -1,15 +1,7 @@
-use Rattle.std.proofs.Common.{◌≡◌}
-use Rattle.ng_rig.specs.Calls.{IfHonest}
 use Rattle.ng_layout.specs.Areas.{tools_size}
-use Rattle.ng_journal.specs.Private.Overwrites.{OverwritesTo}
 use Rattle.ng_layout.specs.Snapshot.{HoldsToolPart}
+use Rattle.ng_journal.proofs.OverwriteLemmas.{HasWritten}
 use Rattle.ng_journal.proofs.checkpoint.write_tools.Given as goal
 
 abbrev pub invariant-loop-part : goal.invariant-loop-part
-invariant-loop-part g l = record {
-  tools : IfHonest (g.R.Rig.seen l.initial.rig) (g.R.Rig.seen l.rig)
-      (OverwritesTo l.part l.first tools_size (HoldsToolPart l.stored) (g.R.Rig.seen l.initial.rig).trace
-      (g.R.Rig.seen l.rig).trace);
-  size : (g.R.Rig.seen l.rig).sectors ≡ (g.R.Rig.seen l.initial.rig).sectors;
-  failures : (g.R.Rig.seen l.rig).failed ≡ (g.R.Rig.seen l.initial.rig).failed;
-}
+invariant-loop-part g l = HasWritten l.part l.first tools_size (HoldsToolPart l.stored) (g.R.Rig.seen l.initial.rig) (g.R.Rig.seen l.rig)

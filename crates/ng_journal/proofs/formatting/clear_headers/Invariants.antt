@@ -1,13 +1,6 @@
-use Rattle.std.proofs.Common.{◌≡◌}
-use Rattle.ng_rig.specs.Calls.{IfHonest}
-use Rattle.ng_journal.specs.Private.Overwrites.{OverwritesTo}
 use Rattle.ng_journal.specs.Formatting.{IsEmpty}
+use Rattle.ng_journal.proofs.OverwriteLemmas.{HasWritten}
 use Rattle.ng_journal.proofs.formatting.clear_headers.Given as goal
 
 abbrev pub invariant-loop-k : goal.invariant-loop-k
-invariant-loop-k g l = record {
-  writes : IfHonest (g.R.Rig.seen l.initial.rig) (g.R.Rig.seen l.rig)
-      (OverwritesTo l.k 0 2 IsEmpty (g.R.Rig.seen l.initial.rig).trace (g.R.Rig.seen l.rig).trace);
-  size : (g.R.Rig.seen l.rig).sectors ≡ (g.R.Rig.seen l.initial.rig).sectors;
-  failures : (g.R.Rig.seen l.rig).failed ≡ (g.R.Rig.seen l.initial.rig).failed;
-}
+invariant-loop-k g l = HasWritten l.k 0 2 IsEmpty (g.R.Rig.seen l.initial.rig) (g.R.Rig.seen l.rig)

@@ -78,8 +78,7 @@ returns-in_err-last-in-Ok-clause-restores g c =
     let found = c.in_ok-fault.ensures.read in
     let last = c.in_ok-checkpoint-in-Ok.ensures.stops in
     let stores = c.in_ok-checkpoint-in-Ok.ensures.stores in
-    let again = c.modernize.ensures.stops in
-    let modern = c.modernize.ensures.stores in
+    let again = c.modernize.ensures.modernizes in
     let header = c.in-Ok.header in
     rw p.1 (record {
       keeps = λ h. again.keeps (last.keeps (found.keeps (sync.keeps h)));
@@ -93,12 +92,13 @@ returns-in_err-last-in-Ok-clause-restores g c =
           let force = subst (λ (l : Trace). in_force (reads l) ≡ Some header) now u.force in
           let given : c.next_header-next.result.format ≡ One → table ≡ c.args.tools.now = λ one.
           over header force (sym (ap (λ (x : Header). x.format) c.next_header-next.ensures) ∙ one) in
+          let made = again.holds (last.keeps at) table given in
           exit_modern table header c.found.new.stored c.close.new.self _ _ now u c.close.ensures.value more _
           c.next_header-next.result _ _
           (next_is header c.next_header-next.result c.found.new.stored c.close.new.self _ u
           c.close.ensures.value c.next_header-next.ensures) (stores.holds at)
           (last.holds at c.close.new.self.room) p.0 c.modernize.result c.modernize.new.stored
-          (modern.holds (last.keeps at) table given) (again.holds (last.keeps at) table given);
+          made.writes made.stops;
     })
 
 pub returns-in_ok-last-in-Ok-clause-restores : goal.returns-in_ok-last-in-Ok-clause-restores
@@ -107,8 +107,7 @@ returns-in_ok-last-in-Ok-clause-restores g c =
     let found = c.in_ok-fault.ensures.read in
     let last = c.in_ok-checkpoint-in-Ok.ensures.stops in
     let stores = c.in_ok-checkpoint-in-Ok.ensures.stores in
-    let again = c.in_ok-last-in-Ok.ensures.stops in
-    let modern = c.in_ok-last-in-Ok.ensures.stores in
+    let again = c.in_ok-last-in-Ok.ensures.modernizes in
     let header = c.in-Ok.header in
     record {
       keeps = λ h. again.keeps (last.keeps (found.keeps (sync.keeps h)));
@@ -122,11 +121,12 @@ returns-in_ok-last-in-Ok-clause-restores g c =
           let force = subst (λ (l : Trace). in_force (reads l) ≡ Some header) now u.force in
           let given : c.next_header-next.result.format ≡ One → table ≡ c.args.tools.now = λ one.
           over header force (sym (ap (λ (x : Header). x.format) c.next_header-next.ensures) ∙ one) in
+          let made = again.holds (last.keeps at) table given in
           exit_restored table header c.found.new.stored c.close.new.self _ _ now u c.close.ensures.value more _
           c.next_header-next.result _ _
           (next_is header c.next_header-next.result c.found.new.stored c.close.new.self _ u
           c.close.ensures.value c.next_header-next.ensures) (stores.holds at)
           (last.holds at c.close.new.self.room) c.in_ok-last-in-Ok.last c.modernize.new.stored
-          (modern.holds (last.keeps at) table given) (again.holds (last.keeps at) table given)
-          c.in_ok-last-in-Ok.ensures.header (c.in_ok-last-in-Ok.ensures.saved table given);
+          made.writes made.stops
+          c.in_ok-last-in-Ok.ensures.header.0 (c.in_ok-last-in-Ok.ensures.saved table given);
     }

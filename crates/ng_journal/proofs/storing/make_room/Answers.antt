@@ -1,6 +1,6 @@
 use Rattle.std.proofs.Common.{refl, ap, inl, ◌∙◌}
 use Rattle.std.proofs.lemmas.Result.{err_from_is_err_and}
-use Rattle.ng_rig.proofs.GuaranteeLemmas.{promised, meaning}
+use Rattle.ng_rig.proofs.GuaranteeLemmas.{promised}
 use Rattle.ng_layout.specs.declared.header.Header.{Header}
 use Rattle.ng_journal.specs.Private.Records.{ledger}
 use Rattle.ng_journal.proofs.RecordStoreLemmas.{own, fits_next, room_there, room_failed, room_made, nothing_written}
@@ -8,13 +8,12 @@ use Rattle.ng_journal.proofs.RecordStoreLemmas.{room_not_written, all_room_writt
 use Rattle.ng_journal.proofs.storing.make_room.Goals as goal
 
 pub returns-then-not-is_full_for-clause-makes : goal.returns-then-not-is_full_for-clause-makes
-returns-then-not-is_full_for-clause-makes g c = promised (λ before at is. room_there c.args.tip before _ at)
-
-pub returns-then-not-is_full_for-clause-stores : goal.returns-then-not-is_full_for-clause-stores
-returns-then-not-is_full_for-clause-stores g c =
-    promised (nothing_written c.args.tip (ledger c.args.tip c.args.stored.now) c.args.count _
-    (has_room_yet c.is_full_for.result c.args.tip.header c.args.tip.end c.args.count c.is_full_for.ensures
-    c.if-not-is_full_for.true))
+returns-then-not-is_full_for-clause-makes g c = promised (record {
+  stops = λ before at is. room_there c.args.tip before _ at;
+  writes = nothing_written c.args.tip (ledger c.args.tip c.args.stored.now) c.args.count _
+      (has_room_yet c.is_full_for.result c.args.tip.header c.args.tip.end c.args.count c.is_full_for.ensures
+      c.if-not-is_full_for.true);
+})
 
 pub returns-then-not-is_full_for-clause-room : goal.returns-then-not-is_full_for-clause-room
 returns-then-not-is_full_for-clause-room g c =
@@ -28,37 +27,41 @@ pub returns-in_err-checkpoint-clause-makes : goal.returns-in_err-checkpoint-clau
 returns-in_err-checkpoint-clause-makes g c =
     let p = err_from_is_err_and c.from_residual.result c.from_residual.ensures.1 in
     let is = c.next_header-next.ensures in
-    rw p.1 (meaning c.checkpoint.ensures.stops (λ f before at same.
-    room_failed _ _ c.args.tip.header c.next_header-next.result before c.args.tip.end c.args.stored.now at same
-    (ap (λ (h : Header). h.area) is) (ap (λ (h : Header). h.format) is ∙ c.requires.tip.format) p.0
-    c.checkpoint.result (f c.args.stored.now.room c.args.tip.header (own at) (ap (λ (h : Header). h.epoch) is)
-    (inl (ap (λ (h : Header). h.format) is))
-    (fits_next c.next_header-next.result c.args.stored.now at same is
-    (c.requires.epoch (c.is_full_for.ensures.0 c.if-not-is_full_for.false))))))
-
-pub returns-in_err-checkpoint-clause-stores : goal.returns-in_err-checkpoint-clause-stores
-returns-in_err-checkpoint-clause-stores g c =
-    let p = err_from_is_err_and c.from_residual.result c.from_residual.ensures.1 in
-    rw p.1 (meaning c.checkpoint.ensures.stores (λ s.
-    room_not_written p.0 c.checkpoint.result (ledger c.args.tip c.args.stored.now) c.args.count
-    c.next_header-next.result _ _ (c.is_full_for.ensures.0 c.if-not-is_full_for.false)
-    c.next_header-next.ensures s))
+    let full = c.is_full_for.ensures.0 c.if-not-is_full_for.false in
+    let stops = c.checkpoint.ensures.stops in
+    let stores = c.checkpoint.ensures.stores in
+    rw p.1 (record {
+      keeps = stops.keeps;
+      back = stops.back;
+      holds = λ h. record {
+        stops = λ before at same. room_failed _ _ c.args.tip.header c.next_header-next.result before c.args.tip.end
+            c.args.stored.now at same (ap (λ (x : Header). x.area) is)
+            (ap (λ (x : Header). x.format) is ∙ c.requires.tip.format) p.0 c.checkpoint.result
+            (stops.holds h c.args.stored.now.room c.args.tip.header (own at) (ap (λ (x : Header). x.epoch) is)
+            (inl (ap (λ (x : Header). x.format) is))
+            (fits_next c.next_header-next.result c.args.stored.now at same is (c.requires.epoch full)));
+        writes = room_not_written p.0 c.checkpoint.result (ledger c.args.tip c.args.stored.now) c.args.count
+            c.next_header-next.result _ _ full is (stores.holds h);
+      };
+    })
 
 pub returns-clause-makes : goal.returns-clause-makes
 returns-clause-makes g c =
     let is = c.next_header-next.ensures in
-    meaning c.in_ok-checkpoint.ensures.stops (λ f before at same.
-    room_made _ _ c.args.tip.header c.next_header-next.result before c.args.tip.end c.args.stored.now at same
-    (ap (λ (h : Header). h.area) is) (ap (λ (h : Header). h.format) is ∙ c.requires.tip.format) _
-    c.beginning.result c.beginning.ensures
-    (f c.args.stored.now.room c.args.tip.header (own at) (ap (λ (h : Header). h.epoch) is)
-    (inl (ap (λ (h : Header). h.format) is))
-    (fits_next c.next_header-next.result c.args.stored.now at same is
-    (c.requires.epoch (c.is_full_for.ensures.0 c.if-not-is_full_for.false)))))
-
-pub returns-clause-stores : goal.returns-clause-stores
-returns-clause-stores g c =
-    meaning c.in_ok-checkpoint.ensures.stores (λ s.
-    all_room_written c.beginning.result _ (ledger c.args.tip c.args.stored.now) c.args.count
-    c.next_header-next.result _ _ (c.is_full_for.ensures.0 c.if-not-is_full_for.false)
-    c.next_header-next.ensures s)
+    let full = c.is_full_for.ensures.0 c.if-not-is_full_for.false in
+    let stops = c.in_ok-checkpoint.ensures.stops in
+    let stores = c.in_ok-checkpoint.ensures.stores in
+    record {
+      keeps = stops.keeps;
+      back = stops.back;
+      holds = λ h. record {
+        stops = λ before at same. room_made _ _ c.args.tip.header c.next_header-next.result before c.args.tip.end
+            c.args.stored.now at same (ap (λ (x : Header). x.area) is)
+            (ap (λ (x : Header). x.format) is ∙ c.requires.tip.format) _ c.beginning.result c.beginning.ensures
+            (stops.holds h c.args.stored.now.room c.args.tip.header (own at) (ap (λ (x : Header). x.epoch) is)
+            (inl (ap (λ (x : Header). x.format) is))
+            (fits_next c.next_header-next.result c.args.stored.now at same is (c.requires.epoch full)));
+        writes = all_room_written c.beginning.result _ (ledger c.args.tip c.args.stored.now) c.args.count
+            c.next_header-next.result _ _ full is (stores.holds h);
+      };
+    }

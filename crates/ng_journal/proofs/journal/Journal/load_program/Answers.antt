@@ -1,5 +1,4 @@
-use Rattle.std.proofs.Common.{◌≡◌, ◌⊎◌, ◌<◌, ◌≤◌, ◌↔◌, ℕ, true, length, refl, sym, ap, subst, ◌∙◌, arith}
-use Rattle.ng_rig.proofs.GuaranteeLemmas.{meaning}
+use Rattle.std.proofs.Common.{◌≡◌, ◌⊎◌, ◌<◌, ◌≤◌, ◌↔◌, ℕ, true, length, refl, sym, ap, subst, ◌∙◌, arith, rules}
 use Rattle.ng_layout.specs.Limits.{greatest_count}
 use Rattle.ng_layout.specs.Areas.{greatest_area, is_large_size, spare_area}
 use Rattle.ng_layout.specs.Header.{longest_in, program_room}
@@ -18,11 +17,14 @@ use Rattle.ng_journal.proofs.RecordStoreLemmas.{own}
 use Rattle.ng_journal.proofs.SteadyJournalLemmas.{fits_load, more_epochs, steady_loaded, storable_kept}
 use Rattle.ng_journal.proofs.journal.Journal.load_program.Goals as goal
 
-pub returns-in-Ok-clause-stops : goal.returns-in-Ok-clause-stops
-returns-in-Ok-clause-stops g c =
+pub returns-in-Ok-clause-stores : goal.returns-in-Ok-clause-stores
+returns-in-Ok-clause-stores g c =
     let inside = c.self.inside in
     let header = inside.tip.header in
     let area = c.spare_area-area.result in
+    let area_is : area ≡ spare_area (is_large_size (g.R.Rig.seen inside.rig).sectors) header.area =
+    c.spare_area-area.ensures.is ∙ ap (λ (n : ℕ). spare_area (is_large_size n) header.area)
+    c.size.ensures.value in
     let kept = with_room inside.stored.room c.args.stored.now in
     let after : DurableState = record { saved = kept; program = c.args.text.now } in
     let next_is = c.next_header-next.ensures ∙ (λ i. next_header header area (c.stored.view_is i).length) in
@@ -34,43 +36,25 @@ returns-in-Ok-clause-stops g c =
     let room_is = ap (λ s. s.stored.room) c.self-inside.view_is in
     let short : c.args.stored.now.length ≤ inside.stored.room = omega (arith, c.requires.long, c.if-text-self.false, room_is) in
     let longest = subst (λ (n : ℕ). longest_in area ≡ program_room (is_large_size n)) c.size.ensures.value c.spare_area-area.ensures.room in
-    rw (← c.self.view_is) (meaning c.in-Ok.ensures.stops (λ f. λ before rest.
-    let fits = fits_load _ area inside.stored kept rest.at rest.saved_is c.self.invariant more.0 has longest short refl in
-    loaded _ _ _ area header c.next_header-next.result inside.tip.end before after _ _
-    c.beginning-self-inside.ensures next_is c.take_state.ensures rest.at
-    (f inside.stored.room (own rest.at) fits)))
-
-pub returns-in-Err-clause-stops : goal.returns-in-Err-clause-stops
-returns-in-Err-clause-stops g c =
-    let inside = c.self.inside in
-    let header = inside.tip.header in
-    let area = c.spare_area-area.result in
-    let kept = with_room inside.stored.room c.args.stored.now in
-    let after : DurableState = record { saved = kept; program = c.args.text.now } in
-    let used = subst (λ (v : JournalModel g.row.R.Denot).
-    (c.is_used_up.result ≡ true) ↔ ((greatest_count < c.stored.inside.entries)
-    ⊎ (greatest_count ≤ v.header.epoch))) (sym c.self.view_is) c.is_used_up.ensures in
-    let more = more_epochs c.is_used_up.result c.stored.inside.entries header used c.if-is_used_up.false in
-    let has = subst (λ (n : ℕ). area ≤ greatest_area (is_large_size n)) c.size.ensures.value c.spare_area-area.ensures.most in
-    let room_is = ap (λ s. s.stored.room) c.self-inside.view_is in
-    let short : c.args.stored.now.length ≤ inside.stored.room = omega (arith, c.requires.long, c.if-text-self.false, room_is) in
-    let longest = subst (λ (n : ℕ). longest_in area ≡ program_room (is_large_size n)) c.size.ensures.value c.spare_area-area.ensures.room in
-    rw (← c.self.view_is) (meaning c.load.ensures.stops (λ f. λ before rest.
-    let fits = fits_load _ area inside.stored kept rest.at rest.saved_is c.self.invariant more.0 has longest short refl in
-    not_loaded _ c.load.result _ area header inside.tip.end before after _ _ rest.at (f inside.stored.room (own rest.at) fits)))
-
-pub returns-in-Ok-clause-stores : goal.returns-in-Ok-clause-stores
-returns-in-Ok-clause-stores g c =
-    let inside = c.self.inside in
-    let header = inside.tip.header in
-    let area = c.spare_area-area.result in
-    let area_is : area ≡ spare_area (is_large_size (g.R.Rig.seen inside.rig).sectors) header.area =
-    c.spare_area-area.ensures.is ∙ ap (λ (n : ℕ). spare_area (is_large_size n) header.area)
-    c.size.ensures.value in
-    rw (← c.self.view_is)
-    (meaning c.in-Ok.ensures.stores
-    (λ s. loaded_as area _ header _ _ _ area_is
-    (load_kept inside.stored.room _ area header c.args.stored.now c.args.text.now _ _ s)))
+    let fitting : length c.args.text.now ≤ longest_in area = omega (arith, c.if-text-self.false, room_is, c.self.invariant.limit, longest) in
+    let stops = c.in-Ok.ensures.stops in
+    let stores = c.in-Ok.ensures.stores in
+    rw (← c.self.view_is) (record {
+      keeps = stops.keeps;
+      back = stops.back;
+      holds = λ h. record {
+        stops = λ standing rest.
+            let fits = fits_load _ area inside.stored kept rest.at rest.saved_is c.self.invariant more.0 has longest short refl in
+            loaded _ _ _ area header c.next_header-next.result inside.tip.end standing after _ _
+            c.beginning-self-inside.ensures next_is c.take_state.ensures rest.at
+            (stops.holds h inside.stored.room (own rest.at) fits);
+        writes = loaded_as area _ header _ _ _ area_is
+            (load_kept inside.stored.room _ area header c.args.stored.now c.args.text.now _ _ (stores.holds h));
+        holds = holds_load _ area header _ (record { saved = c.args.stored.now; program = c.args.text.now }) _ _
+            c.requires.long fitting (stores.holds h) (ap (λ (t : Tip). t.header) c.beginning-self-inside.ensures
+            ∙ next_is);
+      };
+    })
 
 pub returns-in-Err-clause-stores : goal.returns-in-Err-clause-stores
 returns-in-Err-clause-stores g c =
@@ -80,27 +64,34 @@ returns-in-Err-clause-stores g c =
     let area_is : area ≡ spare_area (is_large_size (g.R.Rig.seen inside.rig).sectors) header.area =
     c.spare_area-area.ensures.is ∙ ap (λ (n : ℕ). spare_area (is_large_size n) header.area)
     c.size.ensures.value in
-    rw (← c.self.view_is)
-    (meaning c.load.ensures.stores
-    (λ s. not_loaded_as area _ _ c.load.result header _ _ _ area_is
-    (load_kept inside.stored.room c.load.result area header c.args.stored.now c.args.text.now _ _ s)))
-
-pub returns-in-Ok-clause-holds : goal.returns-in-Ok-clause-holds
-returns-in-Ok-clause-holds g c =
-    let inside = c.self.inside in
-    let header = inside.tip.header in
-    let area = c.spare_area-area.result in
-    let next_is = c.next_header-next.ensures ∙ (λ i. next_header header area (c.stored.view_is i).length) in
+    let kept = with_room inside.stored.room c.args.stored.now in
+    let after : DurableState = record { saved = kept; program = c.args.text.now } in
+    let used = subst (λ (v : JournalModel g.row.R.Denot).
+    (c.is_used_up.result ≡ true) ↔ ((greatest_count < c.stored.inside.entries)
+    ⊎ (greatest_count ≤ v.header.epoch))) (sym c.self.view_is) c.is_used_up.ensures in
+    let more = more_epochs c.is_used_up.result c.stored.inside.entries header used c.if-is_used_up.false in
+    let has = subst (λ (n : ℕ). area ≤ greatest_area (is_large_size n)) c.size.ensures.value c.spare_area-area.ensures.most in
     let room_is = ap (λ s. s.stored.room) c.self-inside.view_is in
+    let short : c.args.stored.now.length ≤ inside.stored.room = omega (arith, c.requires.long, c.if-text-self.false, room_is) in
     let longest = subst (λ (n : ℕ). longest_in area ≡ program_room (is_large_size n)) c.size.ensures.value c.spare_area-area.ensures.room in
-    let short : length c.args.text.now ≤ longest_in area = omega (arith, c.if-text-self.false, room_is, c.self.invariant.limit, longest) in
-    rw (← c.self.view_is) (λ h.
-    holds_load _ area header _ (record { saved = c.args.stored.now; program = c.args.text.now }) _ _ c.requires.long
-    short (c.in-Ok.ensures.stores.holds h) (ap (λ (t : Tip). t.header) c.beginning-self-inside.ensures
-    ∙ next_is))
+    let stops = c.load.ensures.stops in
+    let stores = c.load.ensures.stores in
+    rw (← c.self.view_is) (record {
+      keeps = stops.keeps;
+      back = stops.back;
+      holds = λ h. record {
+        stops = λ standing rest.
+            let fits = fits_load _ area inside.stored kept rest.at rest.saved_is c.self.invariant more.0 has longest short refl in
+            not_loaded _ c.load.result _ area header inside.tip.end standing after _ _ rest.at
+            (stops.holds h inside.stored.room (own rest.at) fits);
+        writes = not_loaded_as area _ _ c.load.result header _ _ _ area_is
+            (load_kept inside.stored.room c.load.result area header c.args.stored.now c.args.text.now _ _ (stores.holds h));
+        holds = tt;
+      };
+    })
 
-pub returns-in-Ok-clause-ledger : goal.returns-in-Ok-clause-ledger
-returns-in-Ok-clause-ledger g c =
+pub returns-in-Ok-clause-keeps : goal.returns-in-Ok-clause-keeps
+returns-in-Ok-clause-keeps g c =
     let inside = c.self.inside in
     let header = inside.tip.header in
     let area = c.spare_area-area.result in
@@ -123,7 +114,7 @@ returns-in-Ok-clause-ledger g c =
       end = (c.beginning-self-inside.ensures i).end;
       saved = c.take_state.ensures i;
     } in
-    rw (← c.self.view_is) ledger_is
+    rw (← c.self.view_is) (record { saved_is = c.take_state.ensures; ledger = ledger_is; count = search rules })
 
 pub invariant_of-self : goal.invariant_of-self
 invariant_of-self g c =
