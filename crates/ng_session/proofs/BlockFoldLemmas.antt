@@ -17,8 +17,8 @@ use Rattle.ng_session.specs.Fold.{first_to_do, still_to_do, approach_in, approac
 use Rattle.ng_session.specs.Cuts.{number_after}
 use Rattle.ng_session.specs.declared.activity.Activity.{Activity}
 use Rattle.ng_session.specs.declared.stage.Approach.{Approach}
-use Rattle.ng_session.specs.Stages.{Stage}
-use Rattle.ng_session.specs.Stages as stage
+use Rattle.ng_session.specs.declared.stage.Stage.{Stage}
+use Rattle.ng_session.specs.declared.stage.Stage.TheVariants as stage
 
 -- before the block's first segment
 pub record IsFresh (p : DurableState) (given : List Item) (x : StoredModel) (c : CurrentBlockModel) (done : Done) : Type 0 where

@@ -32,11 +32,10 @@ use Rattle.ng_session.specs.Cuts.{UncommittedTail, Nothing_open, Approach_open, 
 use Rattle.ng_session.specs.declared.activity.Activity.{Activity}
 use Rattle.ng_session.specs.declared.activity.Activity.TheVariants as activity
 use Rattle.ng_session.specs.declared.reply.Reply.{Reply}
-use Rattle.ng_session.specs.declared.reply.Reply.TheVariants as reply
 use Rattle.ng_session.specs.declared.event.Event.{Event}
 use Rattle.ng_session.specs.declared.event.Event.TheVariants as event
-use Rattle.ng_session.specs.Stages.{Stage}
-use Rattle.ng_session.specs.Stages as stage
+use Rattle.ng_session.specs.declared.stage.Stage.{Stage}
+use Rattle.ng_session.specs.declared.stage.Stage.TheVariants as stage
 use Rattle.ng_session.proofs.BlockFoldLemmas.{IsFresh, IsMidst, IsWorked, Tied, way_is}
 use Rattle.ng_session.proofs.SessionFoldLemmas.{Next, Stays, Adds, Ties, next_step}
 

@@ -10,4 +10,6 @@ pub mod StorableStateLemmas
 pub mod RefusalLemmas
 pub mod OwnFaultLemmas
 pub mod OwnReplyLemmas
+pub mod KeptBlockLemmas
+pub mod NextEntryLemmas
 pub mod PlannedLineLemmas

@@ -1,9 +1,9 @@
 -- Lines planned one after another.
-use Rattle.std.proofs.Common.{◌≡◌, ◌⊎◌, inl, inr, ℕ, ◌-◌, ◌==◌, length, Bor, MatchOption, arith, Bool, true, false}
+use Rattle.std.proofs.Common.{◌≡◌, ◌≢◌, ◌⊎◌, inl, inr, ℕ, ◌-◌, ◌==◌, length, Bor, MatchOption, arith, Bool, true, false}
 use Rattle.std.proofs.Common.{not, ◌||◌, if◌then◌else◌, List, [], ◌∷◌, ◌++◌, Option, None, Some, Result, Ok, refl}
 use Rattle.std.proofs.Common.{sym, ◌∙◌, ap, subst}
-use Rattle.std.specs.Prelude.{IfSome, slice_get}
-use Rattle.std.specs.Option.{is_some, option_map, option_copied}
+use Rattle.std.specs.Prelude.{slice_get}
+use Rattle.std.specs.Option.{is_some, option_copied}
 use Rattle.ng_block.specs.Program.{executed_after, is_end}
 use Rattle.ng_canon.specs.declared.geometry.Geometry.{Geometry}
 use Rattle.ng_canon.specs.declared.segment.Segment.{Segment}
@@ -24,78 +24,65 @@ use Rattle.ng_session.specs.Entries.{terms_of, done_of}
 use Rattle.ng_session.specs.Session.{CurrentBlockModel, SessionModel, Transition, accepts_load, is_running, is_idle}
 use Rattle.ng_session.specs.Session.{step, answers, begin, begun, begin_by, IsQuiet, after_current_block, opened_on}
 use Rattle.ng_session.specs.Session.{next_opened, opened, handed, committed_on, committed}
-use Rattle.ng_session.specs.SessionInvariant.{Prepared, block_of, IsReady, IsReadyOn, IsSessionInvariant}
+use Rattle.ng_session.specs.KeptBlock.{block_on, IsReady}
+use Rattle.ng_session.proofs.KeptBlockLemmas.{block_storable}
 use Rattle.ng_session.specs.Planned.{PlannedModel, KnownModel, IsLineOf, AreLinesOf, Base, IsBegunAhead, base_on}
 use Rattle.ng_session.specs.Planned.{base_after, base_of, base_then, base_at_end, ends_at_end, drops_plan}
-use Rattle.ng_session.specs.Planned.{IsPlannedOn, IsPlan}
-use Rattle.ng_session.specs.Stages.{Stage}
-use Rattle.ng_session.specs.Stages as stage
+use Rattle.ng_session.specs.Planned.{IsPlannedOn, ArePlannedOn, IsPlan}
+use Rattle.ng_session.specs.declared.stage.Stage.{Stage}
+use Rattle.ng_session.specs.declared.stage.Stage.TheVariants as stage
 
 -- ---- one line more
 
-pub plan_more : (geometry : Geometry) (base : Base) (ps : List PlannedModel) (p : PlannedModel)
-    → IsPlan geometry base ps → IsPlannedOn geometry (base_at_end base ps) p → IsPlan geometry base (ps ++ p ∷ [])
+plan_more : (geometry : Geometry) (base : Base) (ps : List PlannedModel) (p : PlannedModel)
+    → ArePlannedOn geometry base ps → IsPlannedOn geometry (base_at_end base ps) p → ArePlannedOn geometry base (ps ++ p ∷ [])
 plan_more geometry base [] p plan on = (on, tt)
 plan_more geometry base (q ∷ ps) p plan on = (plan.0, plan_more geometry (base_then base q) ps p plan.1 on)
 
-pub lines_more : (program : List ℕ) (ps : List PlannedModel) (p : PlannedModel) → AreLinesOf program ps → IsLineOf program p → AreLinesOf program (ps ++ p ∷ [])
+lines_more : (program : List ℕ) (ps : List PlannedModel) (p : PlannedModel) → AreLinesOf program ps → IsLineOf program p → AreLinesOf program (ps ++ p ∷ [])
 lines_more program [] p lines line = (line, tt)
 lines_more program (q ∷ ps) p lines line = (lines.0, lines_more program ps p lines.1 line)
 
-pub end_more : (base : Base) (ps : List PlannedModel) (p : PlannedModel) → (base_at_end base (ps ++ p ∷ [])).stored ≡ p.prepared.after
+pub end_more : (base : Base) (ps : List PlannedModel) (p : PlannedModel) → base_at_end base (ps ++ p ∷ []) ≡ base_then (base_at_end base ps) p
 end_more base [] p = refl
 end_more base (q ∷ ps) p = end_more (base_then base q) ps p
 
-pub ends_more : (ends : Bool) (ps : List PlannedModel) (p : PlannedModel) → ends_at_end ends (ps ++ p ∷ []) ≡ is_end p.prepared.block.stop
+pub ends_more : (ends : Bool) (ps : List PlannedModel) (p : PlannedModel) → ends_at_end ends (ps ++ p ∷ []) ≡ is_end p.block.stop
 ends_more ends [] p = refl
-ends_more ends (q ∷ ps) p = ends_more (is_end q.prepared.block.stop) ps p
+ends_more ends (q ∷ ps) p = ends_more (is_end q.block.stop) ps p
 
 -- ---- what they are planned on
 
-pub end_delete : (base : Base) (ps : List PlannedModel) → (base_at_end base ps).block_delete ≡ base.block_delete
+end_delete : (base : Base) (ps : List PlannedModel) → (base_at_end base ps).block_delete ≡ base.block_delete
 end_delete base [] = refl
 end_delete base (p ∷ ps) = end_delete (base_then base p) ps
 
-pub end_storable : (geometry : Geometry) (base : Base) (ps : List PlannedModel) → IsPlan geometry base ps
+pub end_storable : (geometry : Geometry) (base : Base) (ps : List PlannedModel) → ArePlannedOn geometry base ps
     → IsStorable base.stored → IsStorable (base_at_end base ps).stored
-end_storable geometry base [] plan storable = storable
-end_storable geometry base (p ∷ ps) plan storable = end_storable geometry (base_then base p) ps plan.1 plan.0.ready.next.storable
+end_storable geometry base [] plan was = was
+end_storable geometry base (p ∷ ps) plan was =
+    end_storable geometry (base_then base p) ps plan.1 (block_storable base.stored p.block was plan.0.ready)
 
-pub end_length : (geometry : Geometry) (base : Base) (ps : List PlannedModel) → IsPlan geometry base ps
-    → (base_at_end base ps).stored.length ≡ base.stored.length
-end_length geometry base [] plan = refl
-end_length geometry base (p ∷ ps) plan = end_length geometry (base_then base p) ps plan.1 ∙ plan.0.ready.next.same
+pub end_length : (base : Base) (ps : List PlannedModel) → (base_at_end base ps).stored.length ≡ base.stored.length
+end_length base [] = refl
+end_length base (p ∷ ps) = end_length (base_then base p) ps
 
--- the lines are planned on the state that the current block keeps ready to be stored
-ready_base : (x : StoredModel) (p : Prepared) (g : Stage) → IsReadyOn x p g → p.after ≡ base_on x p.block g
-ready_base x p (stage.ToApproach a) r = r.after_is ∙ ap (λ (y : StoredModel). after_current_block y p.block) r.between_is
-ready_base x p (stage.OnApproach a) r = r.after_is ∙ ap (λ (y : StoredModel). after_current_block y p.block) r.between_is
-ready_base x p stage.OnBlock r = r.after_is
+base_on_length : (x : StoredModel) (c : CurrentBlockModel) (g : Stage) → (base_on x c g).length ≡ x.length
+base_on_length x c (stage.ToApproach a) = refl
+base_on_length x c (stage.OnApproach a) = refl
+base_on_length x c stage.OnBlock = refl
 
-pub held_base : (x : StoredModel) (o : Option Prepared) (p : Prepared) → o ≡ Some p
-    → IfSome o (λ p. IsReadyOn x p p.block.stage) → p.after ≡ base_after x (option_map block_of o)
-held_base x None p is ready = cc
-held_base x (Some q) p is ready = ready_base x p p.block.stage (let f : Option Prepared
-    → Type 0 = λ o. IfSome o (λ p. IsReadyOn x p p.block.stage) in subst f is ready)
-    ∙ sym (ap (λ (o : Option Prepared). base_after x (option_map block_of o)) is)
+pub base_length : (x : StoredModel) (o : Option CurrentBlockModel) → (base_after x o).length ≡ x.length
+base_length x None = refl
+base_length x (Some c) = base_on_length x c c.stage
 
-storable_on : (x : StoredModel) (p : Prepared) (g : Stage) → IsReadyOn x p g → IsStorable p.after
-storable_on x p (stage.ToApproach a) r = r.second.storable
-storable_on x p (stage.OnApproach a) r = r.second.storable
-storable_on x p stage.OnBlock r = r.next.storable
+base_on_place : (x : StoredModel) (c : CurrentBlockModel) (g : Stage) → (base_on x c g).place ≡ c.place
+base_on_place x c (stage.ToApproach a) = refl
+base_on_place x c (stage.OnApproach a) = refl
+base_on_place x c stage.OnBlock = refl
 
-length_on : (x : StoredModel) (p : Prepared) (g : Stage) → IsReadyOn x p g → p.after.length ≡ x.length
-length_on x p (stage.ToApproach a) r = r.second.same ∙ r.first.same
-length_on x p (stage.OnApproach a) r = r.second.same ∙ r.first.same
-length_on x p stage.OnBlock r = r.next.same
-
-pub base_storable : (x : StoredModel) (o : Option Prepared) → IsSessionInvariant x o → IsStorable (base_after x (option_map block_of o))
-base_storable x None kept = kept.storable
-base_storable x (Some p) kept = subst IsStorable (ready_base x p p.block.stage kept.next) (storable_on x p p.block.stage kept.next)
-
-pub base_length : (x : StoredModel) (o : Option Prepared) → IsSessionInvariant x o → (base_after x (option_map block_of o)).length ≡ x.length
-base_length x None kept = refl
-base_length x (Some p) kept = ap (λ (y : StoredModel). y.length) (sym (ready_base x p p.block.stage kept.next)) ∙ length_on x p p.block.stage kept.next
+pub base_place : (x : StoredModel) (c : CurrentBlockModel) → (base_after x (Some c)).place ≡ c.place
+base_place x c = base_on_place x c c.stage
 
 -- ---- the base after a Tick
 
@@ -179,19 +166,22 @@ steady_base geometry program s (event.BlockDelete on) quiet drops = absurd (let 
 steady_base geometry program s event.Status quiet drops = refl
 steady_base geometry program s event.Tick quiet drops = absurd quiet
 
-pub plan_as : (geometry : Geometry) (a b : Base) (ps : List PlannedModel) → b ≡ a → IsPlan geometry a ps → IsPlan geometry b ps
-plan_as geometry a b ps same plan = subst (λ (base : Base). IsPlan geometry base ps) (sym same) plan
+pub plan_as : (geometry : Geometry) (a b : Base) (ps : List PlannedModel) (x : StoredModel) → b ≡ a → IsPlan geometry a ps x → IsPlan geometry b ps x
+plan_as geometry a b ps x same plan = subst (λ (base : Base). IsPlan geometry base ps x) (sym same) plan
 
-pub plan_none : (geometry : Geometry) (base : Base) (ps : List PlannedModel) → ps ≡ [] → IsPlan geometry base ps
-plan_none geometry base ps none = subst (λ (l : List PlannedModel). IsPlan geometry base l) (sym none) tt
+pub plan_none : (geometry : Geometry) (base : Base) (ps : List PlannedModel) (x : StoredModel) → ps ≡ [] → IsPlan geometry base ps x
+plan_none geometry base ps x none = record {
+  lines = subst (λ (l : List PlannedModel). ArePlannedOn geometry base l) (sym none) tt;
+  next_is = λ some. absurd (some none);
+}
 
 -- a plan that the event doesn't drop stays a plan
 pub plan_answered : {A : Type 0} (geometry : Geometry) (program : List ℕ) (s t : SessionModel) (e : Event A)
-    (ps : List PlannedModel) → IsQuiet e → (drops_plan e ≡ true → ps ≡ [])
-    → t ≡ (step geometry program s e).next → IsPlan geometry (base_of s) ps → IsPlan geometry (base_of t) ps
-plan_answered {A} geometry program s t e ps quiet dropped next plan = elim (cases_of (drops_plan e)) [
-  | inl drops ↦ plan_none geometry (base_of t) ps (dropped drops)
-  | inr keeps ↦ plan_as geometry (base_of s) (base_of t) ps (ap base_of next ∙ steady_base geometry program s e quiet keeps) plan
+    (ps : List PlannedModel) (x : StoredModel) → IsQuiet e → (drops_plan e ≡ true → ps ≡ [])
+    → t ≡ (step geometry program s e).next → IsPlan geometry (base_of s) ps x → IsPlan geometry (base_of t) ps x
+plan_answered {A} geometry program s t e ps x quiet dropped next plan = elim (cases_of (drops_plan e)) [
+  | inl drops ↦ plan_none geometry (base_of t) ps x (dropped drops)
+  | inr keeps ↦ plan_as geometry (base_of s) (base_of t) ps x (ap base_of next ∙ steady_base geometry program s e quiet keeps) plan
 ]
   where
     cases_of : (b : Bool) → (b ≡ true) ⊎ (b ≡ false)
@@ -203,19 +193,19 @@ plan_answered {A} geometry program s t e ps quiet dropped next plan = elim (case
 pub planned_done : (geometry : Geometry) (program : List ℕ) (s : SessionModel) (p : PlannedModel)
     (on : IsPlannedOn geometry (record { stored = s.stored; block_delete = s.block_delete }) p)
     → p.first ≡ first_kind (lines_before program s.stored.place) → done_of geometry program s.stored source.Program
-    p.prepared.block.text s.block_delete ≡ Ok on.does
+    p.block.text s.block_delete ≡ Ok on.does
 unfolding done_of
 planned_done geometry program s p on kind =
     subst (λ (k : LineKind). executed_after (terms_of geometry s.stored.tools s.block_delete) k s.stored.setup
-    p.prepared.block.text ≡ Ok on.does) kind on.does_is
+    p.block.text ≡ Ok on.does) kind on.does_is
 
 pub planned_begins : (geometry : Geometry) (program : List ℕ) (s : SessionModel) (p : PlannedModel)
     → IsPlannedOn geometry (record { stored = s.stored; block_delete = s.block_delete }) p
     → p.first ≡ first_kind (lines_before program s.stored.place)
-    → answers program reply.Begun (record s { current = Some p.prepared.block }) ≡ begin geometry program s
-    (Some (record { text = p.prepared.block.text; next = p.next }))
+    → answers program reply.Begun (record s { current = Some (block_on s.stored.setup.params p.block) }) ≡ begin geometry program s
+    (Some (record { text = p.block.text; next = p.next }))
 planned_begins geometry program s p on kind =
-    let line : ProgramLineModel = record { text = p.prepared.block.text; next = p.next } in
+    let line : ProgramLineModel = record { text = p.block.text; next = p.next } in
     ap (λ (c : CurrentBlockModel). answers program reply.Begun (let t : SessionModel = record s { current = Some c } in t)) on.begun_is
     ∙ sym (ap (λ (does : Result Done Fault). begin_by program s line does) (planned_done geometry program s p on kind))
 
@@ -261,81 +251,108 @@ last_copied r xs is =
 
 pub planned_by : (geometry : Geometry) (base : Base) (p : PlannedModel) (text : List ℕ) (does : Done)
     → p.place ≡ base.stored.place → (base.stored.place ≡ 0 → p.first ≡ Blank)
-    → executed_after (terms_of geometry base.stored.tools base.block_delete) p.first base.stored.setup text ≡ Ok
-    does → p.prepared.block ≡ begun base.stored source.Program text base.block_delete p.next does
-    → IsReady base.stored p.prepared → IsPlannedOn geometry base p
+    → executed_after (terms_of geometry base.stored.tools base.block_delete) p.first base.stored.setup text ≡ Ok does
+    → block_on base.stored.setup.params p.block ≡ begun base.stored source.Program text base.block_delete p.next does
+    → IsReady base.stored p.block → IsPlannedOn geometry base p
 planned_by geometry base p text does place beginning does_is begun_is ready =
-    let read : text ≡ p.prepared.block.text = sym (ap (λ (c : CurrentBlockModel). c.text) begun_is) in
+    let read : text ≡ p.block.text = sym (ap (λ (c : CurrentBlockModel). c.text) begun_is) in
     record {
       place = place;
       beginning = λ none. beginning (sym place ∙ none);
       does = does;
       does_is = subst (λ (t : List ℕ). executed_after (terms_of geometry base.stored.tools base.block_delete)
           p.first base.stored.setup t ≡ Ok does) read does_is;
-      begun_is = subst (λ (t : List ℕ). p.prepared.block ≡ begun base.stored source.Program t base.block_delete p.next does) read begun_is;
+      begun_is = subst (λ (t : List ℕ). block_on base.stored.setup.params p.block
+          ≡ begun base.stored source.Program t base.block_delete p.next does) read begun_is;
       ready = ready;
     }
 
 -- the base at the end of the plan
-pub end_base : (base : Base) (ps : List PlannedModel) (x : StoredModel) → x ≡ (base_at_end base ps).stored
+end_base : (base : Base) (ps : List PlannedModel) (x : StoredModel) → x ≡ (base_at_end base ps).stored
     → base_at_end base ps ≡ record { stored = x; block_delete = base.block_delete }
 end_base base ps x is = λ i. record { stored = sym is i; block_delete = end_delete base ps i }
 
-pub plan_pushed : (geometry : Geometry) (base : Base) (ps qs : List PlannedModel) (p : PlannedModel)
-    (x : StoredModel) → x ≡ (base_at_end base ps).stored → IsPlan geometry base ps
-    → IsPlannedOn geometry (record { stored = x; block_delete = base.block_delete }) p → (qs ≡ ps ++ p ∷ []) ⊎ (qs ≡ ps) → IsPlan geometry base qs
-plan_pushed geometry base ps qs p x is plan on (inl more) =
-    subst (λ (l : List PlannedModel). IsPlan geometry base l) (sym more)
-    (plan_more geometry base ps p plan (subst (λ (b : Base). IsPlannedOn geometry b p) (sym (end_base base ps x is)) on))
-plan_pushed geometry base ps qs p x is plan on (inr same) = subst (λ (l : List PlannedModel). IsPlan geometry base l) (sym same) plan
+-- what the next line is planned on: what is kept while there are lines, and else what comes after the current block
+pub found_base : (geometry : Geometry) (base : Base) (old new : KnownModel) → new ≡ record old { base = new.base }
+    → IsPlan geometry base old.ahead old.base → (old.ahead ≡ [] → new.base ≡ base.stored) → (old.ahead ≢ [] → new.base ≡ old.base)
+    → IsPlan geometry base new.ahead new.base × (new.base ≡ (base_at_end base new.ahead).stored)
+found_base geometry base old new known plan first later =
+    let same : old.ahead ≡ new.ahead = sym (ap (λ (k : KnownModel). k.ahead) known) in
+    let there : new.base ≡ (base_at_end base old.ahead).stored = by old.ahead first later plan.next_is in
+    let here : new.base ≡ (base_at_end base new.ahead).stored = there ∙ ap (λ (l : List PlannedModel). (base_at_end base l).stored) same in
+    (record { lines = subst (λ (l : List PlannedModel). ArePlannedOn geometry base l) same plan.lines; next_is = λ some. here }, here)
+  where
+    by : (ps : List PlannedModel) → (ps ≡ [] → new.base ≡ base.stored) → (ps ≢ [] → new.base ≡ old.base)
+        → (ps ≢ [] → old.base ≡ (base_at_end base ps).stored) → new.base ≡ (base_at_end base ps).stored
+    by [] first later kept = first refl
+    by (p ∷ ps) first later kept =
+        let some : p ∷ ps ≢ [] = λ e. cc in
+        later some ∙ kept some
 
-pub lines_pushed : (program : List ℕ) (ps qs : List PlannedModel) (p : PlannedModel) (place : ℕ) (first : LineKind)
-    (text : List ℕ) (next : ℕ) → AreLinesOf program ps → IsLineBetween program place first text next
-    → p.place ≡ place → p.first ≡ first → p.prepared.block.text ≡ text → p.next ≡ next → (qs ≡ ps ++ p ∷ []) ⊎ (qs ≡ ps) → AreLinesOf program qs
-lines_pushed program ps qs p place first text next lines line a b c d (inl more) =
-    let one : IsLineOf program p = subst (λ (n : ℕ). IsLineBetween program n p.first p.prepared.block.text p.next) (sym a)
-    (subst (λ (k : LineKind). IsLineBetween program place k p.prepared.block.text p.next) (sym b)
+-- one more line, planned on that, or none
+abbrev pub IsOneMore : KnownModel → PlannedModel → KnownModel → Type 0
+IsOneMore k p l =
+    (l ≡ record k { ahead = k.ahead ++ p ∷ []; base = after_current_block k.base (block_on k.base.setup.params p.block) }) ⊎ (l ≡ k)
+
+pub plan_pushed : (geometry : Geometry) (base : Base) (k l : KnownModel) (p : PlannedModel)
+    → IsPlan geometry base k.ahead k.base → k.base ≡ (base_at_end base k.ahead).stored
+    → IsPlannedOn geometry (record { stored = k.base; block_delete = base.block_delete }) p → IsOneMore k p l → IsPlan geometry base l.ahead l.base
+plan_pushed geometry base k l p plan is on (inl more) =
+    let here : base_at_end base k.ahead ≡ record { stored = k.base; block_delete = base.block_delete } = end_base base k.ahead k.base is in
+    subst (λ (m : KnownModel). IsPlan geometry base m.ahead m.base) (sym more) (record {
+      lines = plan_more geometry base k.ahead p plan.lines (subst (λ (b : Base). IsPlannedOn geometry b p) (sym here) on);
+      next_is = λ some. sym (ap (λ (b : Base). b.stored) (end_more base k.ahead p ∙ ap (λ (b : Base). base_then b p) here));
+    })
+plan_pushed geometry base k l p plan is on (inr same) = subst (λ (m : KnownModel). IsPlan geometry base m.ahead m.base) (sym same) plan
+
+pub lines_pushed : (program : List ℕ) (k l : KnownModel) (p : PlannedModel) (place : ℕ) (first : LineKind)
+    (text : List ℕ) (next : ℕ) → AreLinesOf program k.ahead → IsLineBetween program place first text next
+    → p.place ≡ place → p.first ≡ first → p.block.text ≡ text → p.next ≡ next → IsOneMore k p l → AreLinesOf program l.ahead
+lines_pushed program k l p place first text next lines line a b c d (inl more) =
+    let one : IsLineOf program p = subst (λ (n : ℕ). IsLineBetween program n p.first p.block.text p.next) (sym a)
+    (subst (λ (k : LineKind). IsLineBetween program place k p.block.text p.next) (sym b)
     (subst (λ (t : List ℕ). IsLineBetween program place first t p.next) (sym c)
     (subst (λ (n : ℕ). IsLineBetween program place first text n) (sym d) line))) in
-    subst (λ (l : List PlannedModel). AreLinesOf program l) (sym more) (lines_more program ps p lines one)
-lines_pushed program ps qs p place first text next lines line a b c d (inr same) = subst (λ (l : List PlannedModel). AreLinesOf program l) (sym same) lines
+    subst (λ (m : KnownModel). AreLinesOf program m.ahead) (sym more) (lines_more program k.ahead p lines one)
+lines_pushed program k l p place first text next lines line a b c d (inr same) = subst (λ (m : KnownModel). AreLinesOf program m.ahead) (sym same) lines
 
 -- ---- the first planned line is begun
-
-pub plan_front : (geometry : Geometry) (base : Base) (ps qs : List PlannedModel) (p : PlannedModel) → ps ≡ p ∷ qs
-    → IsPlan geometry base ps → IsPlannedOn geometry base p × IsPlan geometry (base_then base p) qs
-plan_front geometry base ps qs p is plan = subst (λ (l : List PlannedModel). IsPlan geometry base l) is plan
 
 -- with no block, lines are planned on the stored state; the next line is planned on the state after the first
 free_base : (s : SessionModel) → s.current ≡ None → base_of s ≡ record { stored = s.stored; block_delete = s.block_delete }
 free_base s free = λ i. record { stored = base_after s.stored (free i); block_delete = s.block_delete }
 
-then_base : (s : SessionModel) (p : PlannedModel) → p.prepared.block.stage ≡ stage.OnBlock → IsReady s.stored p.prepared
-    → base_of (let t : SessionModel = record s { current = Some p.prepared.block } in t) ≡ base_then
+then_base : (s : SessionModel) (p : PlannedModel) → p.block.stage ≡ stage.OnBlock
+    → base_of (let t : SessionModel = record s { current = Some (block_on s.stored.setup.params p.block) } in t) ≡ base_then
     (record { stored = s.stored; block_delete = s.block_delete }) p
-then_base s p on ready = λ i.
-    record {
-      stored = (ap (λ (g : Stage). base_on s.stored p.prepared.block g) on ∙ sym ready.after_is) i;
-      block_delete = s.block_delete;
-    }
+then_base s p on = λ i. record { stored = base_on s.stored (block_on s.stored.setup.params p.block) (on i); block_delete = s.block_delete }
+
+-- what is left of a plan whose first line is begun
+plan_rest : (geometry : Geometry) (base : Base) (ps qs : List PlannedModel) (p : PlannedModel) (x : StoredModel) → ps ≡ p ∷ qs
+    → IsPlan geometry base ps x → IsPlannedOn geometry base p × IsPlan geometry (base_then base p) qs x
+plan_rest geometry base ps qs p x front plan =
+    let lines = subst (λ (l : List PlannedModel). ArePlannedOn geometry base l) front plan.lines in
+    let some : ps ≢ [] = λ none. let e : p ∷ qs ≡ [] = sym front ∙ none in cc in
+    (lines.0, record { lines = lines.1; next_is = λ rest. plan.next_is some ∙ ap (λ (l : List PlannedModel). (base_at_end base l).stored) front })
 
 pub begun_ahead : (geometry : Geometry) (s t : SessionModel) (known_old known_new : KnownModel) (p : PlannedModel)
-    → s.current ≡ None → t ≡ (let u : SessionModel = record s { current = Some p.prepared.block } in u)
-    → known_old.ahead ≡ p ∷ known_new.ahead → known_new.before ≡ known_old.before
-    → IsPlan geometry (base_of s) known_old.ahead → IsBegunAhead geometry reply.Begun s t known_old known_new
-begun_ahead geometry s t known_old known_new p free next front before plan =
+    → s.current ≡ None → t ≡ (let u : SessionModel = record s { current = Some (block_on s.stored.setup.params p.block) } in u)
+    → known_old.ahead ≡ p ∷ known_new.ahead → known_new ≡ record known_old { ahead = known_new.ahead }
+    → IsPlan geometry (base_of s) known_old.ahead known_old.base → IsBegunAhead geometry reply.Begun s t known_old known_new
+begun_ahead geometry s t known_old known_new p free next front known plan =
     let here : Base = record { stored = s.stored; block_delete = s.block_delete } in
-    let split = plan_front geometry here known_old.ahead known_new.ahead p front
-    (subst (λ (b : Base). IsPlan geometry b known_old.ahead) (free_base s free) plan) in
+    let split = plan_rest geometry here known_old.ahead known_new.ahead p known_old.base front
+    (plan_as geometry (base_of s) here known_old.ahead known_old.base (sym (free_base s free)) plan) in
     let on : IsPlannedOn geometry here p = split.0 in
-    let stage_is : p.prepared.block.stage ≡ stage.OnBlock = ap (λ (c : CurrentBlockModel). c.stage) on.begun_is in
+    let stage_is : p.block.stage ≡ stage.OnBlock = ap (λ (c : CurrentBlockModel). c.stage) on.begun_is in
     record {
       planned = p;
       front = front;
-      before = before;
+      before = ap (λ (k : KnownModel). k.before) known;
       place = on.place;
       beginning = on.beginning;
       told_is = λ program kind. ap (λ (o : Transition). o.reply) (planned_begins geometry program s p on kind);
       next = λ program kind. next ∙ ap (λ (o : Transition). o.next) (planned_begins geometry program s p on kind);
-      plan = subst (λ (b : Base). IsPlan geometry b known_new.ahead) (sym (ap base_of next ∙ then_base s p stage_is on.ready)) split.1;
+      plan = subst (λ (x : StoredModel). IsPlan geometry (base_of t) known_new.ahead x) (sym (ap (λ (k : KnownModel). k.base) known))
+          (plan_as geometry (base_then here p) (base_of t) known_new.ahead known_old.base (ap base_of next ∙ then_base s p stage_is) split.1);
     }

@@ -38,8 +38,8 @@ use Rattle.ng_session.specs.declared.reply.Reply.{Reply}
 use Rattle.ng_session.specs.declared.reply.Reply.TheVariants as reply
 use Rattle.ng_session.specs.declared.event.Event.{Event}
 use Rattle.ng_session.specs.declared.event.Event.TheVariants as event
-use Rattle.ng_session.specs.Stages.{Stage}
-use Rattle.ng_session.specs.Stages as stage
+use Rattle.ng_session.specs.declared.stage.Stage.{Stage}
+use Rattle.ng_session.specs.declared.stage.Stage.TheVariants as stage
 use Rattle.ng_session.proofs.BlockFoldLemmas.{IsOnBlock, IsWorked, Tied, worked_item, worked_segment, worked_way}
 use Rattle.ng_session.proofs.BlockFoldLemmas.{worked_block, way_is, way_done, all_given, after_is_it}
 use Rattle.ng_text.proofs.PlaceLemmas.{line_next}

@@ -1,126 +1,71 @@
 -- The invariant of a session is kept, with a block and without one.
-use Rattle.std.proofs.Common.{◌≡◌, ◌≢◌, ◌≤◌, ◌<◌, ◌+◌, ℕ, ℤ, Bool, true, not, ◌&&◌, List, [], ◌∷◌, Option, None, Some, refl, sym, ◌∙◌, ap, subst, arith}
+use Rattle.std.proofs.Common.{◌≡◌, ◌≢◌, refl, ◌<◌, ℕ, Bool, true, not, ◌&&◌, List, Option, None, Some, sym, subst, arith}
 use Rattle.std.specs.Option.{is_none, option_map}
-use Rattle.ng_layout.specs.Stored.{HalfModel, StoredModel}
-use Rattle.ng_canon.specs.declared.geometry.Geometry.{Geometry}
+use Rattle.ng_canon.specs.declared.item.Item.{Item}
 use Rattle.ng_canon.specs.declared.segment.Segment.{Segment}
-use Rattle.ng_offsets.specs.Tools.{AreTools}
-use Rattle.ng_layout.specs.Storable.{IsStorableHalf, IsStorable}
-use Rattle.ng_session.specs.Session.{SessionModel, after_current_block, committed_on, opened_on, next_opened}
-use Rattle.ng_session.specs.SessionInvariant.{Prepared, block_of, IsNextEntry, IsReady, IsBeforeBlock, IsReadyOn, IsSessionInvariant}
-use Rattle.ng_session.proofs.StorableStateLemmas.{half_storable, tool_storable}
-use Rattle.ng_session.specs.declared.stage.Approach.{Approach}
-use Rattle.ng_session.specs.Stages.{Stage}
-use Rattle.ng_session.specs.Stages as stage
+use Rattle.ng_num.specs.declared.point.Point.{Point}
+use Rattle.ng_layout.specs.Storable.{IsStorableHalf}
+use Rattle.ng_layout.specs.Stored.{HalfModel, StoredModel}
+use Rattle.ng_layout.specs.Update.{UpdateModel, updated}
+use Rattle.ng_session.specs.KeptBlock.{KeptBlock, block_on, IsReady}
+use Rattle.ng_session.specs.Session.{CurrentBlockModel, SessionModel, after_current_approach, committed_on}
+use Rattle.ng_session.specs.SessionInvariant.{IsNextEntry, IsSessionInvariant}
+use Rattle.ng_session.specs.declared.stage.Stage.{Stage}
+use Rattle.ng_session.specs.declared.stage.Stage.TheVariants as stage
+use Rattle.ng_session.proofs.StorableStateLemmas.{half_storable}
 
-pub kept_free : (x : StoredModel) (o : Option Prepared) (runs held half : Bool)
-    → is_none (option_map block_of o) && not runs && not held && half ≡ true → IsSessionInvariant x None
-    → IsSessionInvariant x o
-kept_free x None runs held half free kept = kept
-kept_free x (Some c) runs held half free kept = cc
-
-ready_on : (x : StoredModel) (p : Prepared) (g : Stage) → g ≡ stage.OnBlock → IsReady x p → IsReadyOn x p g
-ready_on x p g is r = subst (IsReadyOn x p) (sym is) r
+pub kept_free : (f : KeptBlock → CurrentBlockModel) (x : StoredModel) (o : Option KeptBlock) (runs held half : Bool)
+    → is_none (option_map f o) && not runs && not held && half ≡ true → IsSessionInvariant x None → IsSessionInvariant x o
+kept_free f x None runs held half free kept = kept
+kept_free f x (Some b) runs held half free kept = cc
 
 -- a block was begun
-pub kept_ready : (x : StoredModel) (o : Option Prepared) (p : Prepared) → IsSessionInvariant x o
-    → p.block.stage ≡ stage.OnBlock → IsReady x p → IsSessionInvariant x (Some p)
-kept_ready x o p k is r = record { count = k.count; storable = k.storable; next = ready_on x p p.block.stage is r }
-
--- a block was begun, with its approach
-pub kept_again : (x : StoredModel) (o : Option Prepared) (p : Prepared) (a : Approach) → IsSessionInvariant x o
-    → p.block.stage ≡ stage.ToApproach a → IsBeforeBlock x p a → IsSessionInvariant x (Some p)
-kept_again x o p a k is r = record { count = k.count; storable = k.storable; next = subst (IsReadyOn x p) (sym is) r }
+pub kept_ready : (x : StoredModel) (o : Option KeptBlock) (b : KeptBlock) → IsSessionInvariant x o → IsReady x b → IsSessionInvariant x (Some b)
+kept_ready x o b kept ready = record { count = kept.count; storable = kept.storable; ready = ready }
 
 -- the approach or a segment of the block is opened
-opened_ready : (geometry : Geometry) (x : StoredModel) (half : HalfModel) (p : Prepared) (g : Stage) → p.block.stage ≡ g → IsReadyOn x p g
-    → IsReadyOn (record x { half = Some half }) (record p { block = opened_on geometry p.block g }) (opened_on geometry p.block g).stage
-opened_ready geometry x half p (stage.ToApproach a) is r = record {
-  between = r.between;
-  held = r.held;
-  between_is = r.between_is;
-  first = record { count = r.first.count; same = r.first.same; tools = r.first.tools; room = r.first.room; storable = r.first.storable };
-  second = r.second;
-  after_is = r.after_is;
-}
-opened_ready geometry x half p (stage.OnApproach a) is r = subst (IsReadyOn (record x { half = Some half }) p) (sym is) (record {
-  between = r.between;
-  held = r.held;
-  between_is = r.between_is;
-  first = record { count = r.first.count; same = r.first.same; tools = r.first.tools; room = r.first.room; storable = r.first.storable };
-  second = r.second;
-  after_is = r.after_is;
-})
-opened_ready geometry x half p stage.OnBlock is r = by p.block.left
-  where
-    by : (left : List Segment)
-        → IsReadyOn (record x { half = Some half }) (record p { block = next_opened geometry p.block left })
-        (next_opened geometry p.block left).stage
-    by [] = subst (IsReadyOn (record x { half = Some half }) p) (sym is)
-        (record {
-          next = record {
-            count = r.next.count;
-            same = r.next.same;
-            tools = r.next.tools;
-            room =
-                r.next.room;
-            storable = r.next.storable;
-          };
-          after_is = r.after_is;
-        })
-    by (segment ∷ left) =
-        subst (IsReadyOn (record x { half = Some half })
-        (record p { block = next_opened geometry p.block (segment ∷ left) })) (sym is)
-        (record {
-          next = record {
-            count = r.next.count;
-            same = r.next.same;
-            tools = r.next.tools;
-            room =
-                r.next.room;
-            storable = r.next.storable;
-          };
-          after_is = r.after_is;
-        })
-
-pub kept_open : (geometry : Geometry) (x : StoredModel) (half : HalfModel) (p r : Prepared)
-    → IsSessionInvariant x (Some p) → IsStorableHalf half
-    → r ≡ record p { block = opened_on geometry p.block p.block.stage }
-    → IsSessionInvariant (record x { half = Some half }) (Some r)
-kept_open geometry x half p r k waits is = record {
-  count = k.count;
-  storable = half_storable x half k.storable waits;
-  next = subst (λ (z : Prepared). IsReadyOn (record x { half = Some half }) z z.block.stage) (sym is)
-      (opened_ready geometry x half p p.block.stage refl k.next);
+pub kept_open : (x : StoredModel) (half : HalfModel) (b c : KeptBlock) (g : Stage) (index : ℕ) (left : List Segment) (items : List Item)
+    → IsSessionInvariant x (Some b) → IsStorableHalf half
+    → c ≡ record b { stage = g; index = index; left = left; items = items }
+    → IsSessionInvariant (record x { half = Some half }) (Some c)
+kept_open x half b c g index left items kept waits is = record {
+  count = kept.count;
+  storable = half_storable x half kept.storable waits;
+  ready = subst (λ (z : KeptBlock). IsReady (record x { half = Some half }) z) (sym is)
+      (record { settled = kept.ready.settled; modal = kept.ready.modal; place = kept.ready.place; text = kept.ready.text });
 }
 
--- a session with no block stores another state
-pub kept_report : (x y : StoredModel) (o : Option Prepared) → option_map block_of o ≡ None
-    → y.entries ≤ 1_000_000_000_000 → IsStorable y → IsSessionInvariant y o
-kept_report x y None none count storable = record { count = count; storable = storable; next = tt }
-kept_report x y (Some p) none count storable = cc
+-- an update is taken, and no block is left
+pub kept_alone : (x y : StoredModel) (u : UpdateModel) → x.entries < 1_000_000_000_000 → IsNextEntry x u → y ≡ updated x u → IsSessionInvariant y None
+kept_alone x y u count next is =
+    let P : StoredModel → Type 0 = λ z. IsSessionInvariant z None in
+    subst P (sym is) (record { count = omega (arith, count, next.count); storable = next.storable; ready = tt })
 
--- a session with no block gets another table and another number of entries
-pub kept_tools : (x : StoredModel) (o : Option Prepared) (tools : List ℤ) (entries : ℕ)
-    → option_map block_of o ≡ None → entries ≤ 1_000_000_000_000 → AreTools tools → IsSessionInvariant x o
-    → IsSessionInvariant (record x { entries = entries; tools = tools }) o
-kept_tools x None tools entries none count few kept = record { count = count; storable = tool_storable x tools entries kept.storable few; next = tt }
-kept_tools x (Some p) tools entries none count few kept = cc
+pub kept_update : (f : KeptBlock → CurrentBlockModel) (x y : StoredModel) (o : Option KeptBlock) (u : UpdateModel)
+    → option_map f o ≡ None → x.entries < 1_000_000_000_000 → IsNextEntry x u → y ≡ updated x u → IsSessionInvariant y o
+kept_update f x y None u free count next is = kept_alone x y u count next is
+kept_update f x y (Some b) u free count next is = cc
 
 -- the approach is committed, and its block goes on
-pub kept_between : (x between : StoredModel) (p : Prepared) → x.entries < 1_000_000_000_000 → IsNextEntry x between
-    → p.block.stage ≡ stage.OnBlock → IsReady between p → IsSessionInvariant between (Some p)
-kept_between x between p count next on ready = record {
-  count = omega (arith, count, next.count);
-  storable = next.storable;
-  next = ready_on between p p.block.stage on ready;
-}
+pub kept_approach : (s : SessionModel) (y : StoredModel) (b : KeptBlock) (u : UpdateModel) (g : Stage)
+    → s.stored.entries < 1_000_000_000_000 → IsNextEntry s.stored u → y ≡ updated s.stored u
+    → updated s.stored u ≡ (committed_on s (block_on s.stored.setup.params b) g).stored → g ≢ stage.OnBlock
+    → IsReady s.stored b → IsSessionInvariant y (Some (record b { stage = stage.OnBlock }))
+kept_approach s y b u g count next is made off ready = by g made off
+  where
+    there : (point : Point) → updated s.stored u ≡ after_current_approach s.stored (block_on s.stored.setup.params b) point
+        → IsSessionInvariant y (Some (record b { stage = stage.OnBlock }))
+    there point way =
+        let P : StoredModel → Type 0 = λ z. IsSessionInvariant z (Some (record b { stage = stage.OnBlock })) in
+        let Q : StoredModel → Type 0 = λ z. IsReady z (record b { stage = stage.OnBlock }) in
+        subst P (sym is) (record {
+          count = omega (arith, count, next.count);
+          storable = next.storable;
+          ready = subst Q (sym way) (record { settled = ready.settled; modal = ready.modal; place = ready.place; text = ready.text });
+        })
 
--- what is stored next
-pub next_is : (s : SessionModel) (p : Prepared) (g : Stage) (y : StoredModel) → g ≡ p.block.stage
-    → IsReadyOn s.stored p g → (g ≡ stage.OnBlock → y ≡ p.after)
-    → ((between : StoredModel) → p.approached ≡ Some between → g ≢ stage.OnBlock → y ≡ between)
-    → y ≡ (committed_on s p.block g).stored
-next_is s p (stage.ToApproach a) y is r on way = way r.between r.held (λ (e : stage.ToApproach a ≡ stage.OnBlock). cc) ∙ r.between_is
-next_is s p (stage.OnApproach a) y is r on way = way r.between r.held (λ (e : stage.OnApproach a ≡ stage.OnBlock). cc) ∙ r.between_is
-next_is s p stage.OnBlock y is r on way = on refl ∙ r.after_is
+    by : (g : Stage) → updated s.stored u ≡ (committed_on s (block_on s.stored.setup.params b) g).stored → g ≢ stage.OnBlock
+        → IsSessionInvariant y (Some (record b { stage = stage.OnBlock }))
+    by (stage.ToApproach a) made off = there a.to.point made
+    by (stage.OnApproach a) made off = there a.to.point made
+    by stage.OnBlock made off = absurd (off refl)

@@ -157,7 +157,7 @@ actions-carry b m mode slots o shown few is fits =
     (any action.ToolLength shown.tool_length _ (λ x. tt)
     (any action.OriginOffsets shown.system _ (λ x. tt)
     (any action.OriginOffsets shown.axis_data _ (λ x. tt)
-    (any action.InverseTime (time_word mode b.motion b.values.f) [] (λ x. tt) tt)))))))))))
+    (any action.InverseTime (time_word mode b.movement b.values.f) [] (λ x. tt) tt)))))))))))
 
 outputs-fit : (b : Block) (m : Modes) (mode : FeedMode) (slots : ℕ) (o : Outputs) (shown : Shown) → slots ≤ greatest_slot
     → IsAccepted b m slots → Fits o → Fits (stop_outputs b.m.stop (outputs_after o (actions_of b mode o shown)))

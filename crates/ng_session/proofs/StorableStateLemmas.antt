@@ -27,12 +27,11 @@ use Rattle.ng_modal.proofs.AcceptedWordLemmas.{accepted_by}
 use Rattle.ng_block.specs.Motion.{feed_of}
 use Rattle.ng_block.specs.Cycles.{kept_of}
 use Rattle.ng_block.specs.Program.{TermsModel, idle, deleted, executed_unless_deleted, framed, is_end, executed_after, percent_by}
-use Rattle.ng_block.specs.Effects.{Done, unless_refused, block_done, executed, executed_pieces, executed_values, in_state}
+use Rattle.ng_block.specs.Effects.{Done, unless_refused, block_done, executed, executed_pieces, executed_values}
 use Rattle.ng_block.specs.Faults.{path_faults}
 use Rattle.ng_block.specs.Goal.{Goal, goal_of, path_after_bearings}
 use Rattle.ng_block.specs.Remarks.{remark_of}
 use Rattle.ng_state.specs.State.{StateModel}
-use Rattle.ng_block.specs.declared.effect.Effect.{Effect}
 use Rattle.ng_block.specs.declared.effect.ProgramFlow.{ProgramFlow}
 use Rattle.ng_block.specs.declared.effect.ProgramFlow.TheVariants.{GoesOn}
 use Rattle.ng_layout.specs.Limits.{greatest_slot}
@@ -41,8 +40,7 @@ use Rattle.ng_layout.specs.Storable.{IsStorableModalState, IsStorableHalf, IsSto
 use Rattle.ng_layout.specs.Stored.{HalfModel, StoredModel}
 use Rattle.ng_layout.specs.declared.half.Source.{Source}
 use Rattle.ng_layout.specs.declared.half.Source.TheVariants.{Program, Mdi}
-use Rattle.ng_session.specs.Entries.{place_by, place_after, after_block, after_load, reached, after_reference, referenced, after_abandon, abandoned}
-use Rattle.ng_session.specs.SessionInvariant.{IsNextEntry}
+use Rattle.ng_session.specs.Entries.{place_by, place_after, after_load, after_reference, referenced, after_abandon, abandoned}
 use Rattle.ng_session.proofs.StateLimitLemmas.{found, same, block-stands}
 
 -- the state that a line leads to can be stored if the state that it begins with can be
@@ -136,35 +134,17 @@ again-stands r s tools geometry text done few = kept r s (executed s tools geome
 
 -- ---- what is stored after a block and after a load
 
-long-after : (table : List ℤ) (changes : List Change) → length (with_changes table changes) ≡ length table
+pub long-after : (table : List ℤ) (changes : List Change) → length (with_changes table changes) ≡ length table
 long-after table [] = refl
 long-after table (c ∷ changes) = long-after (with_value table c.index c.value) changes ∙ length-set table (c.index - 1) c.value
 
-place-within : (next place limit : ℕ) (source : Source) (stop : ProgramFlow) → next ≤ limit → place ≤ limit → place_after next place source stop ≤ limit
+pub place-within : (next place limit : ℕ) (source : Source) (stop : ProgramFlow) → next ≤ limit → place ≤ limit → place_after next place source stop ≤ limit
 place-within next place limit source stop first second = by (is_end stop) source
   where
     by : (t : Bool) (source : Source) → cond t 0 (place_by next place source) ≤ limit
     by true source = omega arith
     by false Program = first
     by false Mdi = second
-
-pub next_storable : (x : StoredModel) (next : ℕ) (source : Source) (e : Effect) → IsStorable x → next ≤ x.length
-    → IsStorableModalState e.modal → IsNextEntry x (after_block next x source (in_state x.setup e))
-next_storable x next source e was within can = record {
-  count = refl;
-  same = refl;
-  tools = refl;
-  room = refl;
-  storable = record {
-    table = long-after x.setup.params e.changes.items ∙ was.table;
-    modal = can;
-    half = tt;
-    place = place-within next x.place x.length source e.stop within was.place;
-    program = was.program;
-    room = was.room;
-    tools = was.tools;
-  };
-}
 
 pub load_storable : (x : StoredModel) (length_new : ℕ) → IsStorable x → length_new ≤ x.room → IsStorable (after_load x length_new)
 load_storable x length_new was short = record {
@@ -187,26 +167,6 @@ half_storable x half was waits = record {
   program = was.program;
   room = was.room;
   tools = was.tools;
-}
-
--- after an approach
-pub approach_storable : (x : StoredModel) (half : HalfModel) (point : Point) → IsStorable x → length half.text ≤ 256 → IsNextEntry x (reached x half point)
-approach_storable x half point was short = record {
-  count = refl;
-  same = refl;
-  tools = refl;
-  room = refl;
-  storable = record {
-    table = was.table;
-    modal = was.modal;
-    half =
-        record { unknown = λ none. let e : false ≡ true = none in cc; text = short };
-    place = was.place;
-    program =
-        was.program;
-    room = was.room;
-    tools = was.tools;
-  };
 }
 
 -- after a reference to a point

@@ -1,5 +1,5 @@
 -- What is committed, and the state after it (own).
-use Rattle.std.specs.Prelude.{ℕ, ◌+◌, ℤ, List, ◌++◌, take, Bool, false, true, Result, Option, None, Some, unwrap_or, length, if◌then◌else◌}
+use Rattle.std.specs.Prelude.{ℕ, ◌+◌, ℤ, List, ◌++◌, take, Bool, true, Result, Option, None, Some, unwrap_or, length, if◌then◌else◌}
 use Rattle.std.specs.Option.{is_some}
 use Rattle.ng_num.specs.declared.fault.Fault.{Fault}
 use Rattle.ng_num.specs.declared.point.Point.{Point}

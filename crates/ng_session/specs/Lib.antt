@@ -1,6 +1,6 @@
-pub mod Stages
 pub mod Entries
 pub mod Session
+pub mod KeptBlock
 pub mod SessionInvariant
 pub mod Fold
 pub mod Runs

@@ -1,5 +1,5 @@
 -- Lines of the program that are executed before they are begun (own).
-use Rattle.std.specs.Prelude.{◌≡◌, ℕ, Bool, true, false, if◌then◌else◌, List, [], ◌∷◌, Option, None, Some, Ok}
+use Rattle.std.specs.Prelude.{◌≡◌, ◌≢◌, ℕ, Bool, true, false, if◌then◌else◌, List, [], ◌∷◌, Option, None, Some, Ok}
 use Rattle.ng_words.specs.declared.start.LineKind.{LineKind}
 use Rattle.ng_words.specs.declared.start.LineKind.TheVariants.{Blank}
 use Rattle.ng_text.specs.LinesBefore.{IsTrueOf, IsLineBetween}
@@ -12,13 +12,13 @@ use Rattle.ng_layout.specs.Stored.{StoredModel}
 use Rattle.ng_layout.specs.declared.half.Source.TheVariants as source
 use Rattle.ng_canon.specs.declared.geometry.Geometry.{Geometry}
 use Rattle.ng_session.specs.Entries.{terms_of}
+use Rattle.ng_session.specs.KeptBlock.{KeptBlock, block_on, IsReady}
 use Rattle.ng_session.specs.Session.{CurrentBlockModel, SessionModel, after_current_block, after_current_approach, begin, begun}
-use Rattle.ng_session.specs.SessionInvariant.{Prepared, IsReady}
 use Rattle.ng_session.specs.declared.event.Event.{Event}
 use Rattle.ng_session.specs.declared.event.Event.TheVariants as event
 use Rattle.ng_session.specs.declared.reply.Reply.{Reply}
-use Rattle.ng_session.specs.Stages.{Stage}
-use Rattle.ng_session.specs.Stages as stage
+use Rattle.ng_session.specs.declared.stage.Stage.{Stage}
+use Rattle.ng_session.specs.declared.stage.Stage.TheVariants as stage
 
 -- a line that was read ahead: the places at which it and the next one begin, the kind of the first line before it that
 -- isn't blank, and its block, as it will be begun
@@ -26,16 +26,18 @@ pub record PlannedModel : Type 0 where
   pub place : ℕ
   pub first : LineKind
   pub next : ℕ
-  pub prepared : Prepared
+  pub block : KeptBlock
 
--- what is known of a program's lines: of those before a place, and those that were read ahead, in order
+-- what is known of a program's lines: of those before a place, and those that were read ahead, in order; and while there
+-- are any of these, what will be stored after the last
 pub record KnownModel : Type 0 where
   pub before : LinesBefore
   pub ahead : List PlannedModel
+  pub base : StoredModel
 
 -- the line is one of the program's
 abbrev pub IsLineOf : List ℕ → PlannedModel → Type 0
-IsLineOf program p = IsLineBetween program p.place p.first p.prepared.block.text p.next
+IsLineOf program p = IsLineBetween program p.place p.first p.block.text p.next
 
 abbrev pub AreLinesOf : List ℕ → List PlannedModel → Type 0
 AreLinesOf program [] = Unit {0}
@@ -89,7 +91,7 @@ base_of s = record { stored = base_after s.stored s.current; block_delete = s.bl
 
 -- what the next line is planned on
 abbrev pub base_then : Base → PlannedModel → Base
-base_then base p = record { stored = p.prepared.after; block_delete = base.block_delete }
+base_then base p = record { stored = after_current_block base.stored (block_on base.stored.setup.params p.block); block_delete = base.block_delete }
 
 abbrev pub base_at_end : Base → List PlannedModel → Base
 base_at_end base [] = base
@@ -102,7 +104,7 @@ ends_after (Some c) = is_end c.stop
 
 abbrev pub ends_at_end : Bool → List PlannedModel → Bool
 ends_at_end ends [] = ends
-ends_at_end ends (p ∷ ps) = ends_at_end (is_end p.prepared.block.stop) ps
+ends_at_end ends (p ∷ ps) = ends_at_end (is_end p.block.stop) ps
 
 -- The line at the place that will be stored is valid then, and the block is what the line does then. There is no line
 -- before the program's beginning.
@@ -110,14 +112,19 @@ pub record IsPlannedOn (geometry : Geometry) (base : Base) (p : PlannedModel) : 
   pub place : p.place ≡ base.stored.place
   pub beginning : p.place ≡ 0 → p.first ≡ Blank
   pub does : Done
-  pub does_is : executed_after (terms_of geometry base.stored.tools base.block_delete) p.first base.stored.setup p.prepared.block.text ≡ Ok does
-  pub begun_is : p.prepared.block ≡ begun base.stored source.Program p.prepared.block.text base.block_delete p.next does
-  pub ready : IsReady base.stored p.prepared
+  pub does_is : executed_after (terms_of geometry base.stored.tools base.block_delete) p.first base.stored.setup p.block.text ≡ Ok does
+  pub begun_is : block_on base.stored.setup.params p.block ≡ begun base.stored source.Program p.block.text base.block_delete p.next does
+  pub ready : IsReady base.stored p.block
 
 -- each line is planned on the state after the one before it
-abbrev pub IsPlan : Geometry → Base → List PlannedModel → Type 0
-IsPlan geometry base [] = Unit {0}
-IsPlan geometry base (p ∷ ps) = IsPlannedOn geometry base p × IsPlan geometry (base_then base p) ps
+abbrev pub ArePlannedOn : Geometry → Base → List PlannedModel → Type 0
+ArePlannedOn geometry base [] = Unit {0}
+ArePlannedOn geometry base (p ∷ ps) = IsPlannedOn geometry base p × ArePlannedOn geometry (base_then base p) ps
+
+-- the lines are planned so, and this is what the next one is planned on if there are any
+pub record IsPlan (geometry : Geometry) (base : Base) (ahead : List PlannedModel) (next : StoredModel) : Type 0 where
+  pub lines : ArePlannedOn geometry base ahead
+  pub next_is : ahead ≢ [] → next ≡ (base_at_end base ahead).stored
 
 -- the first planned line is begun just as if it were read then, and the others stay planned
 pub record IsBegunAhead (geometry : Geometry) (told : Reply) (old new : SessionModel) (known_old known_new : KnownModel) : Type 0 where
@@ -127,7 +134,7 @@ pub record IsBegunAhead (geometry : Geometry) (told : Reply) (old new : SessionM
   pub place : planned.place ≡ old.stored.place
   pub beginning : planned.place ≡ 0 → planned.first ≡ Blank
   pub told_is : (program : List ℕ) → planned.first ≡ first_kind (lines_before program old.stored.place)
-      → told ≡ (begin geometry program old (Some (record { text = planned.prepared.block.text; next = planned.next }))).reply
+      → told ≡ (begin geometry program old (Some (record { text = planned.block.text; next = planned.next }))).reply
   pub next : (program : List ℕ) → planned.first ≡ first_kind (lines_before program old.stored.place)
-      → new ≡ (begin geometry program old (Some (record { text = planned.prepared.block.text; next = planned.next }))).next
-  pub plan : IsPlan geometry (base_of new) known_new.ahead
+      → new ≡ (begin geometry program old (Some (record { text = planned.block.text; next = planned.next }))).next
+  pub plan : IsPlan geometry (base_of new) known_new.ahead known_new.base

@@ -37,8 +37,8 @@ use Rattle.ng_session.specs.declared.reply.Status.{Status}
 use Rattle.ng_session.specs.declared.event.Event.{Event}
 use Rattle.ng_session.specs.declared.event.Event.TheVariants as event
 use Rattle.ng_session.specs.declared.stage.Approach.{Approach}
-use Rattle.ng_session.specs.Stages.{Stage}
-use Rattle.ng_session.specs.Stages as stage
+use Rattle.ng_session.specs.declared.stage.Stage.{Stage}
+use Rattle.ng_session.specs.declared.stage.Stage.TheVariants as stage
 
 -- the current block, as it was begun, and what is left of it
 pub record CurrentBlockModel : Type 0 where
@@ -523,22 +523,21 @@ IsProgramsLine (Some half) = half.source ≡ source.Program
 
 -- For each event:
 
--- The event needs memory: a program that is loaded, a line of the operator that is executed, a half-done block that
--- goes on, a Tick between two lines of a program that runs.
+-- The event needs memory: a program that is loaded.
 abbrev pub TakesMemory : {A : Type 0} → Geometry → SessionModel → Event A → Type 0
 TakesMemory geometry s (event.Load text) = load_refusal s text ≡ None
 TakesMemory geometry s event.Start = ⊥
 TakesMemory geometry s event.Hold = ⊥
 TakesMemory geometry s event.Continue = ⊥
-TakesMemory geometry s (event.Mdi text) = (refuses_mdi s ≡ false) × (s.stored.setup.modal.point_known ≡ true)
+TakesMemory geometry s (event.Mdi text) = ⊥
 TakesMemory geometry s (event.Reference point) = ⊥
-TakesMemory geometry s event.Resume = resume_refusal geometry s ≡ None
+TakesMemory geometry s event.Resume = ⊥
 TakesMemory geometry s event.Abandon = ⊥
 TakesMemory geometry s (event.Tool slot nm) = ⊥
 TakesMemory geometry s (event.OptionalStop wanted) = ⊥
 TakesMemory geometry s (event.BlockDelete on) = ⊥
 TakesMemory geometry s event.Status = ⊥
-TakesMemory geometry s event.Tick = (s.held ≡ false) × IsBetweenLines s
+TakesMemory geometry s event.Tick = ⊥
 
 -- The event needs the device: what is committed, a line of the program that goes on, a Tick that finds something to do.
 abbrev pub AsksDevice : {A : Type 0} → Geometry → SessionModel → Event A → Type 0

@@ -1,5 +1,5 @@
 //! How a line is begun: by the operator, or by the program.
-ghost use Rattle.std.specs.Prelude.{◌≡◌, ◌≤◌, ℕ, List, Some, true, false, Ok, Err, IfOk, OnOk, OnErr, MatchResult, length};
+ghost use Rattle.std.specs.Prelude.{◌≡◌, ◌≤◌, ℕ, List, Some, Ok, Err, IfOk, OnOk, MatchResult, length};
 ghost use Rattle.ng_text.specs.Percent.{first_kind};
 ghost use Rattle.ng_block.specs.Effects.{in_state};
 ghost use Rattle.ng_block.specs.Program.{executed_after};
@@ -19,7 +19,7 @@ use ng_layout::{Source, Stored};
 use ng_num::Fault;
 use ng_text::missing_end;
 use ng_words::LineKind;
-use std::alloc::{AllocError, Allocator};
+use std::alloc::Allocator;
 
 /// What a line is run with over what is stored, with lines deleted or not.
 pub(crate) fn terms_over<'a, A: Allocator + Copy + Drop>(
@@ -93,26 +93,21 @@ pub(crate) fn execute_after_lines<'p, A: Allocator + Copy + Drop>(
 }
 
 impl<A: Allocator + Copy + Drop> Session<A> {
-    ghost use Rattle.ng_session.specs.Session.{mdi, begin, break_off, refuses_mdi};
+    ghost use Rattle.ng_session.specs.Session.{mdi, begin, break_off};
 
     /// Begins a line of the operator. If the session was held, the hold ends, and a program that ran waits. K1 if a
     /// block is current or half-done, or if the program runs and isn't held; K3 if the machine's point isn't known;
-    /// then the line's own faults. `AllocError` if there is no memory for the state after the line. In all these cases
-    /// nothing is changed.
+    /// then the line's own faults. In all these cases nothing is changed. It doesn't allocate.
     #[tactic(auto, using(crate::proofs::SessionInvariantLemmas::kept_ready))]
-    pub(crate) fn mdi(&mut self, text: &[u8], geometry: &Geometry) -> Result<Reply, AllocError>
-        ensures reply { IfOk result (λ reply. (program : List ℕ)
-            → reply ≡ (mdi geometry.now program self.old text.now).reply) }
-        ensures next { OnOk result ((program : List ℕ)
-            → self.new ≡ (mdi geometry.now program self.old text.now).next) }
-        ensures err { OnErr result (self.new ≡ self.old) }
-        ensures memory { OnErr result ((refuses_mdi self.old ≡ false) × (self.old.stored.setup.modal.point_known ≡ true)) }
+    pub(crate) fn mdi(&mut self, text: &[u8], geometry: &Geometry) -> Reply
+        ensures reply { (program : List ℕ) → result ≡ (mdi geometry.now program self.old text.now).reply }
+        ensures next { (program : List ℕ) → self.new ≡ (mdi geometry.now program self.old text.now).next }
     {
         if self.refuses_mdi() {
-            return Ok(Reply::Refused(Fault::Busy));
+            return Reply::Refused(Fault::Busy);
         }
         if !self.is_place_known() {
-            return Ok(Reply::Refused(Fault::PlaceUnknown));
+            return Reply::Refused(Fault::PlaceUnknown);
         }
         let place = self.place();
         let block_delete = self.block_delete;
@@ -124,7 +119,7 @@ impl<A: Allocator + Copy + Drop> Session<A> {
             geometry,
         ) {
             Ok(effect) => effect,
-            Err(fault) => return Ok(Reply::Refused(fault)),
+            Err(fault) => return Reply::Refused(fault),
         };
         let current = CurrentBlock::begun(
             &self.stored,
@@ -133,32 +128,25 @@ impl<A: Allocator + Copy + Drop> Session<A> {
             block_delete,
             place,
             effect,
-        )?;
+        );
         self.activity = self.activity.laid_by(self.held);
         self.held = false;
         self.current = Some(current);
-        Ok(Reply::Begun)
+        Reply::Begun
     }
 
     /// Begins the program's line at its place. The next one begins at `next`; `first` is the kind of the first line
-    /// before it that isn't blank. If the line is refused, for faults of its own, the program stops before it.
-    /// `AllocError` if there is no memory for the state after the line: then nothing is changed.
-    pub fn begin(
-        &mut self,
-        text: &[u8],
-        next: u64,
-        first: LineKind,
-        geometry: &Geometry,
-    ) -> Result<Reply, AllocError>
+    /// before it that isn't blank. If the line is refused, for faults of its own, the program stops before it. It
+    /// doesn't allocate.
+    pub fn begin(&mut self, text: &[u8], next: u64, first: LineKind, geometry: &Geometry) -> Reply
         requires { next ≤ self.old.stored.length }
-        ensures stored { OnOk result (self.new.stored ≡ self.old.stored) }
-        ensures reply { IfOk result (λ reply. (program : List ℕ) → first ≡ first_kind (lines_before program self.old.stored.place)
-            → reply ≡ (begin geometry.now program self.old
-            (Some (record { text = text.now; next = next }))).reply) }
-        ensures next { OnOk result ((program : List ℕ) → first ≡ first_kind (lines_before program self.old.stored.place)
+        ensures stored { self.new.stored ≡ self.old.stored }
+        ensures reply { (program : List ℕ) → first ≡ first_kind (lines_before program self.old.stored.place)
+            → result ≡ (begin geometry.now program self.old
+            (Some (record { text = text.now; next = next }))).reply }
+        ensures next { (program : List ℕ) → first ≡ first_kind (lines_before program self.old.stored.place)
             → self.new ≡ (begin geometry.now program self.old
-            (Some (record { text = text.now; next = next }))).next) }
-        ensures err { OnErr result (self.new ≡ self.old) }
+            (Some (record { text = text.now; next = next }))).next }
     {
         let block_delete = self.block_delete;
         let effect = match execute_after_lines(
@@ -172,7 +160,7 @@ impl<A: Allocator + Copy + Drop> Session<A> {
             Ok(effect) => effect,
             Err(fault) => {
                 self.activity = Activity::Stopped;
-                return Ok(Reply::Refused(fault));
+                return Reply::Refused(fault);
             }
         };
         let begun = CurrentBlock::begun(
@@ -182,9 +170,9 @@ impl<A: Allocator + Copy + Drop> Session<A> {
             block_delete,
             next,
             effect,
-        )?;
+        );
         self.current = Some(begun);
-        Ok(Reply::Begun)
+        Reply::Begun
     }
 
     /// Stops the program at the end of its text, which has no program end: X4 if a percent line is missing, else X3.

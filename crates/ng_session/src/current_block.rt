@@ -1,37 +1,39 @@
 //! The current block.
-ghost use Rattle.std.specs.Prelude.{◌≡◌, ◌≢◌, ◌≤◌, ◌<◌, ◌+◌, ◌^◌, length, IfOk, Some, None};
+ghost use Rattle.std.specs.Prelude.{◌≡◌, ◌≢◌, ◌≤◌, ◌+◌, ℤ, List, None, length};
+ghost use Rattle.ng_params.specs.Change.{with_changes};
+ghost use Rattle.ng_params.specs.Differences.{differences};
 ghost use Rattle.ng_block.specs.Effects.{in_state};
 ghost use Rattle.ng_layout.specs.Limits.{greatest_count};
 ghost use Rattle.ng_layout.specs.Storable.{IsStorableModalState, IsStorable};
-ghost use Rattle.std.specs.Option.{option_map};
 ghost use Rattle.ng_canon.specs.declared.pace.Pace.TheVariants as pace;
 ghost use Rattle.ng_cycles.specs.Segments.{line_to};
-ghost use Rattle.ng_session.specs.Entries.{place_by, place_after, after_block, reached, placed_at, stance_before, hand_approach};
+ghost use Rattle.ng_session.specs.Entries.{place_by, place_after, stance_before, hand_approach};
 ghost use Rattle.ng_layout.specs.Stored.{StoredModel};
+ghost use Rattle.ng_layout.specs.Update.{updated};
 ghost use Rattle.ng_session.specs.Session.{half_open, next_opened};
-ghost use Rattle.ng_session.specs.SessionInvariant.{IsNextEntry};
+ghost use Rattle.ng_session.specs.Planned.{base_on};
 
 use crate::stage::{Approach, Stage};
 use arrayvec::ArrayVec;
-use ng_block::{BlockSegments, Effect, MotionState, ProgramFlow, Resumed};
+use ng_block::{BlockSegments, Changes, Effect, ProgramFlow, Resumed};
 use ng_canon::{Geometry, Item, Pace, Segment, StraightMove};
-use ng_layout::{Half, LONGEST_TEXT, Opened, Source, Stored, text_from};
+use ng_layout::{DecodedState, Half, LONGEST_TEXT, Opened, Source, Stored, Update, text_from};
 use ng_num::Point;
+use ng_params::settled_changes;
+use ng_state::ModalState;
 use ng_step::Stepper;
-use std::alloc::{AllocError, Allocator};
+use std::alloc::Allocator;
 use std::marker::Model;
-use std::mem;
 
-/// The current block, as it was begun, and what is left of it (own). Contracts see a `Prepared`, whose block is a
-/// `CurrentBlockModel`.
+/// The current block, as it was begun, and what is left of it (own). Contracts see a `KeptBlock`.
 #[derive(Drop)]
-pub(crate) struct CurrentBlock<A: Allocator> {
+pub(crate) struct CurrentBlock {
     pub source: Source,
     /// Its line, without the line's end.
     pub text: ArrayVec<u8, LONGEST_TEXT>,
     /// Whether block delete was on when it was begun.
     pub block_delete: bool,
-    pub stage: Stage<A>,
+    pub stage: Stage,
     /// The number of the segment that opens next, counted from 0, after the approach if there is one.
     pub index: u64,
     /// The segment that opens next.
@@ -42,34 +44,34 @@ pub(crate) struct CurrentBlock<A: Allocator> {
     pub switch: Option<Item>,
     /// The items of what is open, after that. `None` before anything is opened.
     pub items: Option<Stepper>,
-    /// What is to be stored once nothing is left of it.
-    pub after: Stored<A>,
+    /// The parameters that it gives other values: each once, in rising order.
+    pub changes: Changes,
+    /// The modal state after it.
+    pub modal: ModalState,
+    /// The byte of the program at which the next line begins then.
+    pub place: u64,
     /// How the program goes on then.
     pub stop: ProgramFlow,
 }
 
-impl<A: Allocator> Model for CurrentBlock<A> {
+impl Model for CurrentBlock {
     ghost use Rattle.std.specs.Prelude.{[], unwrap_or};
-    ghost use Rattle.ng_session.specs.SessionInvariant.{Prepared, left_of, onto};
-    ghost use Rattle.ng_session.specs.Stages.{stage_of, approached_of};
+    ghost use Rattle.ng_session.specs.KeptBlock.{KeptBlock, left_of, onto};
 
-    ghost Value = { Prepared };
+    ghost Value = { KeptBlock };
 
     ghost view = { λ c. record {
-      block = record {
-        source = c.source;
-        text = c.text.items;
-        block_delete = c.block_delete;
-        stage = stage_of c.stage;
-        index = c.index;
-        left = left_of c.upcoming c.left;
-        items = onto c.switch (unwrap_or c.items []);
-        setup = c.after.setup;
-        place = c.after.place;
-        stop = c.stop;
-      };
-      after = c.after;
-      approached = approached_of c.stage;
+      source = c.source;
+      text = c.text.items;
+      block_delete = c.block_delete;
+      stage = c.stage;
+      index = c.index;
+      left = left_of c.upcoming c.left;
+      items = onto c.switch (unwrap_or c.items []);
+      changes = c.changes.items;
+      modal = c.modal;
+      place = c.place;
+      stop = c.stop;
     } };
 }
 
@@ -95,58 +97,12 @@ fn place_by(next: u64, place: u64, source: Source) -> u64
     }
 }
 
-/// What is to be stored after a block, given its effect. `AllocError` if there is no memory for its table.
-#[tactic(auto, using(crate::proofs::StorableStateLemmas::next_storable))]
-fn after_block<A: Allocator + Copy + Drop>(
-    next: u64,
-    stored: &Stored<A>,
-    source: Source,
-    effect: &Effect,
-) -> Result<Stored<A>, AllocError>
-    requires count { stored.now.entries ≤ 1_000_000_000_001 }
-    requires storable { IsStorable stored.now }
-    requires within { next ≤ stored.now.length }
-    requires stands { IsStorableModalState effect.now.modal }
-    ensures value { IfOk result (λ x. x ≡ after_block next stored.now source (in_state stored.now.setup effect.now)) }
-    ensures next { IfOk result (λ x. IsNextEntry stored.now x) }
+/// What an effect changes of the stored parameters: the differences that it makes.
+fn changes_of<A: Allocator + Copy + Drop>(stored: &Stored<A>, effect: &Effect) -> Changes
+    ensures { let params = stored.now.setup.params in
+        result.items ≡ differences params (with_changes params effect.now.changes.items) }
 {
-    let mut state = stored.state.copy()?;
-    state.take_over(&effect.modal, effect.changes.as_slice());
-    Ok(Stored {
-        entries: stored.entries + 1,
-        state,
-        place: place_after(next, stored.place, source, effect.stop),
-        length: stored.length,
-        room: stored.room,
-        half: None,
-        tools: stored.tools.copy(),
-    })
-}
-
-/// What is to be stored after the approach of a half-done block, given where it ends. `AllocError` if there is no
-/// memory for its table.
-#[tactic(auto, using(crate::proofs::StorableStateLemmas::approach_storable))]
-fn after_approach<A: Allocator + Copy + Drop>(
-    stored: &Stored<A>,
-    half: &Half,
-    to: &MotionState,
-) -> Result<Stored<A>, AllocError>
-    requires count { stored.now.entries ≤ greatest_count }
-    requires storable { IsStorable stored.now }
-    requires short { length half.now.text ≤ 256 }
-    ensures value { IfOk result (λ x. x ≡ reached stored.now half.now to.now.point) }
-    ensures next { IfOk result (λ x. IsNextEntry stored.now x) }
-{
-    let state = stored.state.copy()?;
-    Ok(Stored {
-        entries: stored.entries + 1,
-        state,
-        place: stored.place,
-        length: stored.length,
-        room: stored.room,
-        half: Some(placed_at(to.point, half)),
-        tools: stored.tools.copy(),
-    })
+    settled_changes(&stored.state.params, &effect.changes)
 }
 
 /// The point at which a block begins.
@@ -154,19 +110,6 @@ fn start_of<A: Allocator + Copy + Drop>(stored: &Stored<A>) -> Point
     ensures { result ≡ stored.now.setup.modal.point }
 {
     stored.state.modal.point
-}
-
-/// A half-done block whose machine is at a point.
-fn placed_at(point: Point, half: &Half) -> Half
-    ensures { result ≡ placed_at point half.now }
-{
-    Half {
-        text: text_from(half.text.as_slice()),
-        source: half.source,
-        index: half.index,
-        at: Some(point),
-        opened: None,
-    }
 }
 
 /// The item that an approach begins with: the outputs there.
@@ -187,36 +130,35 @@ fn way(approach: &Approach) -> Segment
     })
 }
 
-impl<A: Allocator + Copy + Drop> CurrentBlock<A> {
-    ghost use Rattle.std.specs.Prelude.{[], drop, IfSome, MatchOption};
+impl CurrentBlock {
+    ghost use Rattle.std.specs.Prelude.{[], drop, IfSome, MatchBool};
     ghost use Rattle.ng_layout.specs.Storable.{IsStorableHalf};
-    ghost use Rattle.ng_session.specs.Stages.{OnApproach, OnBlock};
-    ghost use Rattle.ng_session.specs.SessionInvariant.{IsReady, IsBeforeBlock};
+    ghost use Rattle.ng_session.specs.declared.stage.Stage.TheVariants.{OnApproach, OnBlock};
+    ghost use Rattle.ng_session.specs.KeptBlock.{block_on, IsReady};
+    ghost use Rattle.ng_session.specs.SessionInvariant.{IsNextEntry};
+    ghost use Rattle.ng_session.specs.Session.{SessionModel, after_current_block, after_current_approach, committed_on};
     ghost use Rattle.ng_session.specs.Session.{begun, begun_again, first_of, rest_of, opening_on, opened_on};
 
-    /// The block of a line, before its first segment, given its effect. `AllocError` if there is no memory for the
-    /// state after it.
-    pub fn begun(
+    /// The block of a line, before its first segment, given its effect. The next line of the program begins at `next`.
+    pub fn begun<A: Allocator + Copy + Drop>(
         stored: &Stored<A>,
         source: Source,
         text: &[u8],
         block_delete: bool,
         next: u64,
         effect: &Effect,
-    ) -> Result<CurrentBlock<A>, AllocError>
-        requires count { stored.now.entries ≤ greatest_count }
+    ) -> CurrentBlock
         requires storable { IsStorable stored.now }
         requires within { next ≤ stored.now.length }
         requires stands { IsStorableModalState effect.now.modal }
         requires short { length text.now ≤ 256 }
-        ensures value { IfOk result (λ p.
-            p.block ≡ begun stored.now source text.now block_delete next (in_state stored.now.setup effect.now)) }
-        ensures ready { IfOk result (λ p. IsReady stored.now p) }
+        ensures value { block_on stored.now.setup.params result
+            ≡ begun stored.now source text.now block_delete next (in_state stored.now.setup effect.now) }
+        ensures ready { IsReady stored.now result }
     {
-        let after = after_block(next, stored, source, effect)?;
         let mut left = effect.block_segments();
         let upcoming = left.next();
-        Ok(CurrentBlock {
+        CurrentBlock {
             source,
             text: text_from(text),
             block_delete,
@@ -226,59 +168,57 @@ impl<A: Allocator + Copy + Drop> CurrentBlock<A> {
             left,
             switch: None,
             items: None,
-            after,
+            changes: changes_of(stored, effect),
+            modal: effect.modal,
+            place: place_after(next, stored.place, source, effect.stop),
             stop: effect.stop,
-        })
+        }
     }
 
-    /// The half-done block from its index on, before its approach from a point, given the effect of its whole line.
-    /// `AllocError` if there is no memory for the states after it and after the approach.
-    pub fn begun_again(
+    /// The half-done block from its index on, before its approach from a point, given the effect of its whole line. The
+    /// next line of the program begins at `next`.
+    pub fn begun_again<A: Allocator + Copy + Drop>(
         stored: &Stored<A>,
         half: &Half,
         from: Point,
         next: u64,
         effect: &Effect,
-    ) -> Result<CurrentBlock<A>, AllocError>
-        requires count { stored.now.entries ≤ greatest_count }
+    ) -> CurrentBlock
         requires storable { IsStorable stored.now }
         requires within { next ≤ stored.now.length }
         requires stands { IsStorableModalState effect.now.modal }
         requires short { length half.now.text ≤ 256 }
-        ensures value { IfOk result (λ p. p.block ≡ begun_again stored.now half.now from next (in_state stored.now.setup effect.now)) }
-        ensures ready { IfOk result (λ p. IsBeforeBlock stored.now p
-            (record { from = from; to = stance_before stored.now.setup (in_state stored.now.setup effect.now) half.now.index })) }
+        ensures value { block_on stored.now.setup.params result
+            ≡ begun_again stored.now half.now from next (in_state stored.now.setup effect.now) }
+        ensures ready { IsReady stored.now result }
     {
         let Resumed {
             block_segments: mut left,
             standing: to,
         } = effect.block_segments_from(start_of(stored), half.index);
-        let between = after_approach(stored, half, &to)?;
-        let after = after_block(next, &between, half.source, effect)?;
         let upcoming = left.next();
-        Ok(CurrentBlock {
+        CurrentBlock {
             source: half.source,
             text: text_from(half.text.as_slice()),
             block_delete: false,
-            stage: Stage::ToApproach {
-                approach: Approach { from, to },
-                after: between,
-            },
+            stage: Stage::ToApproach(Approach { from, to }),
             index: half.index,
             upcoming,
             left,
             switch: None,
             items: None,
-            after,
+            changes: changes_of(stored, effect),
+            modal: effect.modal,
+            place: place_after(next, stored.place, half.source, effect.stop),
             stop: effect.stop,
-        })
+        }
     }
 
     /// Takes the next item of what is open.
     #[tactic(auto, using(crate::proofs::TakenItemLemmas::first_taken, crate::proofs::TakenItemLemmas::rest_taken))]
     pub fn next_item(&mut self) -> Option<Item>
-        ensures item { result ≡ first_of self.old.block.items }
-        ensures next { self.new ≡ record self.old { block = record self.old.block { items = rest_of self.old.block.items } } }
+        ensures item { result ≡ first_of self.old.items }
+        ensures next { self.new ≡ record self.old { items = rest_of self.old.items } }
     {
         if let Some(switch) = self.switch {
             self.switch = None;
@@ -293,12 +233,12 @@ impl<A: Allocator + Copy + Drop> CurrentBlock<A> {
     /// The half-done block that is stored while the approach or the next segment is open. `None` if nothing is left to
     /// open.
     pub fn opening(&self) -> Option<Half>
-        ensures half { result ≡ opening_on self.now.block self.now.block.stage }
+        ensures half { (params : List ℤ) → result ≡ opening_on (block_on params self.now) self.now.stage }
         ensures waits { IfSome result IsStorableHalf }
     {
         match &self.stage {
-            Stage::ToApproach { .. } => Some(self.half_open(Opened::Approach)),
-            Stage::OnApproach { .. } => None,
+            Stage::ToApproach(_) => Some(self.half_open(Opened::Approach)),
+            Stage::OnApproach(_) => None,
             Stage::OnBlock => match self.upcoming {
                 Some(_) => Some(self.half_open(Opened::Segment)),
                 None => None,
@@ -308,7 +248,7 @@ impl<A: Allocator + Copy + Drop> CurrentBlock<A> {
 
     /// The half-done block that is stored while part of it is open.
     fn half_open(&self, opened: Opened) -> Half
-        ensures half { result ≡ half_open self.now.block opened }
+        ensures half { (params : List ℤ) → result ≡ half_open (block_on params self.now) opened }
         ensures waits { IsStorableHalf result }
     {
         Half {
@@ -320,62 +260,150 @@ impl<A: Allocator + Copy + Drop> CurrentBlock<A> {
         }
     }
 
-    /// What is to be stored once nothing is left of the block, or of its approach if that isn't committed.
-    pub fn next_stored(&self) -> &Stored<A>
-        ensures block { self.now.block.stage ≡ OnBlock → result.now ≡ self.now.after }
-        ensures between { (between : StoredModel) → self.now.approached ≡ Some between
-            → (self.now.block.stage ≢ OnBlock) → result.now ≡ between }
+    /// What the next entry changes of what is stored, once nothing is left of the block, or of its approach if that
+    /// isn't committed.
+    pub fn update<A: Allocator + Copy + Drop>(&self, stored: &Stored<A>) -> Update<'_>
+        requires count { stored.now.entries ≤ greatest_count }
+        requires storable { IsStorable stored.now }
+        requires ready { IsReady stored.now self.now }
+        ensures value { (s : SessionModel) → s.stored ≡ stored.now → updated stored.now result
+            ≡ (committed_on s (block_on stored.now.setup.params self.now) self.now.stage).stored }
+        ensures next { IsNextEntry stored.now result }
     {
         match &self.stage {
-            Stage::ToApproach { after, .. } | Stage::OnApproach { after, .. } => after,
-            Stage::OnBlock => &self.after,
+            Stage::ToApproach(approach) | Stage::OnApproach(approach) => {
+                self.update_by_approach(stored, approach)
+            }
+            Stage::OnBlock => self.update_by_block(stored.entries),
         }
+    }
+
+    /// What the next entry changes of what is stored once nothing is left of the block, given the number of entries
+    /// before it.
+    pub fn update_by_block(&self, entries: u64) -> Update<'_>
+        requires { entries ≤ greatest_count + 1 }
+        ensures value { (x : StoredModel) → x.entries ≡ entries
+            → updated x result ≡ after_current_block x (block_on x.setup.params self.now) }
+        ensures changes { result.changes ≡ self.now.changes }
+        ensures slot { result.slot ≡ None }
+    {
+        Update {
+            decoded: DecodedState {
+                entries: entries + 1,
+                place: self.place,
+                modal: self.modal,
+                half: None,
+            },
+            changes: self.changes.as_slice(),
+            slot: None,
+        }
+    }
+
+    /// What the next entry changes of what is stored once the machine is where the block's approach ends.
+    fn update_by_approach<A: Allocator + Copy + Drop>(
+        &self,
+        stored: &Stored<A>,
+        approach: &Approach,
+    ) -> Update<'_>
+        requires { stored.now.entries ≤ greatest_count }
+        ensures value { updated stored.now result ≡ after_current_approach stored.now
+            (block_on stored.now.setup.params self.now) approach.now.to.point }
+        ensures changes { result.changes ≡ [] }
+        ensures slot { result.slot ≡ None }
+    {
+        Update {
+            decoded: DecodedState {
+                entries: stored.entries + 1,
+                place: stored.place,
+                modal: stored.state.modal,
+                half: Some(Half {
+                    text: text_from(self.text.as_slice()),
+                    source: self.source,
+                    index: self.index,
+                    at: Some(approach.to.point),
+                    opened: None,
+                }),
+            },
+            changes: &[],
+            slot: None,
+        }
+    }
+
+    /// How many entries come before the block's: one more while its approach isn't committed.
+    fn entries_before(&self, entries: u64) -> u64
+        requires { entries ≤ greatest_count }
+        ensures few { result ≤ greatest_count + 1 }
+        ensures block { self.now.stage ≡ OnBlock → result ≡ entries }
+        ensures approach { (self.now.stage ≢ OnBlock) → result ≡ entries + 1 }
+    {
+        match &self.stage {
+            Stage::ToApproach(_) | Stage::OnApproach(_) => entries + 1,
+            Stage::OnBlock => entries,
+        }
+    }
+
+    /// Makes what is stored that which will be once nothing is left of the block, nor of its approach.
+    pub fn finish_in<A: Allocator + Copy + Drop>(&self, stored: &mut Stored<A>)
+        requires { stored.old.entries ≤ greatest_count }
+        ensures { stored.new ≡ base_on stored.old (block_on stored.old.setup.params self.now) self.now.stage }
+    {
+        let entries = self.entries_before(stored.entries);
+        stored.take_update(&self.update_by_block(entries));
     }
 
     /// Opens the approach or the next segment, if one is left.
     pub fn open(&mut self, geometry: &Geometry)
-        ensures { self.new ≡ record self.old { block = opened_on geometry.now self.old.block self.old.block.stage } }
+        ensures opened { (params : List ℤ) → block_on params self.new
+            ≡ opened_on geometry.now (block_on params self.old) self.old.stage }
+        ensures kept { self.new ≡ record self.old {
+          stage = self.new.stage;
+          index = self.new.index;
+          left = self.new.left;
+          items = self.new.items;
+        } }
     {
-        match mem::replace(&mut self.stage, Stage::OnBlock) {
-            Stage::ToApproach { approach, after } => {
-                self.open_approach(approach, after, geometry);
-            }
-            Stage::OnApproach { approach, after } => {
-                self.stage = Stage::OnApproach { approach, after };
-            }
+        match self.stage {
+            Stage::ToApproach(approach) => self.open_approach(approach, geometry),
+            Stage::OnApproach(_) => {}
             Stage::OnBlock => self.open_segment(geometry),
         }
     }
 
-    /// Opens the approach; `after` is to be stored after it.
-    fn open_approach(&mut self, approach: Approach, after: Stored<A>, geometry: &Geometry)
+    /// Opens the approach.
+    fn open_approach(&mut self, approach: Approach, geometry: &Geometry)
         ensures { self.new ≡ record self.old {
-          block = record self.old.block { stage = OnApproach approach; items = hand_approach geometry.now approach };
-          approached = Some after;
+          stage = OnApproach approach;
+          items = hand_approach geometry.now approach;
         } }
     {
         self.switch = Some(switch(&approach));
-        let way = way(&approach);
-        self.stage = Stage::OnApproach { approach, after };
-        self.items = Some(Stepper::new(&way, geometry));
+        self.items = Some(Stepper::new(&way(&approach), geometry));
+        self.stage = Stage::OnApproach(approach);
     }
 
-    /// Goes on to the block's segments, and returns what is to be stored after its approach. `None` if the block is
-    /// past its approach: then nothing is changed.
-    pub fn end_approach(&mut self) -> Option<Stored<A>>
-        ensures way { MatchOption result (self.old.block.stage ≡ OnBlock)
-            (λ between. (self.old.block.stage ≢ OnBlock) × (self.old.approached ≡ Some between)) }
-        ensures next { self.new ≡ record self.old { block = record self.old.block { stage = OnBlock }; approached = None } }
+    /// Goes on to the block's segments. Returns false if the block is past its approach: then nothing is changed.
+    pub fn end_approach(&mut self) -> bool
+        ensures way { MatchBool result (self.old.stage ≢ OnBlock) (self.old.stage ≡ OnBlock) }
+        ensures next { self.new ≡ record self.old { stage = OnBlock } }
     {
-        match mem::replace(&mut self.stage, Stage::OnBlock) {
-            Stage::ToApproach { after, .. } | Stage::OnApproach { after, .. } => Some(after),
-            Stage::OnBlock => None,
+        match self.stage {
+            Stage::ToApproach(_) | Stage::OnApproach(_) => {
+                self.stage = Stage::OnBlock;
+                true
+            }
+            Stage::OnBlock => false,
         }
     }
 
     /// Opens the next segment, if one is left.
     fn open_segment(&mut self, geometry: &Geometry)
-        ensures { self.new ≡ record self.old { block = next_opened geometry.now self.old.block self.old.block.left } }
+        ensures opened { (params : List ℤ) → block_on params self.new
+            ≡ next_opened geometry.now (block_on params self.old) self.old.left }
+        ensures kept { self.new ≡ record self.old {
+          index = self.new.index;
+          left = self.new.left;
+          items = self.new.items;
+        } }
     {
         let Some(segment) = self.upcoming else { return };
         self.index = self.index.saturating_add(1);

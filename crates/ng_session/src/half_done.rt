@@ -1,10 +1,13 @@
 //! A half-done block (own): the point of its machine is given, it goes on, or it is given up.
-ghost use Rattle.std.specs.Prelude.{◌≡◌, ◌≤◌, not, nat_lt, false, ℕ, List, Ok, Err, IfOk, OnOk, OnErr, MatchResult, MatchOption, length};
+ghost use Rattle.std.specs.Prelude.{◌≡◌, ◌≤◌, ◌<◌, ◌+◌, not, nat_lt, [], false, ℕ, List};
+ghost use Rattle.std.specs.Prelude.{Ok, Err, IfOk, MatchResult, MatchOption};
 ghost use Rattle.ng_block.specs.Effects.{in_state};
 ghost use Rattle.ng_layout.specs.Limits.{greatest_count};
 ghost use Rattle.ng_layout.specs.Storable.{IsStorableModalState, IsStorable};
 ghost use Rattle.ng_layout.specs.Stored.{with_decoded_state};
+ghost use Rattle.ng_layout.specs.Update.{updated};
 ghost use Rattle.ng_session.specs.Entries.{done_again, given_up};
+ghost use Rattle.ng_session.specs.SessionInvariant.{IsNextEntry};
 
 use crate::beginning::terms_over;
 use crate::current_block::CurrentBlock;
@@ -12,10 +15,10 @@ use crate::reply::Reply;
 use crate::session::Session;
 use ng_block::{Effect, Scratch, turned_off};
 use ng_canon::Geometry;
-use ng_layout::{DecodedState, GREATEST_COUNT, Half, Source, Stored};
+use ng_layout::{DecodedState, GREATEST_COUNT, Half, Source, Stored, Update};
 use ng_num::{Fault, Point};
 use ng_state::ModalState;
-use std::alloc::{AllocError, Allocator};
+use std::alloc::Allocator;
 
 /// What the line of a half-done block does from its beginning, executed in the scratch space, or its first fault.
 #[tactic(auto, unfolding(crate::specs::Entries::done_again))]
@@ -49,11 +52,21 @@ fn given_up(modal: &ModalState, half: &Half) -> ModalState
     }
 }
 
+/// An update of what a state field says alone.
+fn of_state_field(decoded: DecodedState) -> Update<'static>
+    ensures { result ≡ record { decoded = decoded; changes = []; slot = None } }
+{
+    Update {
+        decoded,
+        changes: &[],
+        slot: None,
+    }
+}
+
 impl<A: Allocator + Copy + Drop> Session<A> {
-    ghost use Rattle.std.specs.Prelude.{None, Some, IfNone, IfSome, true, ◌<◌, ◌+◌};
+    ghost use Rattle.std.specs.Prelude.{None, Some, IfNone, IfSome, true};
     ghost use Rattle.std.specs.Option.{is_some};
     ghost use Rattle.ng_text.specs.Programs.{next_line_start};
-    ghost use Rattle.ng_layout.specs.Stored.{DecodedStateModel};
     ghost use Rattle.ng_session.specs.Entries.{after_reference, after_abandon};
     ghost use Rattle.ng_session.specs.Session.{reference_refusal, abandon_refusal};
 
@@ -71,12 +84,12 @@ impl<A: Allocator + Copy + Drop> Session<A> {
         None
     }
 
-    /// What is to be stored after a reference to a point, in nm of machine coordinates. If a block is half-done, only
-    /// the point of that block's machine changes. The session stays as it is.
+    /// What a state field says after a reference to a point.
     #[tactic(auto, using(crate::proofs::StorableStateLemmas::reference_storable))]
-    pub fn referenced(&self, point: Point) -> DecodedState
+    fn referenced_state(&self, point: Point) -> DecodedState
         requires { self.now.stored.entries < greatest_count }
-        ensures value { with_decoded_state self.now.stored result self.now.stored.length ≡ after_reference self.now.stored point }
+        ensures value { with_decoded_state self.now.stored result self.now.stored.length
+            ≡ after_reference self.now.stored point }
         ensures count { result.entries ≡ self.now.stored.entries + 1 }
         ensures storable { IsStorable (with_decoded_state self.now.stored result self.now.stored.length) }
     {
@@ -107,6 +120,16 @@ impl<A: Allocator + Copy + Drop> Session<A> {
         }
     }
 
+    /// What a reference to a point, in nm of machine coordinates, changes of what is stored. If a block is half-done,
+    /// that is only the point of that block's machine. The session stays as it is.
+    pub fn referenced(&self, point: Point) -> Update<'static>
+        requires { self.now.stored.entries < greatest_count }
+        ensures value { updated self.now.stored result ≡ after_reference self.now.stored point }
+        ensures next { IsNextEntry self.now.stored result }
+    {
+        of_state_field(self.referenced_state(point))
+    }
+
     /// Why a half-done block can't be given up now: K1 if the session isn't at rest, K4 if no block is half-done.
     pub fn abandon_refusal(&self) -> Option<Fault>
         ensures { result ≡ abandon_refusal self.now }
@@ -120,24 +143,22 @@ impl<A: Allocator + Copy + Drop> Session<A> {
         None
     }
 
-    /// What is to be stored after the half-done block is given up: spindle stopped, coolant off, and the machine at the
-    /// point of that block's machine. If that isn't known, the machine's point no longer is. `None` if no block is
-    /// half-done. The session stays as it is.
-    #[tactic(auto, using(crate::proofs::StorableStateLemmas::abandon_storable))]
-    pub fn abandoned(&self) -> Option<DecodedState>
+    /// What changes of what is stored when the half-done block is given up: spindle stopped, coolant off, and the
+    /// machine at the point of that block's machine. If that isn't known, the machine's point no longer is. `None` if
+    /// no block is half-done. The session stays as it is.
+    pub fn abandoned(&self) -> Option<Update<'static>>
         requires { self.now.stored.entries < greatest_count }
-        ensures count { IfSome result (λ report. report.entries ≡ self.now.stored.entries + 1) }
-        ensures storable { IfSome result (λ report. IsStorable (with_decoded_state self.now.stored report self.now.stored.length)) }
         ensures value { MatchOption result (self.now.stored.half ≡ None)
-            (λ report. with_decoded_state self.now.stored report self.now.stored.length ≡ after_abandon self.now.stored) }
+            (λ update. updated self.now.stored update ≡ after_abandon self.now.stored) }
+        ensures next { IfSome result (IsNextEntry self.now.stored) }
     {
         match &self.stored.half {
-            Some(half) => Some(DecodedState {
+            Some(half) => Some(of_state_field(DecodedState {
                 entries: self.stored.entries + 1,
                 place: self.stored.place,
                 modal: given_up(&self.stored.state.modal, half),
                 half: None,
-            }),
+            })),
             None => None,
         }
     }
@@ -192,35 +213,21 @@ impl<A: Allocator + Copy + Drop> Session<A> {
         !(self.stored.entries < GREATEST_COUNT)
     }
 
-    /// Replaces what is stored by a report, and returns what was stored. Putting that back undoes it.
-    #[tactic(auto, using(crate::proofs::SessionInvariantLemmas::kept_report))]
-    pub fn exchange(&mut self, report: DecodedState) -> DecodedState
+    /// Goes on with an update, once that is stored.
+    #[tactic(auto, using(crate::proofs::SessionInvariantLemmas::kept_update))]
+    pub fn take(&mut self, update: &Update<'_>) -> Reply
         requires free { self.old.current ≡ None }
-        requires count { report.entries ≤ greatest_count }
-        requires storable { IsStorable (with_decoded_state self.old.stored report self.old.stored.length) }
-        ensures next { self.new ≡ record self.old { stored = with_decoded_state self.old.stored report self.old.stored.length } }
-        ensures before { result ≡ record {
-          entries = self.old.stored.entries;
-          place = self.old.stored.place;
-          modal = self.old.stored.setup.modal;
-          half = self.old.stored.half;
-        } }
+        requires count { self.old.stored.entries < greatest_count }
+        requires next { IsNextEntry self.old.stored update.now }
+        ensures reply { result ≡ Reply.Done update.now.decoded.entries }
+        ensures next { self.new ≡ record self.old { stored = updated self.old.stored update.now } }
     {
-        let before = DecodedState {
-            entries: self.stored.entries,
-            place: self.stored.place,
-            modal: self.stored.state.modal,
-            half: self.stored.half.take(),
-        };
-        self.stored.entries = report.entries;
-        self.stored.place = report.place;
-        self.stored.state.modal = report.modal;
-        self.stored.half = report.half;
-        before
+        self.stored.take_update(update);
+        Reply::Done(self.stored.entries)
     }
 
     /// The half-done block, if there is one.
-    fn waiting(&self) -> Option<Half>
+    pub(crate) fn waiting(&self) -> Option<Half>
         ensures { result ≡ self.now.stored.half }
     {
         match &self.stored.half {
@@ -231,38 +238,35 @@ impl<A: Allocator + Copy + Drop> Session<A> {
 
     /// Makes the half-done block go on, beginning with its approach. The next line of the program begins at the byte
     /// `next`. K1 if the session isn't at rest, K4 if no block is half-done, K3 if the point of its machine isn't
-    /// known, then its line's own faults. `AllocError` if there is no memory for the states after it and after its
-    /// approach. In all these cases nothing is changed.
-    #[tactic(auto, using(crate::proofs::SessionInvariantLemmas::kept_again))]
-    pub fn resume(&mut self, next: u64, geometry: &Geometry) -> Result<Reply, AllocError>
+    /// known, then its line's own faults. In all these cases nothing is changed. It doesn't allocate.
+    #[tactic(auto, using(crate::proofs::SessionInvariantLemmas::kept_ready))]
+    pub fn resume(&mut self, next: u64, geometry: &Geometry) -> Reply
         requires { next ≤ self.old.stored.length }
-        ensures stored { OnOk result (self.new.stored ≡ self.old.stored) }
-        ensures reply { IfOk result (λ reply. (program : List ℕ)
+        ensures stored { self.new.stored ≡ self.old.stored }
+        ensures reply { (program : List ℕ)
             → IfSome self.old.stored.half (λ half. next ≡ next_place_after program self.old.stored.place half.source)
-            → reply ≡ (resume geometry.now program self.old).reply) }
-        ensures next { OnOk result ((program : List ℕ)
+            → result ≡ (resume geometry.now program self.old).reply }
+        ensures next { (program : List ℕ)
             → IfSome self.old.stored.half (λ half. next ≡ next_place_after program self.old.stored.place half.source)
-            → self.new ≡ (resume geometry.now program self.old).next) }
-        ensures err { OnErr result (self.new ≡ self.old) }
-        ensures memory { OnErr result (resume_refusal geometry.now self.old ≡ None) }
+            → self.new ≡ (resume geometry.now program self.old).next }
     {
         if !self.is_at_rest() {
-            return Ok(Reply::Refused(Fault::Busy));
+            return Reply::Refused(Fault::Busy);
         }
         let Some(waiting) = self.waiting() else {
-            return Ok(Reply::Refused(Fault::NothingHalfDone));
+            return Reply::Refused(Fault::NothingHalfDone);
         };
         let half = &waiting;
         let Some(from) = half.at else {
-            return Ok(Reply::Refused(Fault::PlaceUnknown));
+            return Reply::Refused(Fault::PlaceUnknown);
         };
         let effect = match execute_again(&mut self.places, &self.stored, half, geometry) {
             Ok(effect) => effect,
-            Err(fault) => return Ok(Reply::Refused(fault)),
+            Err(fault) => return Reply::Refused(fault),
         };
-        let current = CurrentBlock::begun_again(&self.stored, half, from, next, effect)?;
+        let current = CurrentBlock::begun_again(&self.stored, half, from, next, effect);
         self.activity = self.activity.again(half.source);
         self.current = Some(current);
-        Ok(Reply::Going)
+        Reply::Going
     }
 }

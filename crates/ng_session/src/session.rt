@@ -23,7 +23,7 @@ pub struct Session<A: Allocator> {
     pub(crate) held: bool,
     pub(crate) optional_stop: bool,
     pub(crate) block_delete: bool,
-    pub(crate) current: Option<CurrentBlock<A>>,
+    pub(crate) current: Option<CurrentBlock>,
     /// The scratch space in which each line is executed.
     pub(crate) places: Scratch,
 }
@@ -31,7 +31,8 @@ pub struct Session<A: Allocator> {
 impl<A: Allocator> Model for Session<A> {
     ghost use Rattle.std.specs.Option.{option_map};
     ghost use Rattle.ng_session.specs.Session.{SessionModel};
-    ghost use Rattle.ng_session.specs.SessionInvariant.{IsSessionInvariant, block_of};
+    ghost use Rattle.ng_session.specs.KeptBlock.{block_on};
+    ghost use Rattle.ng_session.specs.SessionInvariant.{IsSessionInvariant};
 
     ghost Value = { SessionModel };
 
@@ -41,7 +42,7 @@ impl<A: Allocator> Model for Session<A> {
       held = s.held;
       optional_stop = s.optional_stop;
       block_delete = s.block_delete;
-      current = option_map block_of s.current;
+      current = option_map (block_on s.stored.setup.params) s.current;
     } };
 
     ghost invariant = { λ s. IsSessionInvariant s.stored s.current };

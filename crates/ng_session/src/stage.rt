@@ -1,8 +1,6 @@
 //! How far a block has got.
 use ng_cycles::MotionState;
-use ng_layout::Stored;
 use ng_num::Point;
-use std::alloc::Allocator;
 
 /// The way back to where a half-done block goes on, from the machine's point to the position and outputs there (own).
 #[derive(Clone, Copy)]
@@ -13,20 +11,13 @@ pub struct Approach {
     pub to: MotionState,
 }
 
-/// How far a block has got (own). While its approach isn't committed, `after` is what is to be stored after the
-/// approach. Contracts see a `Stage` of `specs/Stages.antt`, and that state separately.
-#[derive(Drop)]
-pub(crate) enum Stage<A: Allocator> {
+/// How far a block has got (own).
+#[derive(Clone, Copy)]
+pub(crate) enum Stage {
     /// Its approach opens next.
-    ToApproach {
-        approach: Approach,
-        after: Stored<A>,
-    },
+    ToApproach(Approach),
     /// Its approach is open.
-    OnApproach {
-        approach: Approach,
-        after: Stored<A>,
-    },
+    OnApproach(Approach),
     /// Its segments are worked.
     OnBlock,
 }

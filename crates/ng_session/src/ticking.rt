@@ -1,12 +1,12 @@
 //! The parts of a Tick: an item, an approach, a segment, an entry.
 ghost use Rattle.std.specs.Prelude.{◌≡◌, ◌≤◌, ◌<◌, List, ℕ, None, Some, MatchOption, IfSome, IfNone};
 ghost use Rattle.ng_layout.specs.Limits.{greatest_count};
+ghost use Rattle.ng_layout.specs.Update.{updated};
 
-use crate::current_block::CurrentBlock;
 use crate::reply::Reply;
 use crate::session::Session;
 use ng_canon::{Geometry, Item};
-use ng_layout::{Half, Opened, Stored};
+use ng_layout::{Half, Opened, Update};
 use std::alloc::Allocator;
 
 impl<A: Allocator + Copy + Drop> Session<A> {
@@ -14,9 +14,7 @@ impl<A: Allocator + Copy + Drop> Session<A> {
     ghost use Rattle.ng_layout.specs.Storable.{IsStorableHalf};
     ghost use Rattle.ng_canon.specs.declared.geometry.Geometry.{Geometry};
     ghost use Rattle.ng_session.specs.SessionInvariant.{IsNextEntry};
-    ghost use Rattle.ng_session.specs.Session.{CurrentBlockModel, answers, tick, is_running, item_of, handed, opening_of, opening_reply, opened, committed, activity_after, after_current_block, rest};
-    ghost use Rattle.ng_session.specs.SessionInvariant.{IsReady};
-    ghost use Rattle.ng_session.specs.Stages.{OnBlock};
+    ghost use Rattle.ng_session.specs.Session.{CurrentBlockModel, answers, tick, is_running, item_of, handed, opening_of, opening_reply, opened, committed, rest};
 
     /// Whether the session is held. Then a Tick moves, opens, commits and begins nothing.
     pub fn is_held(&self) -> bool
@@ -79,15 +77,15 @@ impl<A: Allocator + Copy + Drop> Session<A> {
         }
     }
 
-    /// What is to be stored once nothing is left of the current block, or of its approach if that isn't committed.
-    /// `None` if no block is current. The session stays as it is.
-    pub fn after(&self) -> Option<&Stored<A>>
-        ensures after { MatchOption result (self.now.current ≡ None) (λ stored. (c : CurrentBlockModel)
-            × (self.now.current ≡ Some c) × (stored.now ≡ (committed self.now c).stored)) }
-        ensures next { IfSome result (λ stored. IsNextEntry self.now.stored stored.now) }
+    /// What changes of what is stored once nothing is left of the current block, or of its approach if that isn't
+    /// committed. `None` if no block is current. The session stays as it is.
+    pub fn after(&self) -> Option<Update<'_>>
+        ensures after { MatchOption result (self.now.current ≡ None) (λ update. (c : CurrentBlockModel)
+            × (self.now.current ≡ Some c) × (updated self.now.stored update ≡ (committed self.now c).stored)) }
+        ensures next { IfSome result (IsNextEntry self.now.stored) }
     {
         match &self.current {
-            Some(current) => Some(current.next_stored()),
+            Some(current) => Some(current.update(&self.stored)),
             None => None,
         }
     }
@@ -102,43 +100,18 @@ impl<A: Allocator + Copy + Drop> Session<A> {
         ensures rest_reply { (program : List ℕ) → self.old.current ≡ None → result ≡ (rest program self.old).reply }
         ensures rest_next { self.old.current ≡ None → self.new ≡ self.old }
     {
-        let Some(mut current) = self.current.take() else {
+        let Some(current) = &mut self.current else {
             return self.rest();
         };
-        match current.end_approach() {
-            Some(between) => self.go_on(current, between),
-            None => self.end_block(current),
+        let update = current.update(&self.stored);
+        self.stored.take_update(&update);
+        if !current.end_approach() {
+            let source = current.source;
+            let stop = current.stop;
+            self.activity = self.activity.after(source, stop, self.optional_stop);
+            self.current = None;
         }
         Reply::Done(self.stored.entries)
-    }
-
-    /// Goes on after the block that was taken from the session.
-    fn end_block(&mut self, current: CurrentBlock<A>)
-        requires count { self.old.stored.entries < greatest_count }
-        requires none { self.old.current ≡ None }
-        requires ready { IsReady self.old.stored current }
-        ensures { self.new ≡ record self.old {
-          stored = after_current_block self.old.stored current.block;
-          activity = activity_after current.block.source current.block.stop self.old.optional_stop self.old.activity;
-        } }
-    {
-        self.activity = self
-            .activity
-            .after(current.source, current.stop, self.optional_stop);
-        self.stored = current.after;
-    }
-
-    /// Goes on with the block that was taken from the session, after its approach, once `between` is stored.
-    #[tactic(auto, using(crate::proofs::SessionInvariantLemmas::kept_between))]
-    fn go_on(&mut self, current: CurrentBlock<A>, between: Stored<A>)
-        requires count { self.old.stored.entries < greatest_count }
-        requires stage { current.block.stage ≡ OnBlock }
-        requires next { IsNextEntry self.old.stored between }
-        requires ready { IsReady between current }
-        ensures { self.new ≡ record self.old { stored = between; current = Some current.block } }
-    {
-        self.stored = between;
-        self.current = Some(current);
     }
 
     /// The reply of a session that has nothing to do.

@@ -1,10 +1,14 @@
 //! How a tool's length is put into a slot of the table (own).
-ghost use Rattle.std.specs.Prelude.{◌≡◌, ◌≤◌};
+ghost use Rattle.std.specs.Prelude.{◌≡◌, ◌<◌};
 ghost use Rattle.ng_layout.specs.Limits.{greatest_count};
 ghost use Rattle.ng_offsets.specs.Tools.{is_tool_length};
+ghost use Rattle.ng_layout.specs.Update.{updated};
+ghost use Rattle.ng_session.specs.Entries.{after_tool};
+ghost use Rattle.ng_session.specs.SessionInvariant.{IsNextEntry};
 
 use crate::session::Session;
-use ng_block::{SLOTS, Tools};
+use ng_block::SLOTS;
+use ng_layout::{DecodedState, Update};
 use ng_num::{Fault, Len};
 use ng_offsets::SlotChange;
 use std::alloc::Allocator;
@@ -22,7 +26,6 @@ fn is_tool_length(tool_length: Len) -> bool
 
 impl<A: Allocator + Copy + Drop> Session<A> {
     ghost use Rattle.std.specs.Prelude.{None, IfNone, true};
-    ghost use Rattle.ng_offsets.specs.Tools.{with_slot, IsOneSlotFrom};
     ghost use Rattle.ng_layout.specs.Tools.{takes_slot};
     ghost use Rattle.ng_session.specs.Session.{accepts_load, tool_refusal};
 
@@ -53,34 +56,28 @@ impl<A: Allocator + Copy + Drop> Session<A> {
         1 <= slot && slot <= self.stored.tools.slots() + 1 && slot <= SLOTS
     }
 
-    /// The table with a length in a slot. The session stays as it is.
-    #[tactic(auto, using(crate::proofs::ToolSlotLemmas::slot_valid, crate::proofs::ToolSlotLemmas::slot_most, crate::proofs::ToolSlotLemmas::tool_within))]
-    pub fn tools_with(&self, slot: u16, tool_length: Len) -> Tools
+    /// What a length in a slot of the table changes of what is stored. The length in force stays. The session stays as
+    /// it is.
+    #[tactic(auto, using(crate::proofs::ToolSlotLemmas::slot_most))]
+    pub fn tooled(&self, slot: u16, tool_length: Len) -> Update<'static>
+        requires count { self.now.stored.entries < greatest_count }
         requires slot { takes_slot self.now.stored.tools slot ≡ true }
         requires tool { is_tool_length tool_length ≡ true }
-        ensures value { result ≡ with_slot (record { slot = slot; length = tool_length }) self.now.stored.tools }
-        ensures one { IsOneSlotFrom self.now.stored.tools result }
+        ensures value { updated self.now.stored result ≡ after_tool self.now.stored slot tool_length }
+        ensures next { IsNextEntry self.now.stored result }
     {
-        let mut tools = self.stored.tools.copy();
-        tools.set(SlotChange {
-            slot: slot as u8,
-            length: tool_length,
-        });
-        tools
-    }
-
-    /// Replaces the stored tool table and number of entries, and returns the old table. Replacing these again by the
-    /// old ones undoes it. Nothing is allocated.
-    #[tactic(auto, using(crate::proofs::SessionInvariantLemmas::kept_tools))]
-    pub fn exchange_tools(&mut self, tools: Tools, entries: u64) -> Tools
-        requires free { self.old.current ≡ None }
-        requires count { entries ≤ greatest_count }
-        ensures next { self.new ≡ record self.old { stored = record self.old.stored { entries = entries; tools = tools } } }
-        ensures before { result ≡ self.old.stored.tools }
-    {
-        // Called for its contract: a table has at most 128 slots, and no more are stored.
-        let _ = tools.slots();
-        self.stored.entries = entries;
-        std::mem::replace(&mut self.stored.tools, tools)
+        Update {
+            decoded: DecodedState {
+                entries: self.stored.entries + 1,
+                place: self.stored.place,
+                modal: self.stored.state.modal,
+                half: self.waiting(),
+            },
+            changes: &[],
+            slot: Some(SlotChange {
+                slot: slot as u8,
+                length: tool_length,
+            }),
+        }
     }
 }

@@ -1,29 +1,18 @@
-use Rattle.std.proofs.Common.{Option, refl, ap, subst}
-use Rattle.std.specs.Prelude.{IfSome}
+use Rattle.std.proofs.Common.{refl, ap}
 use Rattle.std.specs.Option.{option_map}
+use Rattle.ng_session.specs.KeptBlock.{block_on}
 use Rattle.ng_session.specs.Session.{SessionModel}
-use Rattle.ng_session.specs.SessionInvariant.{Prepared, block_of, IsReadyOn}
-use Rattle.ng_session.proofs.SessionInvariantLemmas.{next_is}
 use Rattle.ng_session.proofs.session.Session.after.Goals as goal
 
 pub returns-in-Some-clause-after : goal.returns-in-Some-clause-after
 returns-in-Some-clause-after g c =
-    let current = c.in-Some.current in
-    let ready : IsReadyOn c.self.inside.stored current current.block.stage =
-    subst (λ (o : Option Prepared). IfSome o (λ p. IsReadyOn c.self.inside.stored p p.block.stage)) c.in-Some.is
-    c.self.invariant.next in
+    let x = c.self.inside.stored in
     let s : SessionModel = record {
-      stored = c.self.inside.stored;
+      stored = x;
       activity = c.self.inside.activity;
-      held =
-          c.self.inside.held;
+      held = c.self.inside.held;
       optional_stop = c.self.inside.optional_stop;
       block_delete = c.self.inside.block_delete;
-      current = option_map block_of c.self.inside.current;
+      current = option_map (block_on x.setup.params) c.self.inside.current;
     } in
-    rw (← c.self.view_is) (
-      current.block,
-      ap (option_map block_of) c.in-Some.is,
-      next_is s current current.block.stage c.next_stored.result.now refl ready c.next_stored.ensures.block
-          c.next_stored.ensures.between,
-    )
+    rw (← c.self.view_is) (block_on x.setup.params c.in-Some.current, ap (option_map (block_on x.setup.params)) c.in-Some.is, c.update.ensures.value s refl)

@@ -1,0 +1,12 @@
+use Rattle.std.proofs.Common.{ap, subst, rules}
+use Rattle.ng_layout.specs.Storable.{IsStorable}
+use Rattle.ng_layout.specs.Update.{UpdateModel}
+use Rattle.ng_session.specs.Session.{SessionModel}
+use Rattle.ng_session.proofs.NextEntryLemmas.{abandon_next}
+use Rattle.ng_session.proofs.session.Session.abandoned.Goals as goal
+
+pub returns-in-Some-clause-next : goal.returns-in-Some-clause-next
+returns-in-Some-clause-next g c =
+    abandon_next c.args.self.now.stored c.of_state_field.result c.in-Some.half
+    (subst (λ (s : SessionModel). IsStorable s.stored) c.self.view_is c.self.invariant.storable)
+    (search rules) (ap (λ (u : UpdateModel). u.changes) c.of_state_field.ensures) (ap (λ (u : UpdateModel). u.slot) c.of_state_field.ensures) (search rules)

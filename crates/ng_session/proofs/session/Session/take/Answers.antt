@@ -1,0 +1,9 @@
+use Rattle.std.proofs.Common.{sym, subst}
+use Rattle.std.specs.Option.{ForSome}
+use Rattle.ng_layout.specs.Storable.{IsStorableChange}
+use Rattle.ng_session.specs.Session.{SessionModel}
+use Rattle.ng_session.proofs.session.Session.take.Goals as goal
+
+pub take_update-requires : goal.take_update-requires
+take_update-requires g c =
+    subst (λ (s : SessionModel). ForSome c.args.update.now.slot (IsStorableChange s.stored.tools)) (sym c.self.view_is) c.requires.next.slot
