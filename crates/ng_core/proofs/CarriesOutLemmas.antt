@@ -7,7 +7,7 @@ use Rattle.ng_num.specs.declared.fault.Fault.{Fault}
 use Rattle.ng_num.specs.declared.fault.Fault.TheVariants.{DeviceFailed, CountersUsed, OutOfMemory}
 use Rattle.ng_canon.specs.declared.item.Item.{Item}
 use Rattle.ng_rig.specs.Rig.{Device}
-use Rattle.ng_journal.specs.Journal.{JournalModel, CountsFailure, IsBrokenBy}
+use Rattle.ng_journal.specs.Journal.{JournalModel, JournalCall}
 use Rattle.ng_journal.specs.Storing.{Ledger, ledger_of}
 use Rattle.ng_session.specs.Session.{CurrentBlockModel, SessionModel, Transition, IsBetweenLines, has_work}
 use Rattle.ng_session.specs.Session.{is_running, refuses, answers, tick, open_next, item_of, handed, opening_of}
@@ -22,14 +22,14 @@ use Rattle.ng_core.proofs.AnyDeviceLemmas.{stays_same, unless_lost, comes_by, co
 use Rattle.ng_core.proofs.HonestCallLemmas.{MakesIfHonest, calls_none, calls_on, calls_quiet, ledger_on, ledger_quiet}
 use Rattle.ng_core.proofs.TickChoiceLemmas.{with_session, does_item}
 use Rattle.ng_core.proofs.HonestEventLemmas.{does_still, does_aside}
-use Rattle.ng_core.proofs.ProgramInForceLemmas.{keeps_same, keeps_unwritten, reads_on, reads_still, reads_aside, reads_lost, reads_unstored, reads_item}
+use Rattle.ng_core.proofs.ProgramInForceLemmas.{keeps_same, reads_on, reads_still, reads_aside, reads_lost, reads_unstored, reads_item}
 use Rattle.ng_core.proofs.EventCauseLemmas.{hindered_as, busy_block, busy_unread}
 use Rattle.ng_core.proofs.QuietEventLemmas.{IsStill, still}
 use Rattle.ng_core.proofs.TickLemmas.{does_on, does_held, tick_held, tick_item, tick_none}
 
 -- what a Tick needs
 abbrev needs_of_tick : SessionModel → Needs
-needs_of_tick s = needs ((s.held ≡ false) × IsBetweenLines s) ((s.held ≡ false) × (has_work s ≡ true)) ((s.held ≡ false) × IsBetweenLines s)
+needs_of_tick s = needs ⊥ ((s.held ≡ false) × (has_work s ≡ true)) ((s.held ≡ false) × IsBetweenLines s)
 
 module _ {R : Type 0} (seen : R → Device) where
   -- ---- equal controllers and outcomes
@@ -136,16 +136,13 @@ module _ {R : Type 0} (seen : R → Device) where
   -- ---- the device is called
 
   -- to store something: a counter is used up, or the device failed
-  pub carried_failed : (memory device reads : Type 0) (fault e : Fault) (out : List ℕ → Transition) (old new : ControllerModel R)
+  pub carried_failed : {T : Type 0} (memory device reads : Type 0) (fault e : Fault) (out : List ℕ → Transition) (old new : ControllerModel R)
       → fault ≡ e → IsCarriedOutIfHonest seen (Err e) out old new → MakesIfHonest seen (Err e) out old new
       → (e ≡ CountersUsed) ⊎ (e ≡ DeviceFailed) → (e ≡ CountersUsed → new.journal ≡ old.journal)
       → new.geometry ≡ old.geometry → new.session ≡ old.session → new.lines ≡ old.lines
-      → IsCausedBy memory device (ledger_of old.journal) out e
-      → IsBrokenBy {T = Reply} (Err e) new.journal.broken
-      → (seen new.journal.rig).sectors ≡ (seen old.journal.rig).sectors
-      → CountsFailure {T = Reply} (Err e) (seen old.journal.rig).failed (seen new.journal.rig).failed
+      → IsCausedBy memory device (ledger_of old.journal) out e → JournalCall {T = T} seen (Err e) old.journal new.journal
       → CarriesOut seen (needs memory device reads) out (Err fault) old new
-  carried_failed memory device reads fault e out old new is does made which unchanged geometry kept lines hindered broken size failures =
+  carried_failed memory device reads fault e out old new is does made which unchanged geometry kept lines hindered call =
       let there : CarriesOut seen (needs memory device reads) out (Err e) old new = record {
         does = does;
         calls = λ h program. record {
@@ -157,24 +154,21 @@ module _ {R : Type 0} (seen : R → Device) where
         line = λ read. tt;
         ledger = tt;
         hindered = hindered;
-        broken = broken;
+        broken = call.broken;
         geometry = geometry;
-        size = size;
-        failures = failures;
+        size = call.size;
+        failures = call.failures;
       } in
       subst (λ (f : Fault). CarriesOut seen (needs memory device reads) out (Err f) old new) (sym is) there
 
   -- for something that uses up no counter, and the device failed
-  pub carried_lost : (memory device reads : Type 0) (fault e : Fault) (out : List ℕ → Transition) (old new : ControllerModel R)
+  pub carried_lost : {T : Type 0} (memory device reads : Type 0) (fault e : Fault) (out : List ℕ → Transition) (old new : ControllerModel R)
       → fault ≡ e → IsCarriedOutIfHonest seen (Err e) out old new → CallsIfHonest seen (Err e) out old new
       → e ≡ DeviceFailed → device → ((program : List ℕ) → UsesUpCounter (ledger_of old.journal) (out program)
       → ⊥)
-      → new.geometry ≡ old.geometry → new.session ≡ old.session
-      → IsBrokenBy {T = Reply} (Err e) new.journal.broken
-      → (seen new.journal.rig).sectors ≡ (seen old.journal.rig).sectors
-      → CountsFailure {T = Reply} (Err e) (seen old.journal.rig).failed (seen new.journal.rig).failed
+      → new.geometry ≡ old.geometry → new.session ≡ old.session → JournalCall {T = T} seen (Err e) old.journal new.journal
       → CarriesOut seen (needs memory device reads) out (Err fault) old new
-  carried_lost memory device reads fault e out old new is does calls lost asked unused geometry kept broken size failures =
+  carried_lost memory device reads fault e out old new is does calls lost asked unused geometry kept call =
       let there : CarriesOut seen (needs memory device reads) out (Err e) old new = record {
         does = does;
         calls = calls;
@@ -183,36 +177,12 @@ module _ {R : Type 0} (seen : R → Device) where
         line = λ read. tt;
         ledger = tt;
         hindered = inr (inr (lost, asked, unused));
-        broken = broken;
+        broken = call.broken;
         geometry = geometry;
-        size = size;
-        failures = failures;
+        size = call.size;
+        failures = call.failures;
       } in
       subst (λ (f : Fault). CarriesOut seen (needs memory device reads) out (Err f) old new) (sym is) there
-
-  -- for a line of the program, and then there was no memory
-  pub carried_read : (memory device reads : Type 0) (fault : Fault) (out : List ℕ → Transition) (old new : ControllerModel R)
-      → fault ≡ OutOfMemory → memory → IsCarriedOutIfHonest seen (Err fault) out old new
-      → ((seen old.journal.rig).honest → (seen new.journal.rig).trace ≡ (seen old.journal.rig).trace)
-      → new.geometry ≡ old.geometry → new.session ≡ old.session → new.lines ≡ old.lines
-      → ledger_of new.journal ≡ ledger_of old.journal → ((reads → ⊥) → new.journal ≡ old.journal)
-      → new.journal.broken ≡ false → (seen new.journal.rig).sectors ≡ (seen old.journal.rig).sectors
-      → (seen new.journal.rig).failed ≡ (seen old.journal.rig).failed
-      → CarriesOut seen (needs memory device reads) out (Err fault) old new
-  carried_read memory device reads fault out old new is taken does unwritten geometry kept lines ledger unread whole size failures = record {
-    does = does;
-    calls = calls_none seen fault out old new unwritten;
-    reads = reads_aside seen fault out old new (inl is) kept lines
-        (keeps_unwritten seen old.journal new.journal unwritten ledger);
-    comes = record { status = ap session_status kept; session = λ other. kept; ledger = λ other. ledger; journal = λ other none. unread none };
-    line = λ read. tt;
-    ledger = tt;
-    hindered = inl (is, taken);
-    broken = subst (λ (f : Fault). IsBrokenBy {T = Reply} (Err f) new.journal.broken) (sym is) whole;
-    geometry = geometry;
-    size = size;
-    failures = subst (λ (f : Fault). CountsFailure {T = Reply} (Err f) (seen old.journal.rig).failed (seen new.journal.rig).failed) (sym is) failures;
-  }
 
   -- ---- a Tick
 
@@ -275,7 +245,7 @@ module _ {R : Type 0} (seen : R → Device) where
         ledger = ledger_on seen answer (λ program. handing item program taken) (λ program. tick old.geometry program old.session) old new
             (λ program. ap (handing item program) next ∙ sym (tick_item old.geometry program old.session item held (sym is))) c.ledger;
         hindered = IfErr-weaker answer (λ e. e ≡ DeviceFailed)
-            (IsCausedBy ((old.session.held ≡ false) × IsBetweenLines old.session) ((old.session.held ≡ false)
+            (IsCausedBy ⊥ ((old.session.held ≡ false)
             × (has_work old.session ≡ true)) ledger (λ program. tick old.geometry program old.session))
             (λ e lost. inr (inr (
               lost,
@@ -293,11 +263,11 @@ module _ {R : Type 0} (seen : R → Device) where
       → CarriesOut seen (needs_of_work left) (λ program. open_next old.geometry program left (opening_of left.current)) answer (with_session old left) new
       → CarriesOut seen (needs_of_tick old.session) (λ program. tick old.geometry program old.session) answer old new
   carried_further answer old new left held none same c =
-      carried_to (IsBetweenLines old.session) ((old.session.held ≡ false) × IsBetweenLines old.session)
+      carried_to ⊥ ⊥
       (has_work old.session ≡ true) ((old.session.held ≡ false) × (has_work old.session ≡ true))
       (IsBetweenLines old.session) ((old.session.held ≡ false) × IsBetweenLines old.session)
       (λ program. open_next old.geometry program old.session (opening_of old.session.current)) (λ program. tick old.geometry program old.session) answer old new
-      (λ p. (held, p)) (λ b. (held, b)) (λ p. (held, p)) (λ read. read.1) (λ program. sym (tick_none old.geometry program old.session held (sym none)))
+      (λ m. m) (λ b. (held, b)) (λ p. (held, p)) (λ read. read.1) (λ program. sym (tick_none old.geometry program old.session held (sym none)))
       (subst (λ (s : SessionModel). CarriesOut seen (needs_of_work s)
       (λ program. open_next old.geometry program s (opening_of s.current)) answer (with_session old s) new) same
       c)

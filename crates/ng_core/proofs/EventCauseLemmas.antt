@@ -21,8 +21,8 @@ use Rattle.ng_session.specs.Session.{load_unless, load_refusal, reference, refer
 use Rattle.ng_session.specs.Session.{abandon, abandon_unless, abandon_refusal, tool, tool_unless, tool_refusal}
 use Rattle.ng_session.specs.Session.{refuses, resume, resume_half, resume_from, resume_by, is_at_rest}
 use Rattle.ng_session.specs.Session.{IsBetweenLines, opening_of, opening_reply, entry_on, committed}
-use Rattle.ng_session.specs.Stages.{Stage}
-use Rattle.ng_session.specs.Stages as stage
+use Rattle.ng_session.specs.declared.stage.Stage.{Stage}
+use Rattle.ng_session.specs.declared.stage.Stage.TheVariants as stage
 use Rattle.ng_core.specs.Causes.{UsesUpCounter, IsCausedBy, stored_for, with_entry}
 use Rattle.ng_core.proofs.TickLemmas.{IsDue, opening}
 

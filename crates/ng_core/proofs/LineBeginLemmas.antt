@@ -1,7 +1,7 @@
 -- A line of the program is begun, from the contracts of the reads before it.
-use Rattle.std.proofs.Common.{◌≡◌, inl, ℕ, true, List, Option, Some, Result, Ok, Err, refl, sym, ◌∙◌, ap, subst}
+use Rattle.std.proofs.Common.{◌≡◌, ℕ, true, List, Option, Some, Result, Ok, Err, refl, sym, ◌∙◌, ap, subst}
 use Rattle.ng_num.specs.declared.fault.Fault.{Fault}
-use Rattle.ng_num.specs.declared.fault.Fault.TheVariants.{DeviceFailed, OutOfMemory}
+use Rattle.ng_num.specs.declared.fault.Fault.TheVariants.{DeviceFailed}
 use Rattle.ng_words.specs.declared.start.LineKind.{LineKind}
 use Rattle.ng_words.specs.declared.start.LineKind.TheVariants.{Blank}
 use Rattle.ng_rig.specs.Rig.{Device}
@@ -21,7 +21,7 @@ use Rattle.ng_text.specs.declared.lines_before.LinesBefore.{LinesBefore}
 use Rattle.ng_session.specs.declared.reply.Reply.{Reply}
 use Rattle.ng_core.specs.Model.{ControllerModel, durable_state_of}
 use Rattle.ng_core.specs.Events.{IsAnsweredBy, IsAnsweredByLine, by_line, IsCarriedOutIfHonest}
-use Rattle.ng_core.proofs.EventCallLemmas.{known_as, acts_read, acts_aside, acts_unread}
+use Rattle.ng_core.proofs.EventCallLemmas.{known_as, acts_read, acts_unread}
 use Rattle.ng_core.proofs.ProgramExistsLemmas.{has_kind}
 use Rattle.ng_core.proofs.QuietEventLemmas.{still_begin}
 
@@ -130,20 +130,6 @@ begun_line r out first line place old new runs at beginning replied next ledger 
       comes = subst (λ (o : Transition). IsAnsweredBy (Ok r) o old new) (sym (by_running out old found.0 line runs)) (replied found.0 kind, next found.0 kind);
       ledger = ledger;
     }
-
--- there was no memory for the state after the line
-pub does_begin_short : {R : Type 0} (seen : R → Device) (fault : Fault) (first : LineKind)
-    (line : Option ProgramLineModel) (place : ℕ) (out : List ℕ → Transition) (old new : ControllerModel R)
-    → FindingBoth seen first line old.lines place old.journal new.journal → fault ≡ OutOfMemory → new.session ≡ old.session → new.lines ≡ old.lines
-    → IsCarriedOutIfHonest seen (Err fault) out old new
-does_begin_short seen fault first line place out old new p is same lines = record {
-  keeps = p.keeps;
-  back = p.back;
-  holds = λ h program rests.
-      let f = p.holds h (durable_state_of program old.session) rests.0 rests.1 in
-      acts_aside fault (out program) program old new (seen old.journal.rig).trace (seen new.journal.rig).trace
-      (inl is) f.same same f.at (known_as program program old.lines new.lines refl lines rests.1);
-}
 
 -- the device failed in the first read, or in the second
 pub does_begin_unfound : {R E : Type 0} (seen : R → Device) (fault : Fault) (e : E) (place : ℕ) (out : List ℕ → Transition) (old new : ControllerModel R)

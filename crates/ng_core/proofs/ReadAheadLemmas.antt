@@ -13,7 +13,7 @@ use Rattle.ng_rig.proofs.GuaranteeLemmas.{meaning}
 use Rattle.ng_text.specs.LinesBefore.{IsTrueOf}
 use Rattle.ng_text.specs.Percent.{first_kind}
 use Rattle.ng_text.specs.Programs.{ProgramLineModel, program_line_at, lines_before}
-use Rattle.ng_journal.specs.Journal.{JournalModel, IsDurablyAt, IsBrokenBy, CountsFailure}
+use Rattle.ng_journal.specs.Journal.{JournalModel, JournalCall, IsDurablyAt, IsBrokenBy, CountsFailure}
 use Rattle.ng_journal.specs.Storing.{Ledger, ledger_of}
 use Rattle.ng_canon.specs.declared.geometry.Geometry.{Geometry}
 use Rattle.ng_session.specs.Entries.{done_of}
@@ -98,7 +98,7 @@ module _ {R : Type 0} (seen : R → Device) where
       ahead.0
 
   finding_ahead : (old new : KnownModel) (p : PlannedModel) (journal : JournalModel R) → old.ahead ≡ p ∷ new.ahead
-      → FindingBoth seen p.first (Some (record { text = p.prepared.block.text; next = p.next })) old p.place journal journal
+      → FindingBoth seen p.first (Some (record { text = p.block.text; next = p.next })) old p.place journal journal
   finding_ahead old new p journal front = record {
     keeps = λ h. h;
     back = λ h. h;
@@ -109,7 +109,7 @@ module _ {R : Type 0} (seen : R → Device) where
 
   -- it is a line of the program in force
   ahead_in_force : (old new : KnownModel) (p : PlannedModel) (journal : JournalModel R) → old.ahead ≡ p ∷ new.ahead
-      → FindingInForce seen p.first (Some (record { text = p.prepared.block.text; next = p.next })) old p.place journal
+      → FindingInForce seen p.first (Some (record { text = p.block.text; next = p.next })) old p.place journal
   ahead_in_force old new p journal front = λ h program held known.
       let line = first_line program old new p front known in
       (line.kind, sym line.line)
@@ -120,7 +120,7 @@ module _ {R : Type 0} (seen : R → Device) where
       → CarriesOut seen needs_line (λ program. begin old.geometry program old.session (program_line_at program old.session.stored.place)) (Ok told) old new
   carried_ahead told old new whole runs same geometry b =
       let p = b.planned in
-      let line : ProgramLineModel = record { text = p.prepared.block.text; next = p.next } in
+      let line : ProgramLineModel = record { text = p.block.text; next = p.next } in
       let found : FindingBoth seen p.first (Some line) old.lines p.place old.journal new.journal =
       subst (λ (j : JournalModel R). FindingBoth seen p.first (Some line) old.lines p.place old.journal j)
       (sym same) (finding_ahead old.lines new.lines p old.journal b.front) in
@@ -162,24 +162,20 @@ module _ {R : Type 0} (seen : R → Device) where
     session = refl;
     ledger = refl;
     errors = tt;
-    broken = whole;
     geometry = refl;
-    size = refl;
-    failures = refl;
+    call = record { size = refl; failures = refl; broken = whole };
   }
 
   -- both reads succeeded
-  pub plans_found : (first : LineKind) (line : Option ProgramLineModel) (place : ℕ) (old new : ControllerModel R)
+  pub plans_found : {T : Type 0} (v : T) (first : LineKind) (line : Option ProgramLineModel) (place : ℕ) (old new : ControllerModel R)
       → FindingBoth seen first line old.lines place old.journal new.journal
       → FindingInForce seen first line old.lines place old.journal
       → ((program : List ℕ) → IsKnownOf program old.lines → line ≡ program_line_at program place
       → first ≡ first_kind (lines_before program place) → IsKnownOf program new.lines)
       → ((seen old.journal.rig).honest → (seen new.journal.rig).trace ≡ (seen old.journal.rig).trace)
       → new.session ≡ old.session → new.geometry ≡ old.geometry → ledger_of new.journal ≡ ledger_of old.journal
-      → new.journal.broken ≡ false
-      → (seen new.journal.rig).sectors ≡ (seen old.journal.rig).sectors
-      → (seen new.journal.rig).failed ≡ (seen old.journal.rig).failed → PlansAhead seen (Ok tt) old new
-  plans_found first line place old new p finding known unwritten same geometry ledger whole size failures = record {
+      → JournalCall seen (Ok v) old.journal new.journal → PlansAhead seen (Ok tt) old new
+  plans_found v first line place old new p finding known unwritten same geometry ledger call = record {
     reads = λ h program has.
         let found = finding h program has.0 has.1 in
         let keeps = keeps_unwritten seen old.journal new.journal unwritten ledger in
@@ -198,21 +194,17 @@ module _ {R : Type 0} (seen : R → Device) where
     session = same;
     ledger = ledger;
     errors = tt;
-    broken = whole;
     geometry = geometry;
-    size = size;
-    failures = failures;
+    call = record { size = call.size; failures = call.failures; broken = call.broken };
   }
 
   -- the device failed
-  pub plans_lost : (fault e : Fault) (old new : ControllerModel R) → fault ≡ e
+  pub plans_lost : {T : Type 0} (fault e : Fault) (old new : ControllerModel R) → fault ≡ e
       → IfHonest (seen old.journal.rig) (seen new.journal.rig) ((seen new.journal.rig).trace ≡ (seen old.journal.rig).trace)
       → e ≡ DeviceFailed → new.session ≡ old.session → new.geometry ≡ old.geometry
-      → ledger_of new.journal ≡ ledger_of old.journal → IsBrokenBy {T = Unit {0}} (Err e) new.journal.broken
-      → (seen new.journal.rig).sectors ≡ (seen old.journal.rig).sectors
-      → CountsFailure {T = Unit {0}} (Err e) (seen old.journal.rig).failed (seen new.journal.rig).failed
+      → ledger_of new.journal ≡ ledger_of old.journal → JournalCall {T = T} seen (Err e) old.journal new.journal
       → PlansAhead seen (Err fault) old new
-  plans_lost fault e old new is p lost same geometry ledger broken size failures =
+  plans_lost fault e old new is p lost same geometry ledger call =
       subst (λ (f : Fault). PlansAhead seen (Err f) old new) (sym is) (record {
         does = meaning p (λ still program rests. tt);
         reads = λ h program has. tt;
@@ -220,10 +212,8 @@ module _ {R : Type 0} (seen : R → Device) where
         session = same;
         ledger = ledger;
         errors = lost;
-        broken = broken;
         geometry = geometry;
-        size = size;
-        failures = failures;
+        call = record { size = call.size; failures = call.failures; broken = call.broken };
       })
 
   -- ---- a line is begun, and then more are planned
@@ -265,10 +255,10 @@ module _ {R : Type 0} (seen : R → Device) where
     ledger = λ program. subst (λ (l : Ledger). IsKeptAfter (stored_for (out program) (out program).reply)
         (seen old.journal.rig).sectors (ledger_of old.journal) l) (sym p.ledger) (c.ledger program);
     hindered = tt;
-    broken = p.broken;
+    broken = p.call.broken;
     geometry = p.geometry ∙ c.geometry;
-    size = p.size ∙ c.size;
-    failures = p.failures ∙ c.failures;
+    size = p.call.size ∙ c.size;
+    failures = p.call.failures ∙ c.failures;
   }
 
   -- what the status shows is unchanged when a line is begun
@@ -327,11 +317,11 @@ module _ {R : Type 0} (seen : R → Device) where
           λ program used. unused_begin old.geometry program old.session
               (program_line_at program old.session.stored.place) (ledger_of old.journal) used,
         ));
-        broken = subst (λ (f : Fault). IsBrokenBy {T = Reply} (Err f) new.journal.broken) (sym is) p.broken;
+        broken = subst (λ (f : Fault). IsBrokenBy {T = Reply} (Err f) new.journal.broken) (sym is) p.call.broken;
         geometry = p.geometry ∙ c.geometry;
-        size = p.size ∙ c.size;
+        size = p.call.size ∙ c.size;
         failures = subst (λ (f : Fault). CountsFailure {T = Reply} (Err f) (seen old.journal.rig).failed (seen new.journal.rig).failed) (sym is)
-            (subst (λ (n : ℕ). CountsFailure {T = Reply} (Err e) n (seen new.journal.rig).failed) c.failures p.failures);
+            (subst (λ (n : ℕ). CountsFailure {T = Reply} (Err e) n (seen new.journal.rig).failed) c.failures p.call.failures);
       }
 
 -- an event after which the lines read ahead are dropped
@@ -360,7 +350,7 @@ pub stored_ahead : (geometry : Geometry) (told : Reply) (s t : SessionModel) (kn
 stored_ahead geometry told s t known_old known_new b =
     let found = has_kind b.planned.first b.planned.place b.beginning in
     let kind = found.1 ∙ ap (λ (n : ℕ). first_kind (lines_before found.0 n)) b.place in
-    let line : Option ProgramLineModel = Some (record { text = b.planned.prepared.block.text; next = b.planned.next }) in
+    let line : Option ProgramLineModel = Some (record { text = b.planned.block.text; next = b.planned.next }) in
     ap (λ (x : SessionModel). x.stored) (b.next found.0 kind) ∙ (still_begin geometry found.0 s line).stored_is
 
 pub some_of : {T : Type 0} (o : Option T) → IsSome o → (x : T) × (o ≡ Some x)

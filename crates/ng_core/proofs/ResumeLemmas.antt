@@ -1,12 +1,12 @@
 -- A half-done block goes on, from the contract of the read before it.
-use Rattle.std.proofs.Common.{◌≡◌, ◌≤◌, inl, ℕ, ◌&&◌, Bool, true, false, not, if◌then◌else◌, List, Option, Some}
+use Rattle.std.proofs.Common.{◌≡◌, ◌≤◌, ℕ, ◌&&◌, Bool, true, false, not, if◌then◌else◌, List, Option, Some}
 use Rattle.std.proofs.Common.{None, Result, Ok, Err, refl, sym, ◌∙◌, ap, subst}
 use Rattle.std.specs.Prelude.{IfSome}
 use Rattle.std.specs.Option.{is_none}
 use Rattle.std.specs.Str.Lines.{lines}
 use Rattle.ng_num.specs.declared.fault.Fault.{Fault}
 use Rattle.ng_num.specs.declared.fault.Fault.TheVariants as fault
-use Rattle.ng_num.specs.declared.fault.Fault.TheVariants.{DeviceFailed, OutOfMemory}
+use Rattle.ng_num.specs.declared.fault.Fault.TheVariants.{DeviceFailed}
 use Rattle.ng_num.specs.declared.point.Point.{Point}
 use Rattle.ng_rig.specs.Rig.{Device}
 use Rattle.ng_rig.specs.Calls.{IfHonest}
@@ -29,7 +29,7 @@ use Rattle.ng_core.specs.Model.{ControllerModel, HasInForce, durable_state_of}
 use Rattle.ng_core.specs.Events.{IsAnsweredAnyway, IsAnsweredBy, IsAnsweredByLine, by_line, IsCarriedOutIfHonest}
 use Rattle.ng_core.specs.Events.{ReadsProgram}
 use Rattle.ng_core.specs.Private.NextLines.{IsNextLineAt, NextLineSpec}
-use Rattle.ng_core.proofs.EventCallLemmas.{known_as, acts_read, acts_aside, acts_unread}
+use Rattle.ng_core.proofs.EventCallLemmas.{known_as, acts_read, acts_unread}
 use Rattle.ng_core.proofs.ProgramExistsLemmas.{has_next}
 use Rattle.ng_core.proofs.LineBeginLemmas.{Reading}
 use Rattle.ng_core.proofs.QuietEventLemmas.{IsStill, still}
@@ -217,20 +217,6 @@ resumed_line r place old new s same free line beyond goes ledger =
           (sym (by_stopped out old found.0 None (stopped old.geometry old.session free))) (there found.0 next);
       ledger = ledger;
     }
-
--- there was no memory for the states after the block and after its approach
-pub does_resume_short : {R E : Type 0} (seen : R → Device) (fault : Fault) (place : ℕ) (s : SessionModel)
-    (out : List ℕ → Transition) (old new : ControllerModel R)
-    → FindingNext {E = E} seen (Ok place) s old.journal new.journal → fault ≡ OutOfMemory → new.session ≡ old.session → new.lines ≡ old.lines
-    → IsCarriedOutIfHonest seen (Err fault) out old new
-does_resume_short seen fault place s out old new p is same lines = record {
-  keeps = p.keeps;
-  back = p.back;
-  holds = λ h program rests.
-      let f = p.holds h (durable_state_of program old.session) rests.0 in
-      acts_aside fault (out program) program old new (seen old.journal.rig).trace (seen new.journal.rig).trace
-      (inl is) f.same same f.at (known_as program program old.lines new.lines refl lines rests.1);
-}
 
 -- the device failed in the read
 pub does_resume_unread : {R E : Type 0} (seen : R → Device) (fault : Fault) (e : E) (s : SessionModel) (out : List ℕ → Transition) (old new : ControllerModel R)

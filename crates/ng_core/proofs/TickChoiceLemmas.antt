@@ -15,8 +15,8 @@ use Rattle.ng_canon.specs.declared.geometry.Geometry.{Geometry}
 use Rattle.ng_session.specs.Session.{CurrentBlockModel, SessionModel, Transition, tick, end, begin, item_of, handed}
 use Rattle.ng_session.specs.Session.{opening_of, opening_on, segment_open, is_running}
 use Rattle.ng_session.specs.declared.reply.Reply.{Reply}
-use Rattle.ng_session.specs.Stages.{Stage}
-use Rattle.ng_session.specs.Stages as stage
+use Rattle.ng_session.specs.declared.stage.Stage.{Stage}
+use Rattle.ng_session.specs.declared.stage.Stage.TheVariants as stage
 use Rattle.ng_core.specs.Model.{ControllerModel}
 use Rattle.ng_core.specs.Events.{IsCarriedOut, IsCarriedOutIfHonest, handing}
 use Rattle.ng_core.proofs.TickLemmas.{does_on, tick_item}

@@ -49,10 +49,6 @@ stored_for out (reply.Refused fault) = None
 abbrev pub UsesUpCounter : Ledger → Transition → Type 0
 UsesUpCounter ledger out = IsSomeAnd (stored_for out out.reply) (UsesUp ledger)
 
--- an entry that is committed, not loaded
-abbrev pub IsCommitted : Entry → Type 0
-IsCommitted entry = (saved : StoredModel) → with_entry saved entry ≡ Commit saved
-
 -- There is no memory, if some is needed; or a counter that the outcome needs is used up; or the device failed, if it is
 -- called and no counter is used up. The outcome is that for the program on the device.
 abbrev pub IsCausedBy : (memory device : Type 0) → Ledger → (List ℕ → Transition) → Fault → Type 0

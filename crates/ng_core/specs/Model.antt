@@ -32,4 +32,4 @@ HasInForce trace c program = HoldsProgram trace c.journal program × IsKnownOf p
 -- that were read ahead are planned on what will be stored after the current block.
 pub record IsControllerInvariant {R : Type 0} (journal : JournalModel R) (session : SessionModel) (lines : KnownModel) (geometry : Geometry) : Type 0 where
   pub saved : journal.broken ≡ false → session.stored ≡ journal.saved
-  pub plan : IsPlan geometry (base_of session) lines.ahead
+  pub plan : IsPlan geometry (base_of session) lines.ahead lines.base

@@ -17,13 +17,13 @@ needs memory device reads = record { memory = memory; device = device; reads = r
 abbrev pub needs_device : Needs
 needs_device = needs ⊥ (Unit {0}) ⊥
 
--- all three, to read a line of the program and begin it
+-- the device, to read a line of the program and begin it
 abbrev pub needs_line : Needs
-needs_line = needs (Unit {0}) (Unit {0}) (Unit {0})
+needs_line = needs ⊥ (Unit {0}) (Unit {0})
 
 -- what a Tick needs if nothing is held and no item is left
 abbrev pub needs_of_work : SessionModel → Needs
-needs_of_work s = needs (IsBetweenLines s) (has_work s ≡ true) (IsBetweenLines s)
+needs_of_work s = needs ⊥ (has_work s ≡ true) (IsBetweenLines s)
 
 -- what each event needs
 abbrev pub needs_of : {A : Type 0} → Geometry → SessionModel → Event A → Needs

@@ -1,3 +1,4 @@
 -- Definitions that only contracts of private functions cite.
 pub mod NextLines
 pub mod Ahead
+pub mod Commits

@@ -1,10 +1,12 @@
 //! A controller, and how it handles events.
-ghost use Rattle.std.specs.Prelude.{◌≡◌, true, false, IfErr, [], ◌∷◌};
-ghost use Rattle.ng_num.specs.declared.fault.Fault.TheVariants.{OutOfMemory};
+ghost use Rattle.std.specs.Prelude.{◌≡◌, ◌<◌, true, false, Ok, [], ◌∷◌};
 ghost use Rattle.ng_rig.specs.Calls.{IfHonest};
+ghost use Rattle.ng_layout.specs.Limits.{greatest_count};
+ghost use Rattle.ng_layout.specs.Update.{updated};
 
 use ng_canon::Geometry;
 use ng_journal::Journal;
+use ng_layout::Update;
 use ng_num::Fault;
 use ng_rig::Rig;
 use ng_session::{Condition, Event, KnownLines, Reply, Session, Status};
@@ -38,9 +40,14 @@ impl<R: Rig, A: Allocator + Copy + Drop> Model for Controller<R, A> {
 }
 
 impl<R: Rig, A: Allocator + Copy + Drop> Controller<R, A> {
-    ghost use Rattle.ng_session.specs.Session.{IsQuiet};
+    ghost use Rattle.std.specs.Prelude.{None};
+    ghost use Rattle.ng_session.specs.Entries.{Entry};
+    ghost use Rattle.ng_session.specs.Session.{IsQuiet, commits};
+    ghost use Rattle.ng_session.specs.SessionInvariant.{IsNextEntry};
     ghost use Rattle.ng_session.specs.Planned.{drops_plan};
-    ghost use Rattle.ng_core.specs.Events.{CarriesOutEvent, Handles, TellsFailure, reply_to, broken_answer};
+    ghost use Rattle.ng_core.specs.Private.Commits.{IsCommitted};
+    ghost use Rattle.ng_core.specs.Needs.{needs_device};
+    ghost use Rattle.ng_core.specs.Events.{CarriesOut, CarriesOutEvent, Handles, TellsFailure, reply_to, broken_answer};
     ghost use Rattle.ng_rig.specs.Trace.{moment};
     ghost use Rattle.ng_core.specs.Headline.{AddsToPast};
 
@@ -71,9 +78,8 @@ impl<R: Rig, A: Allocator + Copy + Drop> Controller<R, A> {
     /// tool's slot (B14) and its length (E3); and for the own faults of a line of the operator or of a half-done block.
     /// If a line of the program is refused, or its text ends before the program does (X3, X4), the program stops there.
     ///
-    /// M1 if there is no memory; only a Load, a line of the operator, a Resume and a Tick between two lines need any.
-    /// J4 if the journal has used up a counter that a Load, an opened segment or approach, or an entry needs. In both
-    /// cases nothing is changed, though a Tick or a Resume has read its line. J1 if the device failed: then the
+    /// M1 if there is no memory; only a Load needs any. J4 if the journal has used up a counter that a Load, an opened
+    /// segment or approach, or an entry needs. In both cases nothing is changed. J1 if the device failed: then the
     /// controller is broken, and the device stands for the state before the event or for the state after it. K5 for all
     /// events but Status if the controller was broken already.
     ///
@@ -148,7 +154,7 @@ impl<R: Rig, A: Allocator + Copy + Drop> Controller<R, A> {
             | Event::Mdi(_)
             | Event::OptionalStop(_)
             | Event::BlockDelete(_)
-            | Event::Status => self.answer(event),
+            | Event::Status => Ok(self.answer(event)),
         }
     }
 
@@ -192,13 +198,30 @@ impl<R: Rig, A: Allocator + Copy + Drop> Controller<R, A> {
     }
 
     /// The reply to an event that the session handles by itself.
-    fn answer(&mut self, event: &Event<A>) -> Result<Reply, Fault>
+    fn answer(&mut self, event: &Event<A>) -> Reply
         requires whole { self.old.journal.broken ≡ false }
         requires quiet { IsQuiet event.now }
         requires alone { drops_plan event.now ≡ true → self.old.lines.ahead ≡ [] }
-        ensures carried { CarriesOutEvent R.seen event.now result self.old self.new }
-        ensures memory { IfErr result (λ fault. fault ≡ OutOfMemory) }
+        ensures { CarriesOutEvent R.seen event.now (Ok result) self.old self.new }
     {
-        Ok(self.session.answer(event, &self.geometry)?)
+        self.session.answer(event, &self.geometry)
+    }
+
+    /// Commits one more entry: its update replaces what is stored. J4 if a counter is used up, J1 if the device failed:
+    /// then the session is as before.
+    pub(crate) fn keep(&mut self, update: &Update<'_>) -> Result<Reply, Fault>
+        requires whole { self.old.journal.broken ≡ false }
+        requires alone { self.old.lines.ahead ≡ [] }
+        requires free { self.old.session.current ≡ None }
+        requires count { self.old.session.stored.entries < greatest_count }
+        requires next { IsNextEntry self.old.session.stored update.now }
+        ensures { (entry : Entry) → IsCommitted entry → CarriesOut R.seen needs_device
+            (λ program. commits program entry (record self.old.session {
+              stored = updated self.old.session.stored update.now;
+            }))
+            result self.old self.new }
+    {
+        self.journal.commit_update(update)?;
+        Ok(self.session.take(update))
     }
 }

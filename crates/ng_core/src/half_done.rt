@@ -2,17 +2,14 @@
 ghost use Rattle.std.specs.Prelude.{◌≡◌, ◌≤◌, ℕ, List, false, IfOk, IfErr};
 ghost use Rattle.ng_num.specs.declared.fault.Fault.TheVariants.{DeviceFailed};
 ghost use Rattle.ng_rig.specs.Calls.{IfHonest};
-ghost use Rattle.ng_layout.specs.Limits.{greatest_count};
-ghost use Rattle.ng_layout.specs.Storable.{IsStorable};
-ghost use Rattle.ng_layout.specs.Stored.{DurableState, with_decoded_state};
-ghost use Rattle.ng_journal.specs.Journal.{IsDurablyAt, HoldsProgram, CountsFailure, IsBrokenBy};
+ghost use Rattle.ng_layout.specs.Stored.{DurableState};
+ghost use Rattle.ng_journal.specs.Journal.{IsDurablyAt, HoldsProgram, JournalCall};
 ghost use Rattle.ng_journal.specs.Storing.{ledger_of};
 ghost use Rattle.ng_session.specs.Session.{IsProgramsLine};
 ghost use Rattle.ng_core.specs.Private.NextLines.{IsNextLineAt, NextLineSpec};
 
 use crate::controller::Controller;
 use ng_journal::{Journal, laws};
-use ng_layout::DecodedState;
 use ng_num::{Fault, Point};
 use ng_rig::Rig;
 use ng_session::{Reply, Session};
@@ -41,10 +38,8 @@ fn next_line<R: Rig, A: Allocator + Copy + Drop>(
     ensures unread { (IsProgramsLine session.now.stored.half → ⊥) → (journal.new ≡ journal.old)
         × IfOk result (λ next. (program : List ℕ) → IsNextLineAt program session.now next) }
     ensures ledger { ledger_of journal.new ≡ ledger_of journal.old }
-    ensures broken { IsBrokenBy result journal.new.broken }
     ensures errors { IfErr result (λ e. (e ≡ DeviceFailed) × IsProgramsLine session.now.stored.half) }
-    ensures size { (R.seen journal.new.rig).sectors ≡ (R.seen journal.old.rig).sectors }
-    ensures failures { CountsFailure result (R.seen journal.old.rig).failed (R.seen journal.new.rig).failed }
+    ensures call { JournalCall R.seen result journal.old journal.new }
 {
     let place = session.place();
     if !session.is_programs_line() {
@@ -57,39 +52,9 @@ fn next_line<R: Rig, A: Allocator + Copy + Drop>(
 }
 
 impl<R: Rig, A: Allocator + Copy + Drop> Controller<R, A> {
-    ghost use Rattle.std.specs.Prelude.{None, []};
-    ghost use Rattle.ng_session.specs.Session.{commits};
-    ghost use Rattle.ng_session.specs.Entries.{Entry};
+    ghost use Rattle.std.specs.Prelude.{[]};
     ghost use Rattle.ng_session.specs.declared.event.Event.TheVariants as event;
-    ghost use Rattle.ng_core.specs.Events.{CarriesOut, CarriesOutEvent};
-    ghost use Rattle.ng_core.specs.Needs.{needs_device};
-    ghost use Rattle.ng_core.specs.Causes.{IsCommitted};
-
-    /// Commits a report, which replaces what is stored. J4 if a counter is used up, J1 if the device failed: then the
-    /// session is as before.
-    fn keep(&mut self, report: DecodedState) -> Result<Reply, Fault>
-        requires whole { self.old.journal.broken ≡ false }
-        requires alone { self.old.lines.ahead ≡ [] }
-        requires free { self.old.session.current ≡ None }
-        requires count { report.entries ≤ greatest_count }
-        requires storable { IsStorable (with_decoded_state self.old.session.stored report self.old.session.stored.length) }
-        ensures { (entry : Entry) → IsCommitted entry → CarriesOut R.seen needs_device
-            (λ program. commits program entry (record self.old.session {
-              stored = with_decoded_state self.old.session.stored report self.old.session.stored.length;
-            }))
-            result self.old self.new }
-    {
-        // Called for its contract: what is stored can be stored again.
-        let _ = self.session.stored();
-        let before = self.session.exchange(report);
-        match self.journal.commit(self.session.stored()) {
-            Ok(()) => Ok(Reply::Done(self.session.stored().entries)),
-            Err(fault) => {
-                self.session.exchange(before);
-                Err(fault)
-            }
-        }
-    }
+    ghost use Rattle.ng_core.specs.Events.{CarriesOutEvent};
 
     /// Sets the machine's point, in nm of machine coordinates, after it is stored. K1 and X2 if the session refuses it,
     /// J4 if a counter is used up: then nothing is changed. J1 if the device failed: then the journal is broken, and
@@ -106,8 +71,8 @@ impl<R: Rig, A: Allocator + Copy + Drop> Controller<R, A> {
             laws::counters();
             return Err(Fault::CountersUsed);
         }
-        let report = self.session.referenced(*point);
-        self.keep(report)
+        let update = self.session.referenced(*point);
+        self.keep(&update)
     }
 
     /// Gives the half-done block up, after that is stored. K1 and K4 if the session refuses it, J4 if a counter is used
@@ -125,15 +90,14 @@ impl<R: Rig, A: Allocator + Copy + Drop> Controller<R, A> {
             return Err(Fault::CountersUsed);
         }
         match self.session.abandoned() {
-            Some(report) => self.keep(report),
+            Some(update) => self.keep(&update),
             None => Ok(Reply::Refused(Fault::NothingHalfDone)),
         }
     }
 
     /// Makes the half-done block go on. K1, K4, K3 and its line's own faults if the session refuses it, with no call of
     /// the device. If the block is a line of the program, the line is read now, to find where the next one begins: J1
-    /// if the device failed, and then the journal is broken. M1 if there is no memory. In all these cases the session
-    /// is as before.
+    /// if the device failed, and then the journal is broken. In all these cases the session is as before.
     pub(crate) fn resume(&mut self) -> Result<Reply, Fault>
         requires whole { self.old.journal.broken ≡ false }
         requires alone { self.old.lines.ahead ≡ [] }
@@ -143,6 +107,6 @@ impl<R: Rig, A: Allocator + Copy + Drop> Controller<R, A> {
             return Ok(Reply::Refused(fault));
         }
         let next = next_line(&mut self.journal, &self.session)?;
-        Ok(self.session.resume(next, &self.geometry)?)
+        Ok(self.session.resume(next, &self.geometry))
     }
 }

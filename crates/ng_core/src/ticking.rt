@@ -5,7 +5,7 @@ ghost use Rattle.ng_num.specs.declared.fault.Fault.TheVariants.{DeviceFailed};
 ghost use Rattle.ng_rig.specs.Calls.{IfHonest};
 ghost use Rattle.ng_layout.specs.Storable.{IsStorableHalf};
 ghost use Rattle.ng_layout.specs.Stored.{DurableState};
-ghost use Rattle.ng_journal.specs.Journal.{IsDurablyAt, HoldsProgram, CountsFailure, IsBrokenBy};
+ghost use Rattle.ng_journal.specs.Journal.{IsDurablyAt, HoldsProgram, JournalCall};
 ghost use Rattle.ng_journal.specs.Program.{FirstKindSpec};
 ghost use Rattle.ng_journal.specs.Storing.{ledger_of};
 ghost use Rattle.ng_text.specs.LinesBefore.{IsTrueOf, IsLineBetween};
@@ -54,10 +54,8 @@ fn first_kind_before<R: Rig, A: Allocator + Copy + Drop>(
     // Also for a device that isn't honest.
     ensures beginning { place ≡ 0 → IfOk result (λ kind. kind ≡ LineKind.Blank) }
     ensures ledger { ledger_of journal.new ≡ ledger_of journal.old }
-    ensures broken { IsBrokenBy result journal.new.broken }
     ensures errors { IfErr result (λ e. e ≡ DeviceFailed) }
-    ensures size { (R.seen journal.new.rig).sectors ≡ (R.seen journal.old.rig).sectors }
-    ensures failures { CountsFailure result (R.seen journal.old.rig).failed (R.seen journal.new.rig).failed }
+    ensures call { JournalCall R.seen result journal.old journal.new }
 {
     match known_before(known.lines_before(), place) {
         Some(kind) => Ok(kind),
@@ -167,10 +165,10 @@ impl<R: Rig, A: Allocator + Copy + Drop> Controller<R, A> {
             (λ program. end self.old.geometry program self.old.session self.old.session.current)
             result self.old self.new }
     {
-        let Some(after) = self.session.after() else {
+        let Some(update) = self.session.after() else {
             unreachable!()
         };
-        self.journal.commit(after)?;
+        self.journal.commit_update(&update)?;
         Ok(self.session.commit())
     }
 
@@ -229,7 +227,7 @@ impl<R: Rig, A: Allocator + Copy + Drop> Controller<R, A> {
         match self.journal.program_line(place)? {
             Some(line) => {
                 let text = line.text.as_slice();
-                let reply = self.session.begin(text, line.next, first, &self.geometry)?;
+                let reply = self.session.begin(text, line.next, first, &self.geometry);
                 let before = lines_after(&self.lines, place, first, text, line.next);
                 self.lines.set_before(before);
                 Ok(reply)

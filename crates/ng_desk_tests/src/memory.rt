@@ -95,18 +95,18 @@ fn came_of<A: Allocator + Copy + Drop, W: Wait>(
     Ok(outcome_of(called, before == after))
 }
 
-/// The bytes of a heap, and the outcome there. Power on takes two tables of parameters of 43,192 bytes and 82,168 for
+/// The bytes of a heap, and the outcome there. Power on takes three tables of parameters of 43,192 bytes and 68,600 for
 /// the lines that are planned, the program 1,000, the seats 32 each; a call then grows the seat's list, grows the
 /// history, and copies the program three times, and each of these five is refused in turn; a load takes one more table.
 const HEAPS: &[(usize, Outcome)] = &[
-    (170_168, Outcome::NoDesk),
-    (171_968, Outcome::NoCall),
-    (172_468, Outcome::NoCall),
-    (173_168, Outcome::NoCall),
-    (174_168, Outcome::NoCall),
-    (175_168, Outcome::NoCall),
-    (177_168, Outcome::NoProgram),
-    (232_168, Outcome::Loaded),
+    (199_792, Outcome::NoDesk),
+    (201_592, Outcome::NoCall),
+    (202_092, Outcome::NoCall),
+    (202_792, Outcome::NoCall),
+    (203_792, Outcome::NoCall),
+    (204_792, Outcome::NoCall),
+    (206_792, Outcome::NoProgram),
+    (261_792, Outcome::Loaded),
 ];
 
 #[test]

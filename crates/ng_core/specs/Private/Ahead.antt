@@ -4,7 +4,7 @@ use Rattle.ng_num.specs.declared.fault.Fault.{Fault}
 use Rattle.ng_num.specs.declared.fault.Fault.TheVariants.{DeviceFailed}
 use Rattle.ng_rig.specs.Rig.{Device}
 use Rattle.ng_rig.specs.Calls.{IfHonest}
-use Rattle.ng_journal.specs.Journal.{IsBrokenBy, CountsFailure}
+use Rattle.ng_journal.specs.Journal.{JournalCall}
 use Rattle.ng_journal.specs.Storing.{ledger_of}
 use Rattle.ng_core.specs.Model.{ControllerModel, IsAtRestWith, HasInForce}
 
@@ -20,7 +20,5 @@ pub record PlansAhead {R : Type 0} (seen : R → Device) (answer : Result Unit F
   pub session : new.session ≡ old.session
   pub ledger : ledger_of new.journal ≡ ledger_of old.journal
   pub errors : IfErr answer (λ e. e ≡ DeviceFailed)
-  pub broken : IsBrokenBy answer new.journal.broken
   pub geometry : new.geometry ≡ old.geometry
-  pub size : (seen new.journal.rig).sectors ≡ (seen old.journal.rig).sectors
-  pub failures : CountsFailure answer (seen old.journal.rig).failed (seen new.journal.rig).failed
+  pub call : JournalCall seen answer old.journal new.journal

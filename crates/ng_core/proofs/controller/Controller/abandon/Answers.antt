@@ -1,11 +1,13 @@
-use Rattle.std.proofs.Common.{◌≡◌, ℕ, List, Option, None, Some, refl, sym, ◌∙◌, ap, subst, arith}
+use Rattle.std.proofs.Common.{◌≡◌, ◌<◌, ℕ, List, Option, None, Some, refl, sym, ◌∙◌, ap, subst}
+use Rattle.ng_layout.specs.Limits.{greatest_count}
 use Rattle.ng_num.specs.declared.fault.Fault.{Fault}
 use Rattle.ng_num.specs.declared.fault.Fault.TheVariants.{CountersUsed}
-use Rattle.ng_layout.specs.Storable.{IsStorable}
-use Rattle.ng_layout.specs.Stored.{StoredModel, with_decoded_state}
+use Rattle.ng_layout.specs.Stored.{StoredModel}
+use Rattle.ng_layout.specs.Update.{updated}
 use Rattle.ng_journal.specs.Storing.{ledger_of}
 use Rattle.ng_session.specs.Entries.{Abandoned, after_abandon}
 use Rattle.ng_session.specs.Session.{SessionModel, commits, abandon, abandon_unless, abandon_refusal}
+use Rattle.ng_session.specs.SessionInvariant.{IsNextEntry}
 use Rattle.ng_core.specs.Causes.{IsCausedBy}
 use Rattle.ng_core.specs.Model.{ControllerModel}
 use Rattle.ng_core.proofs.CarriesOutLemmas.{carried_to, carried_refused, carried_used}
@@ -23,14 +25,13 @@ keep-requires-clause-free g c =
 
 pub keep-requires-clause-count : goal.keep-requires-clause-count
 keep-requires-clause-count g c =
-    let room = has_room c.self.inside.session.stored.entries (sym c.if-is_count_used_up.ensures) in
-    omega (arith, room, c.in-Some-abandoned.ensures.count)
+    subst (λ (x : ControllerModel g.row.R.Denot). x.session.stored.entries < greatest_count) c.self.view_is
+    (has_room c.self.inside.session.stored.entries (sym c.if-is_count_used_up.ensures))
 
-pub keep-requires-clause-storable : goal.keep-requires-clause-storable
-keep-requires-clause-storable g c =
-    subst (λ (x : ControllerModel g.row.R.Denot).
-    IsStorable (with_decoded_state x.session.stored c.in-Some-abandoned.report x.session.stored.length))
-    c.self.view_is c.in-Some-abandoned.ensures.storable
+pub keep-requires-clause-next : goal.keep-requires-clause-next
+keep-requires-clause-next g c =
+    subst (λ (x : ControllerModel g.row.R.Denot). IsNextEntry x.session.stored c.in-Some-abandoned.update) c.self.view_is
+    c.in-Some-abandoned.ensures.next
 
 pub returns-in-Some : goal.returns-in-Some
 returns-in-Some g c =
@@ -63,17 +64,14 @@ returns-in-Some-abandoned g c =
     let none : abandon_refusal old.session ≡ None =
     subst (λ (x : ControllerModel g.row.R.Denot). abandon_refusal x.session ≡ None) c.self.view_is
     (sym c.in_default.ensures) in
-    let is : with_decoded_state old.session.stored c.in-Some-abandoned.report old.session.stored.length ≡ after_abandon old.session.stored =
-    subst (λ (x : ControllerModel g.row.R.Denot). with_decoded_state x.session.stored c.in-Some-abandoned.report
-    x.session.stored.length ≡ after_abandon x.session.stored) c.self.view_is
-    c.in-Some-abandoned.ensures.value in
+    let is : updated old.session.stored c.in-Some-abandoned.update ≡ after_abandon old.session.stored =
+    subst (λ (x : ControllerModel g.row.R.Denot). updated x.session.stored c.in-Some-abandoned.update
+    ≡ after_abandon x.session.stored) c.self.view_is c.in-Some-abandoned.ensures.value in
     carried_to g.R.Rig.seen ⊥ ⊥ (Unit {0}) (abandon_refusal old.session ≡ None) ⊥ ⊥
     (λ (program : List ℕ).
     commits program Abandoned
-    (record old.session {
-      stored = with_decoded_state old.session.stored c.in-Some-abandoned.report
-          old.session.stored.length;
-    })) (λ (program : List ℕ). abandon program old.session)
+    (record old.session { stored = updated old.session.stored c.in-Some-abandoned.update }))
+    (λ (program : List ℕ). abandon program old.session)
     c.keep.result old c.keep.new.self (λ m. m) (λ u. none) (λ e. e) (λ e. e)
     (λ program. ap (λ (y : StoredModel).
     commits program Abandoned (let s : SessionModel = record old.session { stored = y } in s)) is

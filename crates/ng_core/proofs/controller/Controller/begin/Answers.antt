@@ -38,7 +38,7 @@ returns-in-Some g c =
     let whole = ap (λ (x : ControllerModel g.row.R.Denot). x.journal.broken) c.self.view_is ∙ c.requires.whole in
     let runs = ap (λ (x : ControllerModel g.row.R.Denot). is_running x.session.activity) c.self.view_is ∙ c.requires.runs in
     let begun : IsBegunAhead geometry c.in-Some.reply old.session new.session old.lines new.lines = c.in-Some.ensures.begun geometry c.self.invariant.plan in
-    carried_as g.R.Rig.seen (λ (x : ControllerModel g.row.R.Denot). Unit {0})
+    carried_as g.R.Rig.seen (λ (x : ControllerModel g.row.R.Denot). ⊥)
     (λ (x : ControllerModel g.row.R.Denot). Unit {0}) (λ (x : ControllerModel g.row.R.Denot). Unit {0})
     (λ (x : ControllerModel g.row.R.Denot) (program : List ℕ). begin x.geometry program x.session
     (program_line_at program x.session.stored.place)) (Ok c.in-Some.reply) c.args.self.now old new
@@ -59,7 +59,7 @@ returns-in-None g c =
     let same : mid ≡ c.args.self.now =
     (λ i. record { journal = c.self.inside.journal; session = none.0 i; lines = none.1 i; geometry = geometry })
     ∙ c.self.view_is in
-    carried_as g.R.Rig.seen (λ (x : ControllerModel g.row.R.Denot). Unit {0})
+    carried_as g.R.Rig.seen (λ (x : ControllerModel g.row.R.Denot). ⊥)
     (λ (x : ControllerModel g.row.R.Denot). Unit {0}) (λ (x : ControllerModel g.row.R.Denot). Unit {0})
     (λ (x : ControllerModel g.row.R.Denot) (program : List ℕ). begin x.geometry program x.session
     (program_line_at program x.session.stored.place)) c.begin_read.result c.args.self.now mid

@@ -35,7 +35,7 @@ returns-in_err-plan-in-Begun-2 g c =
     let old : ControllerModel g.row.R.Denot = c.args.self.now in
     let begins : List ℕ → Transition = λ program. begin old.geometry program old.session (program_line_at program old.session.stored.place) in
     let begun = subst (λ (r : Reply). CarriesOut g.R.Rig.seen needs_line begins (Ok r) old c.begin.new.self) c.in-Begun.is c.in_ok-reply.ensures in
-    let once = carried_planned g.R.Rig.seen (Unit {0}) (Unit {0}) (Unit {0}) reply.Begun
+    let once = carried_planned g.R.Rig.seen ⊥ (Unit {0}) (Unit {0}) reply.Begun
     c.in_ok-plan-in-Begun.field-0 begins old c.begin.new.self c.plan.new.self begun
     c.in_ok-plan-in-Begun.ensures in
     rw (p.1) (carried_unplanned g.R.Rig.seen p.0 c.in_err-plan-in-Begun-2.field-0.0 old c.plan.new.self
@@ -46,8 +46,8 @@ returns-in_ok-plan-in-Begun-2 g c =
     let old : ControllerModel g.row.R.Denot = c.args.self.now in
     let begins : List ℕ → Transition = λ program. begin old.geometry program old.session (program_line_at program old.session.stored.place) in
     let begun = subst (λ (r : Reply). CarriesOut g.R.Rig.seen needs_line begins (Ok r) old c.begin.new.self) c.in-Begun.is c.in_ok-reply.ensures in
-    let once = carried_planned g.R.Rig.seen (Unit {0}) (Unit {0}) (Unit {0}) reply.Begun
+    let once = carried_planned g.R.Rig.seen ⊥ (Unit {0}) (Unit {0}) reply.Begun
     c.in_ok-plan-in-Begun.field-0 begins old c.begin.new.self c.plan.new.self begun
     c.in_ok-plan-in-Begun.ensures in
-    carried_planned g.R.Rig.seen (Unit {0}) (Unit {0}) (Unit {0}) reply.Begun c.in_ok-plan-in-Begun-2.field-0 begins
+    carried_planned g.R.Rig.seen ⊥ (Unit {0}) (Unit {0}) reply.Begun c.in_ok-plan-in-Begun-2.field-0 begins
     old c.plan.new.self c.plan-in-Begun.new.self once c.in_ok-plan-in-Begun-2.ensures

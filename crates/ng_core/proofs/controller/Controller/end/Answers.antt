@@ -34,12 +34,12 @@ returns-then-is_some g c =
     let block : is_some old.session.current ≡ true =
     sym (ap (λ (x : ControllerModel g.row.R.Denot). is_some x.session.current) c.self.view_is)
     ∙ ap (λ (o : Option CurrentBlockModel). is_some o) found.1.1 in
-    carried_to g.R.Rig.seen ⊥ (IsBetweenLines old.session) (Unit {0}) (has_work old.session ≡ true) ⊥
+    carried_to g.R.Rig.seen ⊥ ⊥ (Unit {0}) (has_work old.session ≡ true) ⊥
     (IsBetweenLines old.session)
     (λ (program : List ℕ). end old.geometry program old.session old.session.current)
     (λ (program : List ℕ). end old.geometry program old.session old.session.current) c.commit.result old
     c.commit.new.self
-    (λ none. absurd none) (λ u. busy_block (is_running old.session.activity) old.session.current block)
+    (λ m. m) (λ u. busy_block (is_running old.session.activity) old.session.current block)
     (λ none. absurd none) (busy_unread old.session block) (λ program. refl) c.commit.ensures
 
 pub returns-then-is_running : goal.returns-then-is_running
@@ -48,12 +48,12 @@ returns-then-is_running g c =
     let none = sym (ap (λ (x : ControllerModel g.row.R.Denot). x.session.current) c.self.view_is)
     ∙ by_none _ c.after.result c.if-is_some.ensures c.after.ensures.after in
     let runs = sym (ap (λ (x : ControllerModel g.row.R.Denot). is_running x.session.activity) c.self.view_is) ∙ sym c.if-is_running.ensures in
-    carried_to g.R.Rig.seen (Unit {0}) (IsBetweenLines old.session) (Unit {0}) (has_work old.session ≡ true) (Unit {0}) (IsBetweenLines old.session)
+    carried_to g.R.Rig.seen ⊥ ⊥ (Unit {0}) (has_work old.session ≡ true) (Unit {0}) (IsBetweenLines old.session)
     (λ (program : List ℕ). begin old.geometry program old.session
     (program_line_at program old.session.stored.place))
     (λ (program : List ℕ). end old.geometry program old.session old.session.current) c.begin_next.result old
     c.begin_next.new.self
-    (λ u. (none, runs)) (λ u. busy_running (is_running old.session.activity) (is_some old.session.current) runs) (λ u. (none, runs)) (λ between. tt)
+    (λ m. m) (λ u. busy_running (is_running old.session.activity) (is_some old.session.current) runs) (λ u. (none, runs)) (λ between. tt)
     (λ program. sym (begins_there old.geometry program old.session none runs)) c.begin_next.ensures
 
 pub returns : goal.returns

@@ -16,11 +16,11 @@ returns-in-Some g c =
     let old : ControllerModel g.row.R.Denot = c.args.self.now in
     let is : Some c.in-Some.half ≡ opening_of old.session.current = c.in-Some.ensures.half
     ∙ ap (λ (x : ControllerModel g.row.R.Denot). opening_of x.session.current) c.self.view_is in
-    carried_to g.R.Rig.seen ⊥ (IsBetweenLines old.session) (Unit {0}) (has_work old.session ≡ true) ⊥
+    carried_to g.R.Rig.seen ⊥ ⊥ (Unit {0}) (has_work old.session ≡ true) ⊥
     (IsBetweenLines old.session) (λ (program : List ℕ). opening c.in-Some.half program old.geometry old.session)
     (λ (program : List ℕ). open_next old.geometry program old.session (opening_of old.session.current))
     c.open.result old c.open.new.self
-    (λ none. absurd none) (λ u. busy_block (is_running old.session.activity) old.session.current
+    (λ m. m) (λ u. busy_block (is_running old.session.activity) old.session.current
     (some_half old.session.current c.in-Some.half (sym is))) (λ none. absurd none)
     (busy_unread old.session (some_half old.session.current c.in-Some.half (sym is)))
     (λ program. ap (λ (o : Option HalfModel). open_next old.geometry program old.session o) is) c.open.ensures
@@ -30,7 +30,7 @@ returns-in-None g c =
     let old : ControllerModel g.row.R.Denot = c.args.self.now in
     let is : None ≡ opening_of old.session.current = c.in-None.ensures.half
     ∙ ap (λ (x : ControllerModel g.row.R.Denot). opening_of x.session.current) c.self.view_is in
-    carried_to g.R.Rig.seen (IsBetweenLines old.session) (IsBetweenLines old.session) (has_work old.session ≡ true)
+    carried_to g.R.Rig.seen ⊥ ⊥ (has_work old.session ≡ true)
     (has_work old.session ≡ true) (IsBetweenLines old.session) (IsBetweenLines old.session)
     (λ (program : List ℕ). end old.geometry program old.session old.session.current)
     (λ (program : List ℕ). open_next old.geometry program old.session (opening_of old.session.current))

@@ -36,8 +36,7 @@ returns-in_err-hand_out g c =
     (carried_lost g.R.Rig.seen ⊥ (Unit {0}) ⊥ p.0 e (λ (program : List ℕ). handing c.args.item program old.session) old new p.2
     (hands_none g.R.Rig.seen e e c.args.item old new refl c.in_err-hand_out.ensures.errors c.in_err-hand_out.ensures.stops)
     (λ h program. record { calls = c.in_err-hand_out.ensures.hands.holds h; unchanged = λ other. absurd (other c.in_err-hand_out.ensures.errors) })
-    c.in_err-hand_out.ensures.errors tt (λ program used. used) refl refl c.in_err-hand_out.ensures.broken
-    c.in_err-hand_out.ensures.size c.in_err-hand_out.ensures.failures))
+    c.in_err-hand_out.ensures.errors tt (λ program used. used) refl refl c.in_err-hand_out.ensures.call))
 
 pub returns : goal.returns
 returns g c =
@@ -71,8 +70,8 @@ returns g c =
       line = λ none. absurd none;
       ledger = λ program. c.in_ok-hand_out.ensures.ledger;
       hindered = tt;
-      broken = c.in_ok-hand_out.ensures.broken;
+      broken = c.in_ok-hand_out.ensures.call.broken;
       geometry = refl;
-      size = c.in_ok-hand_out.ensures.size;
-      failures = c.in_ok-hand_out.ensures.failures;
+      size = c.in_ok-hand_out.ensures.call.size;
+      failures = c.in_ok-hand_out.ensures.call.failures;
     })

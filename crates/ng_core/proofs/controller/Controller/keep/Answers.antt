@@ -1,12 +1,15 @@
-use Rattle.std.proofs.Common.{◌≡◌, ℕ, List, Some, Ok, Err, refl, sym, ◌∙◌, ap, subst, arith}
+use Rattle.std.proofs.Common.{◌≡◌, ℕ, List, Some, Ok, Err, refl, sym, ◌∙◌, ap, subst}
+use Rattle.std.proofs.lemmas.Result.{err_from_is_err_and}
 use Rattle.ng_num.specs.declared.fault.Fault.{Fault}
 use Rattle.ng_num.specs.declared.fault.Fault.TheVariants.{CountersUsed}
-use Rattle.ng_layout.specs.Storable.{IsStorable}
-use Rattle.ng_layout.specs.Stored.{DecodedStateModel, StoredModel, with_decoded_state}
-use Rattle.ng_journal.specs.Journal.{kept_by}
+use Rattle.ng_layout.specs.Stored.{StoredModel}
+use Rattle.ng_layout.specs.Update.{UpdateModel, updated}
 use Rattle.ng_journal.specs.Storing.{Storing, Commit, ledger_of}
+use Rattle.ng_rig.proofs.GuaranteeLemmas.{meaning}
 use Rattle.ng_canon.specs.declared.geometry.Geometry.{Geometry}
-use Rattle.ng_session.specs.Session.{SessionModel, commits}
+use Rattle.ng_session.proofs.PlannedLineLemmas.{plan_none}
+use Rattle.ng_session.specs.Session.{SessionModel, Transition, commits}
+use Rattle.ng_session.specs.SessionInvariant.{IsNextEntry}
 use Rattle.ng_session.specs.declared.reply.Reply.TheVariants as reply
 use Rattle.ng_core.specs.Model.{ControllerModel}
 use Rattle.ng_core.proofs.AnyDeviceLemmas.{comes_by}
@@ -15,78 +18,38 @@ use Rattle.ng_core.proofs.ProgramInForceLemmas.{reads_answered}
 use Rattle.ng_core.proofs.HonestCallLemmas.{calls_made, makes_entry, ledger_entry}
 use Rattle.ng_core.proofs.EventCauseLemmas.{hindered_storing}
 use Rattle.ng_core.proofs.ReportEntryLemmas.{keeps, keeps_none}
-use Rattle.ng_core.proofs.StoredJournalLemmas.{kept_whole}
+use Rattle.ng_core.proofs.StoredJournalLemmas.{settled_next, storable_next}
 use Rattle.ng_core.proofs.controller.Controller.keep.Goals as goal
 
-pub exchange-requires-clause-count : goal.exchange-requires-clause-count
-exchange-requires-clause-count g c =
-    let same : c.exchange-before.result.entries ≡ c.self.inside.session.stored.entries =
-    ap (λ (r : DecodedStateModel). r.entries) c.exchange-before.ensures.before in
-    omega (arith, same, c.stored.ensures.count)
-
-pub exchange-requires-clause-storable : goal.exchange-requires-clause-storable
-exchange-requires-clause-storable g c =
-    let back : with_decoded_state c.exchange-before.new.self.stored c.exchange-before.result
-    c.exchange-before.new.self.stored.length ≡ c.self.inside.session.stored =
-    (λ i. with_decoded_state (c.exchange-before.ensures.next i).stored (c.exchange-before.ensures.before i) (c.exchange-before.ensures.next i).stored.length) in
-    subst IsStorable (sym back) c.stored.ensures.storable
-
-pub returns-in-Ok : goal.returns-in-Ok
-returns-in-Ok g c = λ entry committed.
-    let geometry : Geometry = c.self.inside.geometry in
-    let old : ControllerModel g.row.R.Denot =
-    record {
-      journal = c.self.inside.journal;
-      session = c.self.inside.session;
-      lines = c.self.inside.lines;
-      geometry = geometry;
-    } in
-    let new : ControllerModel g.row.R.Denot =
-    record {
-      journal = c.commit.new.self;
-      session = c.exchange-before.new.self;
-      lines = c.self.inside.lines;
-      geometry = geometry;
-    } in
-    let next : SessionModel = record old.session { stored = with_decoded_state old.session.stored c.args.report old.session.stored.length } in
-    let stored : c.stored-2.result.now ≡ next.stored = c.stored-2.ensures.value ∙ ap (λ (s : SessionModel). s.stored) c.exchange-before.ensures.next in
+pub commit_update-requires-clause-storable : goal.commit_update-requires-clause-storable
+commit_update-requires-clause-storable g c =
     let whole = ap (λ (x : ControllerModel g.row.R.Denot). x.journal.broken) c.self.view_is ∙ c.requires.whole in
-    let kept = kept_whole old.journal c.stored-2.result.now old.session.stored (c.self.invariant.saved whole) (ap (λ (x : StoredModel). x.room) stored) in
-    let counted : reply.Done c.behind-self.inside.entries ≡ reply.Done next.stored.entries =
-    ap (λ (x : StoredModel). reply.Done x.entries) (c.behind-self.view_is ∙ c.stored-in-Ok.ensures.value
-    ∙ ap (λ (s : SessionModel). s.stored) c.exchange-before.ensures.next) in
-    carried_as g.R.Rig.seen (λ (x : ControllerModel g.row.R.Denot). ⊥) (λ (x : ControllerModel g.row.R.Denot).
-    Unit {0}) (λ (x : ControllerModel g.row.R.Denot). ⊥)
-    (λ (x : ControllerModel g.row.R.Denot) (program : List ℕ).
-    commits program entry
-    (record x.session { stored = with_decoded_state x.session.stored c.args.report x.session.stored.length }))
-    (Ok (reply.Done c.behind-self.inside.entries)) c.args.self.now old new c.self.view_is (record {
-      does = keeps g.R.Rig.seen c.in-Ok.field-0 (reply.Done c.behind-self.inside.entries)
-          (kept_by old.journal c.stored-2.result.now) entry next old new (kept ∙ stored) counted
-          c.exchange-before.ensures.next c.in-Ok.ensures.stops refl;
-      calls = calls_made g.R.Rig.seen (reply.Done c.behind-self.inside.entries) (λ (program : List ℕ). commits program entry next) old new
-          (makes_entry g.R.Rig.seen (Ok c.in-Ok.field-0) (reply.Done c.behind-self.inside.entries)
-          (kept_by old.journal c.stored-2.result.now) next.stored
-          (λ (program : List ℕ). commits program entry next) old new (kept ∙ stored)
-          (λ program. ap (λ (x : Storing). Some x) (committed next.stored)) c.in-Ok.ensures.stores);
-      reads = reads_answered g.R.Rig.seen (reply.Done c.behind-self.inside.entries)
-          (λ (program : List ℕ). commits program entry next) old new c.in-Ok.ensures.holds
-          (λ program. refl) (λ program known. known) (λ program. counted) (λ program. c.exchange-before.ensures.next);
-      comes = comes_by ⊥ (reply.Done c.behind-self.inside.entries) (λ program. commits program entry next) old new
-          (λ program. counted) (λ program. c.exchange-before.ensures.next);
-      line = λ none. absurd none;
-      ledger = ledger_entry g.R.Rig.seen (kept_by old.journal c.stored-2.result.now) next.stored
-          (λ (program : List ℕ). commits program entry next) old new (kept ∙ stored)
-          (λ program. ap (λ (x : Storing). Some x) (committed next.stored)) c.in-Ok.ensures.ledger;
-      hindered = tt;
-      broken = c.in-Ok.ensures.broken;
-      geometry = refl;
-      size = c.in-Ok.ensures.size;
-      failures = c.in-Ok.ensures.failures;
-    })
+    let next = subst (λ (x : ControllerModel g.row.R.Denot). IsNextEntry x.session.stored c.args.update.now) (sym c.self.view_is) c.requires.next in
+    storable_next _ _ c.args.update.now (c.self.invariant.saved whole) next
 
-pub returns-in-Err : goal.returns-in-Err
-returns-in-Err g c = λ entry committed.
+pub commit_update-requires-clause-settled : goal.commit_update-requires-clause-settled
+commit_update-requires-clause-settled g c =
+    let whole = ap (λ (x : ControllerModel g.row.R.Denot). x.journal.broken) c.self.view_is ∙ c.requires.whole in
+    let next = subst (λ (x : ControllerModel g.row.R.Denot). IsNextEntry x.session.stored c.args.update.now) (sym c.self.view_is) c.requires.next in
+    settled_next _ _ c.args.update.now (c.self.invariant.saved whole) next
+
+pub invariant_of-self-2 : goal.invariant_of-self-2
+invariant_of-self-2 g c =
+    let update : UpdateModel = c.args.update.now in
+    let whole = ap (λ (x : ControllerModel g.row.R.Denot). x.journal.broken) c.self.view_is ∙ c.requires.whole in
+    let alone = ap (λ (x : ControllerModel g.row.R.Denot). x.lines.ahead) c.self.view_is ∙ c.requires.alone in
+    record {
+      saved = λ _. ap (λ (s : SessionModel). s.stored) c.take.ensures.next
+          ∙ ap (λ (x : StoredModel). updated x update) (c.self.invariant.saved whole)
+          ∙ sym c.in_ok-commit_update.ensures.keeps.saved_is;
+      plan = plan_none _ _ c.self.inside.lines.ahead _ alone;
+    }
+
+pub returns-in_err-commit_update : goal.returns-in_err-commit_update
+returns-in_err-commit_update g c = λ entry committed.
+    let p = err_from_is_err_and c.from_residual.result c.from_residual.ensures.1 in
+    let e = c.in_err-commit_update.field-0.0 in
+    let update : UpdateModel = c.args.update.now in
     let geometry : Geometry = c.self.inside.geometry in
     let old : ControllerModel g.row.R.Denot =
     record {
@@ -96,37 +59,75 @@ returns-in-Err g c = λ entry committed.
       geometry = geometry;
     } in
     let new : ControllerModel g.row.R.Denot = record {
-      journal = c.commit.new.self;
-      session = c.exchange.new.self;
+      journal = c.commit_update.new.self;
+      session = c.self.inside.session;
       lines = c.self.inside.lines;
       geometry = geometry;
     } in
-    let next : SessionModel = record old.session { stored = with_decoded_state old.session.stored c.args.report old.session.stored.length } in
-    let stored : c.stored-2.result.now ≡ next.stored = c.stored-2.ensures.value ∙ ap (λ (s : SessionModel). s.stored) c.exchange-before.ensures.next in
     let whole = ap (λ (x : ControllerModel g.row.R.Denot). x.journal.broken) c.self.view_is ∙ c.requires.whole in
-    let kept = kept_whole old.journal c.stored-2.result.now old.session.stored (c.self.invariant.saved whole) (ap (λ (x : StoredModel). x.room) stored) in
-    let same : c.exchange.new.self ≡ old.session = c.exchange.ensures.next
-    ∙ (λ i. let s : SessionModel = record (c.exchange-before.ensures.next i) {
-      stored = with_decoded_state (c.exchange-before.ensures.next i).stored (c.exchange-before.ensures.before i)
-          (c.exchange-before.ensures.next i).stored.length;
-    } in s) in
-    let unchanged : c.in-Err.fault ≡ CountersUsed → new.journal ≡ old.journal = λ used. c.in-Err.ensures.unchanged (ap (λ (f : Fault). Err f) used) in
+    let next : SessionModel = record old.session { stored = updated old.session.stored update } in
+    let saved : StoredModel = updated old.journal.saved update in
+    let is : saved ≡ next.stored = ap (λ (x : StoredModel). updated x update) (sym (c.self.invariant.saved whole)) in
+    let kept : List ℕ → Transition = λ program. commits program entry next in
+    let failed = c.in_err-commit_update.ensures.fails in
+    let unchanged : e ≡ CountersUsed → new.journal ≡ old.journal = λ used. failed.unchanged (ap (λ (f : Fault). Err f) used) in
+    rw (p.1) (carried_as g.R.Rig.seen (λ (x : ControllerModel g.row.R.Denot). ⊥)
+    (λ (x : ControllerModel g.row.R.Denot). Unit {0}) (λ (x : ControllerModel g.row.R.Denot). ⊥)
+    (λ (x : ControllerModel g.row.R.Denot) (program : List ℕ).
+    commits program entry (record x.session { stored = updated x.session.stored c.args.update.now }))
+    (Err p.0) c.args.self.now old new c.self.view_is
+    (carried_failed g.R.Rig.seen ⊥ (Unit {0}) ⊥ p.0 e kept old new p.2
+    (keeps_none g.R.Rig.seen e saved entry next old new is refl failed.causes unchanged
+    (meaning c.in_err-commit_update.ensures.stores (λ s. s.stops)) refl)
+    (makes_entry {T = Unit {0}} g.R.Rig.seen (Err e) reply.Idle saved next.stored kept old new is
+    (λ program. ap (λ (x : Storing). Some x) (committed next.stored)) (meaning c.in_err-commit_update.ensures.stores (λ s. s.writes)))
+    failed.causes unchanged refl refl refl
+    (hindered_storing (Unit {0}) e (ledger_of old.journal) kept (Commit saved) failed.causes failed.used_up
+    (λ program. ap (λ (x : Storing). Some x) (committed next.stored) ∙ ap (λ (x : StoredModel). Some (Commit x)) (sym is)))
+    c.in_err-commit_update.ensures.call))
+
+pub returns : goal.returns
+returns g c = λ entry committed.
+    let update : UpdateModel = c.args.update.now in
+    let geometry : Geometry = c.self.inside.geometry in
+    let old : ControllerModel g.row.R.Denot =
+    record {
+      journal = c.self.inside.journal;
+      session = c.self.inside.session;
+      lines = c.self.inside.lines;
+      geometry = geometry;
+    } in
+    let new : ControllerModel g.row.R.Denot = record {
+      journal = c.commit_update.new.self;
+      session = c.take.new.self;
+      lines = c.self.inside.lines;
+      geometry = geometry;
+    } in
+    let whole = ap (λ (x : ControllerModel g.row.R.Denot). x.journal.broken) c.self.view_is ∙ c.requires.whole in
+    let next : SessionModel = record old.session { stored = updated old.session.stored update } in
+    let saved : StoredModel = updated old.journal.saved update in
+    let is : saved ≡ next.stored = ap (λ (x : StoredModel). updated x update) (sym (c.self.invariant.saved whole)) in
+    let kept : List ℕ → Transition = λ program. commits program entry next in
+    let done = c.in_ok-commit_update.ensures in
     carried_as g.R.Rig.seen (λ (x : ControllerModel g.row.R.Denot). ⊥) (λ (x : ControllerModel g.row.R.Denot).
     Unit {0}) (λ (x : ControllerModel g.row.R.Denot). ⊥)
     (λ (x : ControllerModel g.row.R.Denot) (program : List ℕ).
-    commits program entry
-    (record x.session { stored = with_decoded_state x.session.stored c.args.report x.session.stored.length }))
-    (Err c.in-Err.fault) c.args.self.now old new c.self.view_is
-    (carried_failed g.R.Rig.seen ⊥ (Unit {0}) ⊥ c.in-Err.fault c.in-Err.fault (λ (program : List ℕ). commits program entry next) old new refl
-    (keeps_none g.R.Rig.seen c.in-Err.fault (kept_by old.journal c.stored-2.result.now) entry next old new
-    (kept ∙ stored) same c.in-Err.ensures.errors unchanged c.in-Err.ensures.stops refl)
-    (makes_entry {T = Unit {0}} g.R.Rig.seen (Err c.in-Err.fault) reply.Idle
-    (kept_by old.journal c.stored-2.result.now) next.stored (λ (program : List ℕ). commits program entry next)
-    old new (kept ∙ stored)
-    (λ program. ap (λ (x : Storing). Some x) (committed next.stored)) c.in-Err.ensures.stores)
-    c.in-Err.ensures.errors unchanged refl same refl
-    (hindered_storing (Unit {0}) c.in-Err.fault (ledger_of old.journal)
-    (λ (program : List ℕ). commits program entry next) (Commit c.stored-2.result.now) c.in-Err.ensures.errors
-    c.in-Err.ensures.used_up
-    (λ program. ap (λ (x : Storing). Some x) (committed next.stored) ∙ ap (λ (x : StoredModel). Some (Commit x)) (sym stored)))
-    c.in-Err.ensures.broken c.in-Err.ensures.size c.in-Err.ensures.failures)
+    commits program entry (record x.session { stored = updated x.session.stored c.args.update.now }))
+    (Ok c.take.result) c.args.self.now old new c.self.view_is (record {
+      does = keeps g.R.Rig.seen c.in_ok-commit_update.field-0 c.take.result saved entry next old new is
+          c.take.ensures.reply c.take.ensures.next (meaning done.stores (λ s. s.stops)) refl;
+      calls = calls_made g.R.Rig.seen c.take.result kept old new
+          (makes_entry g.R.Rig.seen (Ok c.in_ok-commit_update.field-0) c.take.result saved next.stored kept old new is
+          (λ program. ap (λ (x : Storing). Some x) (committed next.stored)) (meaning done.stores (λ s. s.writes)));
+      reads = reads_answered g.R.Rig.seen c.take.result kept old new (λ h. (done.stores.holds h).holds)
+          (λ program. refl) (λ program known. known) (λ program. c.take.ensures.reply) (λ program. c.take.ensures.next);
+      comes = comes_by ⊥ c.take.result kept old new (λ program. c.take.ensures.reply) (λ program. c.take.ensures.next);
+      line = λ none. absurd none;
+      ledger = ledger_entry g.R.Rig.seen saved next.stored kept old new is
+          (λ program. ap (λ (x : Storing). Some x) (committed next.stored)) done.keeps.ledger;
+      hindered = tt;
+      broken = done.call.broken;
+      geometry = refl;
+      size = done.call.size;
+      failures = done.call.failures;
+    })

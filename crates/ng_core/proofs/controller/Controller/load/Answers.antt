@@ -11,6 +11,7 @@ use Rattle.ng_session.specs.Session.{SessionModel, load, load_unless, load_refus
 use Rattle.ng_session.specs.declared.reply.Reply.{Reply}
 use Rattle.ng_session.specs.declared.reply.Reply.TheVariants as reply
 use Rattle.ng_core.specs.Model.{ControllerModel}
+use Rattle.ng_rig.proofs.GuaranteeLemmas.{meaning}
 use Rattle.ng_core.proofs.LoadEventLemmas.{does_load, does_not_load, not_too_long}
 use Rattle.ng_core.proofs.HonestCallLemmas.{calls_made, makes_load, ledger_load}
 use Rattle.ng_core.proofs.EventCauseLemmas.{hindered_load}
@@ -27,12 +28,12 @@ invariant_of-self g c =
     subst (λ (x : StoredModel). length c.args.text.now ≤ x.room) (c.self.invariant.saved whole)
     c.in_default.ensures.none.1 in
     let which = not_too_long (Unit {0}) c.in_err-load_program.field-0.0 c.self.inside.journal.saved.room
-    (length c.args.text.now) small c.in_err-load_program.ensures.errors
-    c.in_err-load_program.ensures.too_long in
+    (length c.args.text.now) small c.in_err-load_program.ensures.fails.causes
+    c.in_err-load_program.ensures.fails.too_long in
     record {
       saved = kept_failed Reply c.in_err-load_program.field-0.0 c.self.inside.journal c.load_program.new.self
-          c.self.inside.session.stored which c.in_err-load_program.ensures.broken
-          (λ used. c.in_err-load_program.ensures.unchanged (inl (ap (λ (f : Fault). Err f) used))) (c.self.invariant.saved whole);
+          c.self.inside.session.stored which c.in_err-load_program.ensures.call.broken
+          (λ used. c.in_err-load_program.ensures.fails.unchanged (inl (ap (λ (f : Fault). Err f) used))) (c.self.invariant.saved whole);
       plan = c.self.invariant.plan;
     }
 
@@ -42,7 +43,7 @@ invariant_of-self-2 g c =
     let before = ap (λ (x : ControllerModel g.row.R.Denot). x.journal.broken) c.self.view_is ∙ c.requires.whole in
     let kept = kept_whole c.self.inside.journal c.in_ok-stored.stored c.self.inside.session.stored
     (c.self.invariant.saved before) (ap (λ (x : StoredModel). x.room) c.in_ok-stored.ensures.value) in
-    record { saved = λ whole. stored ∙ sym kept ∙ sym c.in_ok-load_program.ensures.saved; plan = plan_none _ _ c.forget.new.self.ahead c.forget.ensures.ahead }
+    record { saved = λ whole. stored ∙ sym kept ∙ sym c.in_ok-load_program.ensures.keeps.saved_is; plan = plan_none _ _ c.forget.new.self.ahead _ c.forget.ensures.ahead }
 
 pub returns-in-Some : goal.returns-in-Some
 returns-in-Some g c =
@@ -88,11 +89,11 @@ returns-in_err-load_program g c =
     subst (λ (x : StoredModel). length c.args.text.now ≤ x.room) (c.self.invariant.saved whole)
     c.in_default.ensures.none.1 in
     let which : (e ≡ CountersUsed) ⊎ (e ≡ DeviceFailed) = not_too_long (Unit {0}) e c.self.inside.journal.saved.room
-    (length c.args.text.now) small c.in_err-load_program.ensures.errors
-    c.in_err-load_program.ensures.too_long in
+    (length c.args.text.now) small c.in_err-load_program.ensures.fails.causes
+    c.in_err-load_program.ensures.fails.too_long in
     let kept = kept_whole old.journal c.in_ok-stored.stored old.session.stored (c.self.invariant.saved whole)
     (ap (λ (x : StoredModel). x.room) c.in_ok-stored.ensures.value) in
-    let unchanged : e ≡ CountersUsed → new.journal ≡ old.journal = λ used. c.in_err-load_program.ensures.unchanged (inl (ap (λ (f : Fault). Err f) used)) in
+    let unchanged : e ≡ CountersUsed → new.journal ≡ old.journal = λ used. c.in_err-load_program.ensures.fails.unchanged (inl (ap (λ (f : Fault). Err f) used)) in
     rw (p.1) (carried_as g.R.Rig.seen (λ (x : ControllerModel g.row.R.Denot).
     load_refusal x.session c.args.text.now ≡ None) (λ (x : ControllerModel g.row.R.Denot).
     load_refusal x.session c.args.text.now ≡ None) (λ (x : ControllerModel g.row.R.Denot). ⊥)
@@ -101,13 +102,13 @@ returns-in_err-load_program g c =
     (carried_failed g.R.Rig.seen (load_refusal old.session c.args.text.now ≡ None) (load_refusal old.session c.args.text.now ≡ None) ⊥ p.0 e
     (λ (program : List ℕ). load program old.session c.args.text.now) old new p.2
     (does_not_load g.R.Rig.seen e e (kept_by old.journal c.in_ok-stored.stored) c.args.text.now old new free
-    (kept ∙ c.in_ok-stored.ensures.value) refl which unchanged c.in_err-load_program.ensures.stops refl)
+    (kept ∙ c.in_ok-stored.ensures.value) refl which unchanged (meaning c.in_err-load_program.ensures.stores (λ s. s.stops)) refl)
     (makes_load {T = Unit {0}} g.R.Rig.seen (Err e) reply.Idle (kept_by old.journal c.in_ok-stored.stored)
-    c.args.text.now old new free (kept ∙ c.in_ok-stored.ensures.value) c.in_err-load_program.ensures.stores)
+    c.args.text.now old new free (kept ∙ c.in_ok-stored.ensures.value) (meaning c.in_err-load_program.ensures.stores (λ s. s.writes)))
     which unchanged refl refl refl
     (hindered_load (Unit {0}) e c.self.inside.journal.saved.room old.session c.in_ok-stored.stored c.args.text.now
-    (ledger_of old.journal) free small c.in_ok-stored.ensures.value which c.in_err-load_program.ensures.used_up)
-    c.in_err-load_program.ensures.broken c.in_err-load_program.ensures.size c.in_err-load_program.ensures.failures))
+    (ledger_of old.journal) free small c.in_ok-stored.ensures.value which c.in_err-load_program.ensures.fails.used_up)
+    c.in_err-load_program.ensures.call))
 
 pub returns : goal.returns
 returns g c =
@@ -137,24 +138,24 @@ returns g c =
           (kept_by old.journal c.in_ok-stored.stored) c.args.text.now old new free
           (kept ∙ c.in_ok-stored.ensures.value)
           c.load.ensures.reply (c.load.ensures.next ∙ ap (loaded old.session) (sym kept))
-          c.in_ok-load_program.ensures.stops (c.forget.ensures.holds c.args.text.now);
+          (meaning c.in_ok-load_program.ensures.stores (λ s. s.stops)) (c.forget.ensures.holds c.args.text.now);
       calls = calls_made g.R.Rig.seen c.load.result (λ (program : List ℕ). load program old.session c.args.text.now) old new
           (makes_load g.R.Rig.seen (Ok c.in_ok-load_program.field-0) c.load.result
           (kept_by old.journal c.in_ok-stored.stored) c.args.text.now old new free
-          (kept ∙ c.in_ok-stored.ensures.value) c.in_ok-load_program.ensures.stores);
+          (kept ∙ c.in_ok-stored.ensures.value) (meaning c.in_ok-load_program.ensures.stores (λ s. s.writes)));
       reads = reads_load g.R.Rig.seen c.load.result (kept_by old.journal c.in_ok-stored.stored) c.args.text.now old new
           free (kept ∙ c.in_ok-stored.ensures.value)
           (c.load.ensures.reply ∙ ap (λ (x : StoredModel). reply.Done x.entries) (sym kept))
           (c.load.ensures.next ∙ ap (loaded old.session) (sym kept))
-          c.in_ok-load_program.ensures.holds (c.forget.ensures.holds c.args.text.now);
+          (λ h. (c.in_ok-load_program.ensures.stores.holds h).holds) (c.forget.ensures.holds c.args.text.now);
       comes = comes_load ⊥ c.load.result c.in_ok-stored.stored c.args.text.now old new free
           c.in_ok-stored.ensures.value c.load.ensures.reply c.load.ensures.next;
       line = λ none. absurd none;
       ledger = ledger_load g.R.Rig.seen (kept_by old.journal c.in_ok-stored.stored) c.args.text.now old new free
-          (kept ∙ c.in_ok-stored.ensures.value) c.in_ok-load_program.ensures.ledger;
+          (kept ∙ c.in_ok-stored.ensures.value) c.in_ok-load_program.ensures.keeps.ledger;
       hindered = tt;
-      broken = c.in_ok-load_program.ensures.broken;
+      broken = c.in_ok-load_program.ensures.call.broken;
       geometry = refl;
-      size = c.in_ok-load_program.ensures.size;
-      failures = c.in_ok-load_program.ensures.failures;
+      size = c.in_ok-load_program.ensures.call.size;
+      failures = c.in_ok-load_program.ensures.call.failures;
     })

@@ -9,6 +9,7 @@ use Rattle.ng_canon.specs.declared.geometry.Geometry.{Geometry}
 use Rattle.ng_session.specs.Session.{SessionModel}
 use Rattle.ng_session.specs.Planned.{base_of}
 use Rattle.ng_session.proofs.PlannedLineLemmas.{opened_base, plan_as}
+use Rattle.ng_rig.proofs.GuaranteeLemmas.{meaning}
 use Rattle.ng_core.proofs.ReadAheadLemmas.{some_of}
 use Rattle.ng_session.specs.declared.reply.Reply.TheVariants as reply
 use Rattle.ng_core.specs.Model.{ControllerModel}
@@ -40,20 +41,20 @@ returns-in_err-open_segment g c =
       geometry = geometry;
     } in
     let whole = ap (λ (x : ControllerModel g.row.R.Denot). x.journal.broken) c.self.view_is ∙ c.requires.whole in
-    let unchanged : e ≡ CountersUsed → new.journal ≡ old.journal = λ used. c.in_err-open_segment.ensures.unchanged (ap (λ (f : Fault). Err f) used) in
+    let unchanged : e ≡ CountersUsed → new.journal ≡ old.journal = λ used. c.in_err-open_segment.ensures.fails.unchanged (ap (λ (f : Fault). Err f) used) in
     rw (p.1) (carried_as g.R.Rig.seen (λ (x : ControllerModel g.row.R.Denot). ⊥)
     (λ (x : ControllerModel g.row.R.Denot). Unit {0}) (λ (x : ControllerModel g.row.R.Denot). ⊥)
     (λ (x : ControllerModel g.row.R.Denot) (program : List ℕ). opening c.args.half program x.geometry x.session)
     (Err p.0) c.args.self.now old new c.self.view_is
     (carried_failed g.R.Rig.seen ⊥ (Unit {0}) ⊥ p.0 e (λ (program : List ℕ). opening c.args.half program geometry old.session) old new p.2
     (opens_none g.R.Rig.seen e e c.args.half old new refl (c.self.invariant.saved whole)
-    c.in_err-open_segment.ensures.errors unchanged c.in_err-open_segment.ensures.stops refl)
+    c.in_err-open_segment.ensures.fails.causes unchanged (meaning c.in_err-open_segment.ensures.stores (λ s. s.stops)) refl)
     (makes_opening {T = Unit {0}} g.R.Rig.seen (Err e) reply.Idle c.args.half (λ (program : List ℕ). opening c.args.half program geometry old.session) old new
-    (λ program. stored_opening (opening c.args.half program geometry old.session) c.args.half.index c.args.half.opened) c.in_err-open_segment.ensures.stores)
-    c.in_err-open_segment.ensures.errors unchanged refl refl refl
+    (λ program. stored_opening (opening c.args.half program geometry old.session) c.args.half.index c.args.half.opened) (meaning c.in_err-open_segment.ensures.stores (λ s. s.writes)))
+    c.in_err-open_segment.ensures.fails.causes unchanged refl refl refl
     (hindered_opening (Unit {0}) e geometry old.session (ledger_of old.journal) c.args.half
-    c.in_err-open_segment.ensures.errors c.in_err-open_segment.ensures.used_up)
-    c.in_err-open_segment.ensures.broken c.in_err-open_segment.ensures.size c.in_err-open_segment.ensures.failures))
+    c.in_err-open_segment.ensures.fails.causes c.in_err-open_segment.ensures.fails.used_up)
+    c.in_err-open_segment.ensures.call))
 
 pub returns : goal.returns
 returns g c =
@@ -77,27 +78,27 @@ returns g c =
     (λ (x : ControllerModel g.row.R.Denot) (program : List ℕ). opening c.args.half program x.geometry x.session)
     (Ok c.open.result) c.args.self.now old new c.self.view_is (record {
       does = opens g.R.Rig.seen c.in_ok-open_segment.field-0 c.open.result c.args.half old new c.open.ensures.reply
-          c.open.ensures.next (c.self.invariant.saved whole) c.in_ok-open_segment.ensures.stops refl;
+          c.open.ensures.next (c.self.invariant.saved whole) (meaning c.in_ok-open_segment.ensures.stores (λ s. s.stops)) refl;
       calls = calls_made g.R.Rig.seen c.open.result (λ (program : List ℕ). opening c.args.half program geometry old.session) old new
           (makes_opening g.R.Rig.seen (Ok c.in_ok-open_segment.field-0) c.open.result c.args.half
           (λ (program : List ℕ). opening c.args.half program geometry old.session) old new
           (λ program. stored_opening (opening c.args.half program geometry old.session) c.args.half.index
-          c.args.half.opened) c.in_ok-open_segment.ensures.stores);
+          c.args.half.opened) (meaning c.in_ok-open_segment.ensures.stores (λ s. s.writes)));
       reads = reads_answered g.R.Rig.seen c.open.result
           (λ (program : List ℕ). opening c.args.half program geometry old.session) old new
-          c.in_ok-open_segment.ensures.holds
+          (λ h. (c.in_ok-open_segment.ensures.stores.holds h).holds)
           (λ program. refl) (λ program known. known) (λ program. c.open.ensures.reply) (λ program. c.open.ensures.next);
       comes = comes_by ⊥ c.open.result (λ program. opening c.args.half program geometry old.session) old new
           (λ program. c.open.ensures.reply) (λ program. c.open.ensures.next);
       line = λ none. absurd none;
       ledger = ledger_opening g.R.Rig.seen c.args.half (λ (program : List ℕ). opening c.args.half program geometry old.session) old new
           (λ program. stored_opening (opening c.args.half program geometry old.session) c.args.half.index
-          c.args.half.opened) c.in_ok-open_segment.ensures.ledger;
+          c.args.half.opened) c.in_ok-open_segment.ensures.keeps.ledger;
       hindered = tt;
-      broken = c.in_ok-open_segment.ensures.broken;
+      broken = c.in_ok-open_segment.ensures.call.broken;
       geometry = refl;
-      size = c.in_ok-open_segment.ensures.size;
-      failures = c.in_ok-open_segment.ensures.failures;
+      size = c.in_ok-open_segment.ensures.call.size;
+      failures = c.in_ok-open_segment.ensures.call.failures;
     })
 
 pub invariant_of-self-2 : goal.invariant_of-self-2
@@ -109,6 +110,6 @@ invariant_of-self-2 g c =
     record {
       saved = λ after. ap (λ (s : SessionModel). s.stored) c.open.ensures.next
           ∙ ap (λ (x : StoredModel). (let y : StoredModel = record x { half = Some c.args.half } in y))
-          (c.self.invariant.saved whole) ∙ sym c.in_ok-open_segment.ensures.saved;
-      plan = plan_as _ (base_of session) (base_of c.open.new.self) c.self.inside.lines.ahead same c.self.invariant.plan;
+          (c.self.invariant.saved whole) ∙ sym c.in_ok-open_segment.ensures.keeps.saved_is;
+      plan = plan_as _ (base_of session) (base_of c.open.new.self) c.self.inside.lines.ahead _ same c.self.invariant.plan;
     }

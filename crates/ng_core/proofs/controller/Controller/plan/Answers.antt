@@ -2,7 +2,6 @@ use Rattle.std.proofs.Common.{◌≡◌, ℕ, Option, Some, None, Ok, Err, refl,
 use Rattle.std.proofs.lemmas.Result.{err_from_is_err_and}
 use Rattle.ng_num.specs.declared.fault.Fault.{Fault}
 use Rattle.ng_rig.proofs.GuaranteeLemmas.{onto}
-use Rattle.ng_journal.specs.Journal.{CountsFailure}
 use Rattle.ng_text.specs.LinesBefore.{IsTrueOf, IsLineBetween}
 use Rattle.ng_text.specs.Programs.{ProgramLineModel}
 use Rattle.ng_text.specs.declared.lines_before.LinesBefore.{LinesBefore}
@@ -11,6 +10,7 @@ use Rattle.ng_session.specs.Planned.{KnownModel, IsKnownOf}
 use Rattle.ng_core.specs.Model.{ControllerModel}
 use Rattle.ng_core.specs.Private.Ahead.{PlansAhead}
 use Rattle.ng_core.proofs.ReadAheadLemmas.{plans_found, plans_lost}
+use Rattle.ng_core.proofs.StoredJournalLemmas.{call_after}
 use Rattle.ng_core.proofs.LineBeginLemmas.{Reading, finding_both}
 use Rattle.ng_core.proofs.ProgramInForceLemmas.{finds_in_force}
 use Rattle.ng_core.proofs.controller.Controller.plan.Goals as goal
@@ -37,7 +37,7 @@ returns-in_err-first g c =
     } in
     rw (p.1) (subst (λ (x : ControllerModel g.row.R.Denot). PlansAhead g.R.Rig.seen (Err p.0) x new) c.self.view_is
     (plans_lost g.R.Rig.seen p.0 e old new p.2 c.in_err-first.ensures.unwritten c.in_err-first.ensures.errors refl refl c.in_err-first.ensures.ledger
-    c.in_err-first.ensures.broken c.in_err-first.ensures.size c.in_err-first.ensures.failures))
+    c.in_err-first.ensures.call))
 
 pub returns-in_err-line : goal.returns-in_err-line
 returns-in_err-line g c =
@@ -61,9 +61,7 @@ returns-in_err-line g c =
     rw (p.1) (subst (λ (x : ControllerModel g.row.R.Denot). PlansAhead g.R.Rig.seen (Err p.0) x new) c.self.view_is
     (plans_lost g.R.Rig.seen p.0 e old new p.2 (onto _ c.in_ok-first.ensures.unwritten c.in_err-line.ensures.reads (λ first line. line.same ∙ first))
     c.in_err-line.ensures.errors refl refl (c.in_err-line.ensures.ledger ∙ c.in_ok-first.ensures.ledger)
-    c.in_err-line.ensures.broken (c.in_err-line.ensures.size ∙ c.in_ok-first.ensures.size)
-    (subst (λ (n : ℕ). CountsFailure {T = Unit {0}} (Err e) n (g.R.Rig.seen c.program_line.new.self.rig).failed)
-    c.in_ok-first.ensures.failures c.in_err-line.ensures.failures)))
+    (call_after g.R.Rig.seen c.in_ok-first.first (Err e) _ _ _ c.in_ok-first.ensures.call c.in_err-line.ensures.call)))
 
 pub returns-in-Some-2 : goal.returns-in-Some-2
 returns-in-Some-2 g c =
@@ -87,7 +85,7 @@ returns-in-Some-2 g c =
     c.first_kind_before.new.journal c.program_line.new.self)
     (c.in-Some-2.is ∙ ap (λ (l : ProgramLineModel). Some l) (sym read)) c.in_ok-line.ensures.line in
     subst (λ (x : ControllerModel g.row.R.Denot). PlansAhead g.R.Rig.seen (Ok tt) x new) c.self.view_is
-    (plans_found g.R.Rig.seen c.in_ok-first.first (Some line) c.in-Some.place old new
+    (plans_found g.R.Rig.seen c.in_ok-line.field-0 c.in_ok-first.first (Some line) c.in-Some.place old new
     (finding_both {E = Fault} {F = Fault} g.R.Rig.seen c.in_ok-first.first (Some line) c.self.inside.lines
     c.in-Some.place c.self.inside.journal c.first_kind_before.new.journal c.program_line.new.self
     c.in_ok-first.ensures.kind reading)
@@ -104,8 +102,8 @@ returns-in-Some-2 g c =
     between) in
     subst (λ (k : KnownModel). IsKnownOf program k) (sym c.set_before.ensures) (before, ahead))
     (λ h. (c.in_ok-line.ensures.reads.holds (c.in_ok-first.ensures.kind.keeps h)).same ∙ c.in_ok-first.ensures.unwritten.holds h)
-    c.plan.ensures.session refl (c.in_ok-line.ensures.ledger ∙ c.in_ok-first.ensures.ledger) c.in_ok-line.ensures.broken
-    (c.in_ok-line.ensures.size ∙ c.in_ok-first.ensures.size) (c.in_ok-line.ensures.failures ∙ c.in_ok-first.ensures.failures))
+    c.plan.ensures.session refl (c.in_ok-line.ensures.ledger ∙ c.in_ok-first.ensures.ledger)
+    (call_after g.R.Rig.seen c.in_ok-first.first (Ok c.in_ok-line.field-0) _ _ _ c.in_ok-first.ensures.call c.in_ok-line.ensures.call))
 
 pub returns-in-None : goal.returns-in-None
 returns-in-None g c =
@@ -127,7 +125,7 @@ returns-in-None g c =
     let reading = subst (λ (l : Option ProgramLineModel). Reading {E = Fault} g.R.Rig.seen (Ok l) c.in-Some.place
     c.first_kind_before.new.journal c.program_line.new.self) c.in-None.is c.in_ok-line.ensures.line in
     subst (λ (x : ControllerModel g.row.R.Denot). PlansAhead g.R.Rig.seen (Ok tt) x new) c.self.view_is
-    (plans_found g.R.Rig.seen c.in_ok-first.first None c.in-Some.place old new
+    (plans_found g.R.Rig.seen c.in_ok-line.field-0 c.in_ok-first.first None c.in-Some.place old new
     (finding_both {E = Fault} {F = Fault} g.R.Rig.seen c.in_ok-first.first None c.self.inside.lines c.in-Some.place
     c.self.inside.journal c.first_kind_before.new.journal c.program_line.new.self
     c.in_ok-first.ensures.kind reading)
@@ -137,5 +135,5 @@ returns-in-None g c =
     c.in-None.is (λ h. (c.in_ok-line.ensures.reads.holds h).right))
     (λ program known at kind. subst (λ (k : KnownModel). IsKnownOf program k) (sym c.end.ensures) known)
     (λ h. (c.in_ok-line.ensures.reads.holds (c.in_ok-first.ensures.kind.keeps h)).same ∙ c.in_ok-first.ensures.unwritten.holds h)
-    refl refl (c.in_ok-line.ensures.ledger ∙ c.in_ok-first.ensures.ledger) c.in_ok-line.ensures.broken
-    (c.in_ok-line.ensures.size ∙ c.in_ok-first.ensures.size) (c.in_ok-line.ensures.failures ∙ c.in_ok-first.ensures.failures))
+    refl refl (c.in_ok-line.ensures.ledger ∙ c.in_ok-first.ensures.ledger)
+    (call_after g.R.Rig.seen c.in_ok-first.first (Ok c.in_ok-line.field-0) _ _ _ c.in_ok-first.ensures.call c.in_ok-line.ensures.call))

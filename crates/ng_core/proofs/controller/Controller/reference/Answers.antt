@@ -1,17 +1,24 @@
 use Rattle.std.proofs.Common.{◌≡◌, ℕ, List, Option, None, Some, refl, sym, ◌∙◌, ap, subst}
 use Rattle.ng_num.specs.declared.fault.Fault.{Fault}
 use Rattle.ng_num.specs.declared.fault.Fault.TheVariants.{CountersUsed}
-use Rattle.ng_layout.specs.Stored.{StoredModel, with_decoded_state}
+use Rattle.ng_layout.specs.Stored.{StoredModel}
+use Rattle.ng_layout.specs.Update.{updated}
 use Rattle.ng_journal.specs.Storing.{ledger_of}
 use Rattle.ng_canon.specs.declared.geometry.Geometry.{Geometry}
 use Rattle.ng_session.specs.Entries.{Referenced, after_reference}
 use Rattle.ng_session.specs.Session.{SessionModel, commits, reference, reference_unless, reference_refusal}
+use Rattle.ng_session.specs.SessionInvariant.{IsNextEntry}
 use Rattle.ng_core.specs.Causes.{IsCausedBy}
 use Rattle.ng_core.specs.Model.{ControllerModel}
 use Rattle.ng_core.proofs.CarriesOutLemmas.{carried_to, carried_refused, carried_used}
 use Rattle.ng_core.proofs.EventCauseLemmas.{hindered_count, stored_reference}
 use Rattle.ng_core.proofs.ReportEntryLemmas.{past_referenced}
 use Rattle.ng_core.proofs.controller.Controller.reference.Goals as goal
+
+pub keep-requires-clause-next : goal.keep-requires-clause-next
+keep-requires-clause-next g c =
+    subst (λ (x : ControllerModel g.row.R.Denot). IsNextEntry x.session.stored c.referenced-update.result) c.self.view_is
+    c.referenced-update.ensures.next
 
 pub returns-in-Some : goal.returns-in-Some
 returns-in-Some g c =
@@ -46,16 +53,12 @@ returns g c =
     let old : ControllerModel g.row.R.Denot = c.args.self.now in
     let none : reference_refusal old.geometry old.session c.args.point.now ≡ None =
     subst (λ (x : ControllerModel g.row.R.Denot). reference_refusal x.geometry x.session c.args.point.now ≡ None) c.self.view_is (sym c.in_default.ensures) in
-    let is : with_decoded_state old.session.stored c.referenced-report.result old.session.stored.length ≡ after_reference old.session.stored c.args.point.now =
-    subst (λ (x : ControllerModel g.row.R.Denot). with_decoded_state x.session.stored c.referenced-report.result
-    x.session.stored.length ≡ after_reference x.session.stored c.args.point.now) c.self.view_is
-    c.referenced-report.ensures.value in
+    let is : updated old.session.stored c.referenced-update.result ≡ after_reference old.session.stored c.args.point.now =
+    subst (λ (x : ControllerModel g.row.R.Denot). updated x.session.stored c.referenced-update.result
+    ≡ after_reference x.session.stored c.args.point.now) c.self.view_is c.referenced-update.ensures.value in
     carried_to g.R.Rig.seen ⊥ ⊥ (Unit {0}) (reference_refusal old.geometry old.session c.args.point.now ≡ None) ⊥ ⊥
     (λ (program : List ℕ). commits program (Referenced c.args.point.now)
-    (record old.session {
-      stored = with_decoded_state old.session.stored c.referenced-report.result
-          old.session.stored.length;
-    }))
+    (record old.session { stored = updated old.session.stored c.referenced-update.result }))
     (λ (program : List ℕ). reference old.geometry program old.session c.args.point.now)
     c.keep.result old c.keep.new.self (λ m. m) (λ u. none) (λ e. e) (λ e. e)
     (λ program. ap (λ (y : StoredModel). commits program (Referenced c.args.point.now)

@@ -9,7 +9,7 @@ pub returns-then-is_held : goal.returns-then-is_held
 returns-then-is_held g c =
     let old : ControllerModel g.row.R.Denot = c.args.self.now in
     let held : old.session.held ≡ true = sym (ap (λ (x : ControllerModel g.row.R.Denot). x.session.held) c.self.view_is) ∙ sym c.if-is_held.ensures.held in
-    carried_held g.R.Rig.seen ((old.session.held ≡ false) × IsBetweenLines old.session) ((old.session.held ≡ false)
+    carried_held g.R.Rig.seen ⊥ ((old.session.held ≡ false)
     × (has_work old.session ≡ true)) ((old.session.held ≡ false) × IsBetweenLines old.session) old c.requires
     (λ read. absurd (let z : false ≡ true = sym read.0 ∙ held in cc)) held
 
@@ -23,8 +23,7 @@ returns-in-Some g c =
       lines = c.self.inside.lines;
       geometry = geometry;
     } in
-    carried_as g.R.Rig.seen (λ (x : ControllerModel g.row.R.Denot). (x.session.held ≡ false)
-    × IsBetweenLines x.session) (λ (x : ControllerModel g.row.R.Denot). (x.session.held ≡ false)
+    carried_as g.R.Rig.seen (λ (x : ControllerModel g.row.R.Denot). ⊥) (λ (x : ControllerModel g.row.R.Denot). (x.session.held ≡ false)
     × (has_work x.session ≡ true)) (λ (x : ControllerModel g.row.R.Denot). (x.session.held ≡ false)
     × IsBetweenLines x.session) (λ (x : ControllerModel g.row.R.Denot) (program : List ℕ).
     tick x.geometry program x.session) c.hand_out.result c.args.self.now old c.hand_out.new.self c.self.view_is
@@ -41,8 +40,7 @@ returns-in-None g c =
       lines = c.self.inside.lines;
       geometry = geometry;
     } in
-    carried_as g.R.Rig.seen (λ (x : ControllerModel g.row.R.Denot). (x.session.held ≡ false)
-    × IsBetweenLines x.session) (λ (x : ControllerModel g.row.R.Denot). (x.session.held ≡ false)
+    carried_as g.R.Rig.seen (λ (x : ControllerModel g.row.R.Denot). ⊥) (λ (x : ControllerModel g.row.R.Denot). (x.session.held ≡ false)
     × (has_work x.session ≡ true)) (λ (x : ControllerModel g.row.R.Denot). (x.session.held ≡ false)
     × IsBetweenLines x.session) (λ (x : ControllerModel g.row.R.Denot) (program : List ℕ).
     tick x.geometry program x.session) c.go_further.result c.args.self.now old c.go_further.new.self

@@ -1,11 +1,12 @@
-use Rattle.std.proofs.Common.{◌≡◌, ◌+◌, ℕ, List, Option, None, Some, refl, sym, ◌∙◌, ap, subst}
+use Rattle.std.proofs.Common.{◌≡◌, ℕ, List, Option, None, Some, refl, sym, ◌∙◌, ap, subst}
 use Rattle.ng_num.specs.declared.fault.Fault.{Fault}
 use Rattle.ng_num.specs.declared.fault.Fault.TheVariants.{CountersUsed}
 use Rattle.ng_layout.specs.Stored.{StoredModel}
-use Rattle.ng_offsets.specs.Tools.{IsOneSlotFrom}
+use Rattle.ng_layout.specs.Update.{updated}
 use Rattle.ng_journal.specs.Storing.{ledger_of}
 use Rattle.ng_session.specs.Entries.{Tooled, after_tool}
 use Rattle.ng_session.specs.Session.{SessionModel, commits, tool, tool_unless, tool_refusal}
+use Rattle.ng_session.specs.SessionInvariant.{IsNextEntry}
 use Rattle.ng_core.specs.Causes.{IsCausedBy}
 use Rattle.ng_core.specs.Model.{ControllerModel}
 use Rattle.ng_core.proofs.CarriesOutLemmas.{carried_to, carried_refused, carried_used}
@@ -13,14 +14,14 @@ use Rattle.ng_core.proofs.EventCauseLemmas.{hindered_count, stored_tool}
 use Rattle.ng_core.proofs.ReportEntryLemmas.{no_block_at_rest, past_tooled}
 use Rattle.ng_core.proofs.controller.Controller.tool.Goals as goal
 
-pub keep_tools-requires-clause-free : goal.keep_tools-requires-clause-free
-keep_tools-requires-clause-free g c =
+pub keep-requires-clause-free : goal.keep-requires-clause-free
+keep-requires-clause-free g c =
     subst (λ (x : ControllerModel g.row.R.Denot). x.session.current ≡ None) c.self.view_is (no_block_at_rest c.self.inside.session c.in_default.ensures.none.0)
 
-pub keep_tools-requires-clause-one : goal.keep_tools-requires-clause-one
-keep_tools-requires-clause-one g c =
-    subst (λ (x : ControllerModel g.row.R.Denot). IsOneSlotFrom x.session.stored.tools c.tools_with-tools.result) c.self.view_is
-    c.tools_with-tools.ensures.one
+pub keep-requires-clause-next : goal.keep-requires-clause-next
+keep-requires-clause-next g c =
+    subst (λ (x : ControllerModel g.row.R.Denot). IsNextEntry x.session.stored c.tooled-update.result) c.self.view_is
+    c.tooled-update.ensures.next
 
 pub returns-in-Some : goal.returns-in-Some
 returns-in-Some g c =
@@ -55,18 +56,15 @@ returns g c =
     let none : tool_refusal old.session c.args.slot c.args.tool_length ≡ None =
     subst (λ (x : ControllerModel g.row.R.Denot). tool_refusal x.session c.args.slot c.args.tool_length ≡ None)
     c.self.view_is (sym c.in_default.ensures.value) in
-    let kept : ControllerModel g.row.R.Denot → StoredModel = λ x.
-    record x.session.stored { entries = x.session.stored.entries + 1; tools = c.tools_with-tools.result } in
-    let is : kept old ≡ after_tool old.session.stored c.args.slot c.args.tool_length =
-    subst (λ (x : ControllerModel g.row.R.Denot). kept x ≡ after_tool x.session.stored c.args.slot c.args.tool_length) c.self.view_is
-    (λ i. let y : StoredModel = record c.self.inside.session.stored
-    { entries = c.self.inside.session.stored.entries + 1; tools = c.tools_with-tools.ensures.value i } in y) in
+    let is : updated old.session.stored c.tooled-update.result ≡ after_tool old.session.stored c.args.slot c.args.tool_length =
+    subst (λ (x : ControllerModel g.row.R.Denot). updated x.session.stored c.tooled-update.result
+    ≡ after_tool x.session.stored c.args.slot c.args.tool_length) c.self.view_is c.tooled-update.ensures.value in
     carried_to g.R.Rig.seen ⊥ ⊥ (Unit {0}) (tool_refusal old.session c.args.slot c.args.tool_length ≡ None) ⊥ ⊥
     (λ (program : List ℕ). commits program (Tooled c.args.slot c.args.tool_length)
-    (record old.session { stored = kept old }))
+    (record old.session { stored = updated old.session.stored c.tooled-update.result }))
     (λ (program : List ℕ). tool program old.session c.args.slot c.args.tool_length)
-    c.keep_tools.result old c.keep_tools.new.self (λ m. m) (λ u. none) (λ e. e) (λ e. e)
+    c.keep.result old c.keep.new.self (λ m. m) (λ u. none) (λ e. e) (λ e. e)
     (λ program. ap (λ (y : StoredModel). commits program (Tooled c.args.slot c.args.tool_length)
     (let s : SessionModel = record old.session { stored = y } in s)) is
     ∙ sym (ap (λ (o : Option Fault). tool_unless program old.session c.args.slot c.args.tool_length o) none))
-    (c.keep_tools.ensures (Tooled c.args.slot c.args.tool_length) (λ saved. refl))
+    (c.keep.ensures (Tooled c.args.slot c.args.tool_length) (λ saved. refl))
