@@ -34,12 +34,12 @@ const recovery = new Recovery(app, asks, log);
 const alarm = new Alarm(asks, () => { if (recovery.isOpen) recovery.later(); });
 Object.assign(app, { picture, program, readout });
 
-// Asks the server for something. Gives its answer, or null where it isn't done, which is said.
-async function asks(what, body) {
+// Asks the server for something. Gives its answer, or null where it isn't done; `refused` is told why.
+async function asks(what, body, refused = why => log.refuse(why)) {
   try {
     return await post(what, body);
   } catch (error) {
-    log.refuse(error.message);
+    refused(error.message);
     return null;
   }
 }

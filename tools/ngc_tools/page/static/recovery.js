@@ -21,16 +21,19 @@ const CHOICES = {
 };
 
 export class Recovery {
-  // `app` has the state and the job; `asks` sends a request, and gives its answer, or null; `log` knows what was said.
+  // `app` has the state and the job; `asks` sends a request, and gives its answer, or null, where it can be told who is
+  // to hear why; `log` knows what was said.
   constructor(app, asks, log) {
     Object.assign(this, { app, asks, log });
     this.isOpen = false;
     this.isLater = false;    // somebody put it off
+    this.again = sheet.button('Rehearse again', () => this.rehearseStored());
   }
 
   begin() {
     const { state } = this.app;
     Object.assign(this, { isOpen: true, isLater: false, step: 0, stored: null, plan: null, key: '' });
+    Object.assign(this, { isRehearsing: false, refusal: '' });
     this.at = [...(state.motors ?? state.at)].map(number => number.replace(/0{1,3}$/, ''));
     this.sure = [false, false, false];
     this.steps = el('ol', { class: 'steps' });
@@ -41,10 +44,6 @@ export class Recovery {
     this.job();
     sight.look(true);
     this.go(0);
-    this.asks('rehearse', {}).then(found => {
-      this.stored = found;
-      this.retell();
-    });
   }
 
   close() {
@@ -96,7 +95,7 @@ export class Recovery {
   // Tells what was found meanwhile. The buttons stay: a touch on one that is made anew under the finger would be lost.
   retell() {
     if (!this.isOpen) return;
-    if (this.step === 0) this.tell(this.storedWords());
+    if (this.step === 0) this.tellStored();
     if (this.step === 2 && this.plan) this.tell(this.rehearsedWords());
     this.mark();
   }
@@ -146,9 +145,29 @@ export class Recovery {
   // ---- 1: what was stored
 
   first() {
-    this.put(this.storedWords(), [sheet.button('Later', () => this.later()),
-      sheet.gap('Nothing moves, and nothing is switched.'),
-      this.next('Next: where it stands', () => this.go(1))]);
+    const isYours = this.app.state.yours;
+    this.again.disabled = !isYours;
+    this.put([], [sheet.button('Later', () => this.later()), sheet.gap('Nothing moves, and nothing is switched.'),
+      this.again, this.next('Next: where it stands', () => this.go(1))]);
+    this.tellStored();
+    if (isYours && !this.stored && !this.isRehearsing) this.rehearseStored();
+  }
+
+  // Asks what a resume would do. `refusal` is why that isn't done.
+  async rehearseStored() {
+    const opened = this.sheet;
+    let refusal = '';
+    Object.assign(this, { isRehearsing: true, refusal });
+    this.retell();
+    const stored = await this.asks('rehearse', {}, why => { refusal = why; });
+    if (this.sheet !== opened) return;
+    Object.assign(this, { isRehearsing: false, stored, refusal });
+    this.retell();
+  }
+
+  tellStored() {
+    this.again.hidden = !this.refusal;
+    this.tell(this.storedWords());
   }
 
   storedWords() {
@@ -161,11 +180,17 @@ export class Recovery {
         ['Under way', `${way} ${state.segment + 1} of that line`],
         ['It begins at', found?.begins?.length && sheet.code(point(found.begins))], ['Was on there', found?.comes_on],
         ['From there to the end', found?.rest_us && lasting(found.rest_us)]]),
-      found ? null : sheet.soft('ngc rehearses it over a copy of the device\u2026'),
-      found?.refused && sheet.warning(found.refused, 'bad'),
+      found ? found.refused && sheet.warning(found.refused, 'bad') : this.notRehearsed(),
       ...ways.neverCut(this.app.neverCut),
       sheet.soft('In the picture solid is done, amber was under way, pale is left. The amber segment is made again '
         + 'from its beginning.')];
+  }
+
+  notRehearsed() {
+    if (!this.app.state.yours) return sheet.soft('This page watches. Take over, and ngc rehearses it.');
+    if (!this.refusal) return sheet.soft('ngc rehearses it over a copy of the device\u2026');
+    return sheet.warning(`It isn\u2019t rehearsed: ${this.refusal}. Rehearse it again, or go on: it is rehearsed once `
+      + 'more before anything moves.', 'bad');
   }
 
   // ---- 2: where the machine stands
