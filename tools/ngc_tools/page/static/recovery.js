@@ -234,11 +234,13 @@ export class Recovery {
   // ---- 3: a rehearsal
 
   async rehearsal() {
-    this.plan = null;
+    const asked = { at: [...this.at], recover: Boolean(this.along) };
+    Object.assign(this, { plan: null, asked });
     this.go(2);
-    this.plan = await this.asks('rehearse', { at: this.at, recover: Boolean(this.along) });
-    if (!this.isOpen || this.step !== 2) return;
-    this.go(this.plan ? 2 : 1);
+    const plan = await this.asks('rehearse', asked);
+    if (!this.isOpen || this.step !== 2 || this.asked !== asked) return; // of another place, or nobody waits for it
+    this.plan = plan;
+    this.go(plan ? 2 : 1);
     this.picture.fit();
   }
 
