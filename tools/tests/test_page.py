@@ -18,7 +18,7 @@ sys.path.insert(0, str(Path(__file__).resolve().parent))
 
 from machine_support import SocketMachine  # noqa: E402
 from page_support import CUT, OTHER, PAGE, SLOW, Page, Served, request  # noqa: E402
-from session_support import PATIENCE_S, TOOLS, InFolder, ngc, told  # noqa: E402
+from session_support import FIRST, PATIENCE_S, TOOLS, InFolder, ngc, told  # noqa: E402
 
 from ngc_tools.cli.page import main  # noqa: E402
 from ngc_tools.ngc.console import Console  # noqa: E402
@@ -675,6 +675,21 @@ class Jobs(InFolder):
             self.run_ngc(f"start\ntick 9999\n{line}")
             asked = RehearsalRequest(ngc(), "first.toml", Path("mill.dev").read_bytes(), None, drawing, None)
             self.assertEqual(rehearsed(asked)["differs"], differs)
+
+    def test_refused(self) -> None:
+        """Where a block can't be taken up it is told what is refused, and what can be done."""
+        self.device()
+        program = b"G21 G90\nG1 X0.1 F6\nM2\n"
+        self.run_ngc(f"load {len(program)}\n{program.decode()}start\ntick 20\n")
+        Path("first.toml").write_text(FIRST.replace("high_nm = [1000000000", "high_nm = [50000"))
+        for at, says in (("0.06", "reference 0.06 0 0: refused X2 OutsideTravel: X 0.06 is outside the travel, which"
+                          " ends at 0.05 (high_nm of the settings)"),
+                         ("0.02", "resume: refused X2 OutsideTravel: the end of a move lies outside the travel")):
+            asked = RehearsalRequest(ngc(), "first.toml", Path("mill.dev").read_bytes(), [at, "0", "0"], None, None)
+            said = rehearsed(asked)
+            self.assertTrue(said["refused"].startswith(says), said)
+            self.assertIn("\nIs a coordinate wrong? Write it anew: step 2.", said["refused"])
+            self.assertEqual((said["begins"], said["approach"]), ([], None))
 
 
 class Faces(unittest.TestCase):

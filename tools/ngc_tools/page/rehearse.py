@@ -10,9 +10,9 @@ from ngc_tools.job.figures import duration, micrometres
 from ngc_tools.job.figures import millimetres as rounded
 from ngc_tools.job.moves import CUT, Move, Point, distance, of_out
 from ngc_tools.ngc.copies import CommandRefused
+from ngc_tools.operator import causes
 from ngc_tools.operator.recovery import OutFound
 from ngc_tools.operator.rehearsal import Rehearsal, outputs
-from ngc_tools.operator.sentences import explained
 from ngc_tools.page.differs import differences
 from ngc_tools.page.drawing import Drawing, job_of
 from ngc_tools.page.session import Busy, PageSession
@@ -21,6 +21,9 @@ _NEAR_NM = 100_000  # so near a finished cut the way counts as within it
 _ON_NM = 20_000  # the motors are on a step if they are as near
 _LOOKS = 400  # points of the way that are looked at, at most
 _APART_NM = 250_000  # and so far apart at least
+_CURE = ("Is a coordinate wrong? Write it anew: step 2. Are the settings other than they were? Quit, and begin again"
+         " with the old ones. Else give the line up: step 4.")
+"""What can be done where a block can't be taken up."""
 
 
 @dataclass(frozen=True, slots=True)
@@ -92,13 +95,19 @@ def rehearsed(asked: RehearsalRequest) -> dict:
     try:
         lines = rehearsal.lines()
     except CommandRefused as error:
-        return found | {"refused": explained(error.reply), "lines": [error.reply]}
+        return found | {"refused": _refusal(error, asked.settings), "lines": [str(error)]}
     comes_on = outputs(rehearsal.comes_on) if rehearsal.comes_on else ""
     approach = _approach(asked, *rehearsal.approach) if rehearsal.approach else None
     return found | {"lines": lines, "begins": rehearsal.begins, "rest": duration(rehearsal.rest_us),
                     "rest_us": rehearsal.rest_us, "comes_on": comes_on, "approach": approach,
                     "refused": lines[-1] if rehearsal.refused else "", "differs": _differs(asked, rehearsal.rest_us),
                     "along": _points(asked) if asked.along else None}
+
+
+def _refusal(error: CommandRefused, settings: str) -> str:
+    """What `ngc` refuses over the copy, why, and what can be done."""
+    said = causes.rehearsed(error.reply, error.asked, Settings.read(settings))
+    return said if error.asked == "start" else f"{said}\n{_CURE}"
 
 
 def _differs(asked: RehearsalRequest, rest_us: int) -> list[str]:

@@ -23,8 +23,8 @@ export const lostOf = found => [found, ...found?.earlier ?? []].map(one => one?.
 // `along` is what recover would do, or null; `plan` the rehearsal of a resume.
 export function told(along, plan, recover) {
   const way = along ? alongOut(along, plan) : plan.approach ? straight(plan) : [];
-  const canGo = along || plan.approach && !recover?.left;
-  return [...way, recover?.problem && sheet.warning(recover.problem, 'bad'), !canGo && sheet.warning(LEFT, 'bad'),
+  const isStuck = !along && recover?.left;
+  return [...way, recover?.problem && sheet.warning(recover.problem, 'bad'), isStuck && sheet.warning(LEFT, 'bad'),
     plan.refused && sheet.warning(plan.refused, 'bad'),
     el('details', {}, el('summary', {}, 'All that the rehearsal says'), sheet.lines(plan.lines))];
 }
