@@ -168,14 +168,21 @@ function rate(s, { step }) {
 }
 
 async function fetchNew(s) {
-  if (s.program.id !== app.programId) {
-    app.programId = s.program.id;
-    const got = await get('program');
-    program.show(got.name, got.text);
-  }
-  if (s.job === app.jobId) return;
-  app.jobId = s.job;
-  const got = await get('job');
+  await fetchOnce('programId', s.program.id, 'program', got => program.show(got.name, got.text));
+  await fetchOnce('jobId', app.state.job, 'job', showJob);
+}
+
+// Fetches what isn't on the page yet. What fails is asked for again with the next state; an answer that comes once
+// something newer was asked for is let go.
+async function fetchOnce(name, id, what, shows) {
+  if (app[name] === id) return;
+  app[name] = id;
+  const got = await get(what).catch(() => null);
+  if (app[name] !== id) return;
+  if (got) shows(got); else app[name] = null;
+}
+
+function showJob(got) {
   app.job = got.job ? new Job(got.job) : null;
   app.failed = got.failed;
   app.travel = [got.low, got.high];
