@@ -25,8 +25,8 @@ from pathlib import Path
 
 sys.path.insert(0, str(Path(__file__).resolve().parent))
 
-from pulled_plug import STEP_NM, Uncut, Wrong, run_uncut, steps_after  # noqa: E402
-from session_support import FIRST  # noqa: E402
+from pulled_plug import STEP_NM, Uncut, Wrong, linked, run_uncut, steps_after, whole_lines  # noqa: E402
+from session_support import FIRST, PATIENCE_S, memory  # noqa: E402
 
 from ngc_tools.cli.player import main as play  # noqa: E402
 from ngc_tools.failure import Failure  # noqa: E402
@@ -134,7 +134,7 @@ class SlowLink(SyncedLink):
     """Syncs as a slow disk does."""
 
     def __init__(self, path: Path, out: Path, chance: random.Random) -> None:
-        super().__init__(path, out, patience_s=20)
+        super().__init__(path, out, 5 * PATIENCE_S)
         self.chance = chance
 
     def sync(self) -> None:
@@ -264,7 +264,11 @@ class Session:
         self.timer: threading.Timer | None = None
         self.killed = False
         self.player = self._start_player()
-        self.link = self._linked()
+        try:
+            self.link = linked(self.player, folder, lambda: SlowLink(self.socket, folder / "out", chance))
+        except BaseException:
+            self._kill_all_that_is_left()
+            raise
 
     def _start_player(self) -> int:
         words = [self.folder / "out", self.folder / "settings.toml", self.folder / "record", "--follow",
@@ -285,14 +289,6 @@ class Session:
                 os._exit(3)
         return child
 
-    def _linked(self) -> SyncedLink:
-        for _ in range(4000):
-            try:
-                return SlowLink(self.socket, self.folder / "out", self.chance)
-            except NoAnswer:
-                time.sleep(0.005)
-        raise Wrong("the player doesn't start")
-
     def kill_after(self, seconds: float, in_opening: bool) -> None:
         """Kills all after so long, counted from now on, or else from where the recovery, or the work, begins."""
         self.timer = threading.Timer(seconds, self._kill_all)
@@ -301,9 +297,9 @@ class Session:
 
     def _kill_all(self) -> None:
         self.killed = True
-        for process in (self.player, self.console.child.pid if self.console else 0):
-            if process:
-                os.kill(process, signal.SIGKILL)
+        os.kill(self.player, signal.SIGKILL)  # it isn't waited for yet
+        if self.console:
+            self.console.child.kill()
 
     def work(self, text: bytes) -> bool:
         """Recovers, and works to the program's end; False where the plug was pulled before."""
@@ -319,8 +315,6 @@ class Session:
             self.console.quit()
             return True
         except (Ended, NoAnswer, Failure):
-            if not self.killed and self.timer:
-                self.timer.join(5)
             if not self.killed:
                 raise
             return False
@@ -366,23 +360,19 @@ class Session:
             self.console.child.kill()
         if self.console:
             self.console.close_pipes()
-        try:
-            os.kill(self.player, signal.SIGKILL)
-        except ProcessLookupError:
-            pass
+        os.kill(self.player, signal.SIGKILL)  # it isn't waited for yet
         os.waitpid(self.player, 0)
 
     def pins(self) -> list[bytes]:
         """The lines that the pins got."""
-        return self.log.read_bytes().splitlines() if self.log.exists() else []
+        return whole_lines(self.log)
 
 
 def pull(options: Options, moments: int, seed: int, blocks: int = 40, seconds: float | None = None) -> Result:
     """Runs jobs until so many moments were seen, or so many seconds are over; the last one isn't cut then any more.
     Raises Wrong."""
     result, chance = Result(until=time.monotonic() + seconds if seconds else None), random.Random(seed)
-    base = "/dev/shm" if os.access("/dev/shm", os.W_OK) else None
-    with tempfile.TemporaryDirectory(prefix="ngc-file-", dir=base) as name:
+    with tempfile.TemporaryDirectory(prefix="ngc-file-", dir=memory()) as name:
         folder = Path(name)
         (folder / "settings.toml").write_text(FIRST)
         uncut = run_uncut(options.ngc, FIRST, program(blocks))

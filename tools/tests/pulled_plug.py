@@ -22,13 +22,16 @@ import tempfile
 import threading
 import time
 import tomllib
+from collections.abc import Callable
+from contextlib import suppress
 from dataclasses import dataclass, field
 from functools import cache, cached_property
 from pathlib import Path
+from typing import TypeVar
 
 sys.path.insert(0, str(Path(__file__).resolve().parent))
 
-from session_support import FIRST, memory  # noqa: E402
+from session_support import FIRST, PATIENCE_S, memory  # noqa: E402
 
 from ngc_tools.ngc.console import Console, Ended, Status  # noqa: E402
 from ngc_tools.operator.meter import LIMITS, Meter  # noqa: E402
@@ -256,8 +259,36 @@ class Job:
             raise Wrong(f"it ended at {self.stands} after line {self.done} of {len(self.uncut.lines)}")
 
 
+SomeLink = TypeVar("SomeLink", bound=Link)
+
+
+def linked(player: int, folder: Path, make: Callable[[], SomeLink]) -> SomeLink:
+    """A link to a player, once it answers; its record is there then too. Raises Wrong where the player ends before, or
+    doesn't listen though it was looked for as often as fits into PATIENCE_S."""
+    for _ in range(200 * PATIENCE_S):
+        with suppress(NoAnswer):
+            link = make()
+            link.ask()
+            return link
+        if os.waitid(os.P_PID, player, os.WEXITED | os.WNOHANG | os.WNOWAIT):
+            raise Wrong(f"the player ends at its start: {last_said(folder)}")
+        time.sleep(0.005)
+    raise Wrong(f"the player doesn't start: {last_said(folder)}")
+
+
+def last_said(folder: Path) -> str:
+    """The end of what the players of a job said."""
+    said = folder / "said"
+    return said.read_text(errors="replace")[-400:] if said.exists() else ""
+
+
+def whole_lines(log: Path) -> list[bytes]:
+    """The lines that the pins got. Power may be lost within one: then that is none."""
+    return log.read_bytes().split(b"\n")[:-1] if log.exists() else []
+
+
 class Session:
-    """A player and a controller, with a named pipe between them."""
+    """A player and a controller, with a named pipe between them. `is_pulled`: the plug is, or is being pulled."""
 
     def __init__(self, folder: Path, device: Path, options: Options, stands: tuple[int, ...]) -> None:
         """Starts both; `stands` is where the motors are, in steps, as somebody has measured it."""
@@ -268,12 +299,17 @@ class Session:
             path.unlink(missing_ok=True)
         os.mkfifo(self.fifo)
         self.record.write_bytes(Record(str(self.fifo), at_nm=options.nanometres(stands)).text())
-        self.player = self._start_player()
-        self.link = self._linked()
-        self.meter = None if options.ahead is None else Meter(self.link, options.ahead or None)
-        self.console = Console(options.ngc, device, folder / "settings.toml", self.fifo)
         self.timer: threading.Timer | None = None
-        self.over = False
+        self.is_pulled = self.over = False
+        self.player = self._start_player()
+        try:
+            self.link = linked(self.player, folder, lambda: Link(self.socket, 5 * PATIENCE_S))
+            self.meter = None if options.ahead is None else Meter(self.link, options.ahead or None)
+            self.console = Console(options.ngc, device, folder / "settings.toml", self.fifo)
+        except BaseException:
+            os.kill(self.player, signal.SIGKILL)
+            os.waitpid(self.player, 0)
+            raise
 
     def _start_player(self) -> int:
         words = [self.fifo, self.folder / "settings.toml", self.record]
@@ -298,17 +334,6 @@ class Session:
                 os._exit(3)
         return child
 
-    def _linked(self) -> Link:
-        """A link to the player, once it listens; its record is there then too."""
-        for _ in range(2000):
-            try:
-                link = Link(self.socket, patience_s=20)
-                link.ask()
-                return link
-            except NoAnswer:
-                time.sleep(0.005)
-        raise Wrong("the player doesn't start")
-
     @staticmethod
     def expect(got: str, wanted: str) -> None:
         """Raises Wrong where a reply is another."""
@@ -317,18 +342,20 @@ class Session:
 
     def kill_after(self, seconds: float) -> None:
         """Kills both after so long."""
-        self.timer = threading.Timer(seconds, self._kill_both)
+        self.timer = threading.Timer(seconds, self._pull)
         self.timer.start()
 
+    def _pull(self) -> None:
+        self.is_pulled = True
+        self._kill_both()
+
     def _kill_both(self) -> None:
-        for process in (self.player, self.console.child.pid):
-            try:
-                os.kill(process, signal.SIGKILL)
-            except ProcessLookupError:
-                pass
+        os.kill(self.player, signal.SIGKILL)  # it isn't waited for yet
+        self.console.child.kill()
 
     def work_on(self) -> bool:
-        """Works until the program is at its end, and ends both as an operator does; False where the plug was pulled."""
+        """Works until the program is at its end, and ends both as an operator does; False where the plug was pulled.
+        Raises Wrong where one of them ends, or doesn't answer, without that."""
         try:
             self.work()
             if self.timer:
@@ -337,7 +364,9 @@ class Session:
             self.drain()
             self.console.status()
             self.link.end()
-        except (Ended, NoAnswer):
+        except (Ended, NoAnswer) as error:
+            if not self.is_pulled:
+                raise Wrong(f"{error}; {last_said(self.folder)}") from error
             self.kill()
             return False
         self.console.quit()
@@ -350,19 +379,12 @@ class Session:
             count = self.meter.room() if self.meter else 500
             replies = self.console.ask(f"tick {count}")
             if any(reply.startswith("refused") for reply in replies):
-                if not self._pulled():
+                if not self.is_pulled:
                     raise Wrong(" ".join(replies))
-                raise Ended(-9, replies)
+                raise Ended(-9, replies)  # its reader is gone before it is killed itself
             if "idle" in replies or "stopped" in replies:
                 self.link.last()
                 return
-
-    def _pulled(self) -> bool:
-        """Whether the plug is being pulled: a controller whose reader is gone refuses before it is killed itself."""
-        if self.timer is None:
-            return False
-        self.timer.join(5)
-        return not self.timer.is_alive()
 
     def drain(self) -> None:
         """Waits until the player has carried out everything."""
@@ -386,7 +408,7 @@ class Session:
 
     def pins(self) -> list[bytes]:
         """The lines that the pins got, once both have ended."""
-        return self.log.read_bytes().splitlines() if self.log.exists() else []
+        return whole_lines(self.log)
 
     def check_record(self, got: list[bytes], stood: tuple[int, ...]) -> None:
         """The record is true of some moment of this session: of its count of lines, the place fits."""
@@ -402,8 +424,7 @@ def pull(options: Options, moments: int, seed: int, text: bytes = program(80)) -
     """Runs jobs of a program until so many moments were seen. Raises Wrong."""
     result = Result()
     chance = random.Random(seed)
-    base = "/dev/shm" if os.access("/dev/shm", os.W_OK) else None
-    with tempfile.TemporaryDirectory(prefix="ngc-plug-", dir=base) as name:
+    with tempfile.TemporaryDirectory(prefix="ngc-plug-", dir=memory()) as name:
         folder = Path(name)
         (folder / "settings.toml").write_text(options.settings)
         uncut = run_uncut(options.ngc, options.settings, text)
