@@ -11,7 +11,13 @@ import tempfile
 import time
 from pathlib import Path
 
-PATIENCE_S = int(os.environ.get("NGC_PATIENCE_S", 60))
+from session_support import PATIENCE_S
+
+ANSWERS_S = 5 * PATIENCE_S
+"""How long a browser may take to start, or for one answer, where others want the processors too."""
+_APART_S = 0.04
+_LOOKS = int(PATIENCE_S / _APART_S)
+_LONGEST_S = 20 * PATIENCE_S
 NAMES = ("chromium", "chromium-browser", "google-chrome")
 WORDS = ("--headless=new", "--no-sandbox", "--disable-gpu", "--no-first-run", "--disable-background-networking",
          "--disable-component-update", "--disable-sync", "--disable-extensions", "--hide-scrollbars", "--mute-audio",
@@ -68,17 +74,18 @@ class Browser:
         raise NotImplementedError
 
     def wait(self, expression: str) -> object:
-        """Waits until an expression holds, and returns its value. Raises Failed."""
-        until = time.monotonic() + PATIENCE_S
-        while time.monotonic() < until:
-            failed = ""
+        """Waits until an expression holds, and returns its value. Raises Failed once it was looked at as often as fits
+        into PATIENCE_S: where others want the processors, both a look and what is waited for take longer."""
+        looks, until, failed = 0, time.monotonic() + _LONGEST_S, ""
+        while looks < _LOOKS and (begun := time.monotonic()) < until:
+            looks, failed = looks + 1, ""
             try:
                 found = self.js(f"({expression}) || null")
                 if found is not None:
                     return found
             except Failed as error:  # as while a page is loaded
                 failed = str(error)
-            time.sleep(0.04)
+            time.sleep(max(_APART_S, time.monotonic() - begun))
         state = self.js("window.ngc && JSON.stringify(ngc.state).slice(0, 2000)")
         raise Failed(f"waited in vain for {expression} {failed}; {state}")
 
@@ -131,6 +138,14 @@ class Chromium(Browser):
         self._buffer, self._count, self._session = b"", 0, ""
         self.complaints: list[str] = []
         self.asked: list[str] = []
+        try:
+            self._attach()
+        except BaseException:
+            self.close()
+            raise
+
+    def _attach(self) -> None:
+        """Opens its page. Raises Failed."""
         target = self.call("Target.createTarget", url="about:blank")["targetId"]
         self._session = self.call("Target.attachToTarget", targetId=target, flatten=True)["sessionId"]
         for domain in ("Page", "Runtime", "Log", "Network", "DOM"):
@@ -151,7 +166,7 @@ class Chromium(Browser):
         if self._session:
             asked["sessionId"] = self._session
         os.write(self._to, json.dumps(asked).encode() + b"\0")
-        until = time.monotonic() + PATIENCE_S
+        until = time.monotonic() + ANSWERS_S
         while time.monotonic() < until:
             said = self._read(until)
             if said.get("id") != self._count:

@@ -10,7 +10,7 @@ import tempfile
 import time
 from pathlib import Path
 
-from browser_support import PATIENCE_S, Browser, Chromium, Failed, chromium
+from browser_support import ANSWERS_S, Browser, Chromium, Failed, chromium
 
 NAMES = ("firefox-esr", "firefox")
 _WORDS = ("--headless", "--no-remote", "--marionette", "--remote-allow-system-access")
@@ -45,7 +45,16 @@ class Firefox(Browser):
         self._child = subprocess.Popen([path, *_WORDS, "--profile", str(self._home)], env=os.environ | more,
                                        stdin=subprocess.DEVNULL, stdout=subprocess.DEVNULL, stderr=subprocess.DEVNULL)
         self._count = 0
-        self._link = socket.create_connection(("127.0.0.1", self._port()), PATIENCE_S)
+        try:
+            self._connect()
+        except BaseException:
+            self._child.kill()
+            self._gone()
+            raise
+
+    def _connect(self) -> None:
+        """Begins to drive it. Raises OSError or Failed."""
+        self._link = socket.create_connection(("127.0.0.1", self._port()), ANSWERS_S)
         self._file = self._link.makefile("rb")
         self._read()
         self.call("WebDriver:NewSession")
@@ -53,7 +62,7 @@ class Firefox(Browser):
 
     def _port(self) -> int:
         """Where it listens, once it does."""
-        told, until = self._home / "MarionetteActivePort", time.monotonic() + PATIENCE_S
+        told, until = self._home / "MarionetteActivePort", time.monotonic() + ANSWERS_S
         while time.monotonic() < until:
             if told.exists() and (text := told.read_text()).strip():
                 return int(text)
@@ -67,7 +76,11 @@ class Firefox(Browser):
         self.call("Marionette:Quit", flags=["eForceQuit"])
         self._file.close()
         self._link.close()
-        self._child.wait(PATIENCE_S)
+        self._gone()
+
+    def _gone(self) -> None:
+        """Waits for its end, and removes what it kept."""
+        self._child.wait(ANSWERS_S)
         shutil.rmtree(self._home, ignore_errors=True)
 
     def call(self, method: str, **params: object) -> dict:
@@ -118,7 +131,7 @@ class Firefox(Browser):
     def js(self, expression: str) -> object:
         """The value of an expression. Raises Failed."""
         found = self.call("WebDriver:ExecuteAsyncScript", script=_RUN % expression, args=[],
-                          scriptTimeout=1000 * PATIENCE_S)["value"]
+                          scriptTimeout=1000 * ANSWERS_S)["value"]
         if found is None or "error" in found:
             raise Failed(f"{expression}: {found and found['error'] or 'the page is gone'}")
         return found["value"]

@@ -29,7 +29,8 @@ traverse_nm_per_min = 6000000000
 period_us = 50
 tools_nm = [50000000]
 """
-PATIENCE_S = 60
+PATIENCE_S = int(os.environ.get("NGC_PATIENCE_S", "60"))
+"""How long what is tested may take for one thing, of a machine that has time for it."""
 
 
 def ngc() -> str:
@@ -103,12 +104,13 @@ class InFolder(unittest.TestCase):
         return done.stdout.splitlines()
 
     def wait_for(self, what: str, holds: Callable[[], bool]) -> None:
-        """Waits until something holds."""
-        until = time.monotonic() + PATIENCE_S
-        while not holds():
-            if time.monotonic() > until:
-                self.fail(f"waited in vain until {what}")
+        """Waits until something holds. It is looked at as often as fits into PATIENCE_S: where others want the
+        processors, both a look and what is waited for take longer."""
+        for _ in range(100 * PATIENCE_S):
+            if holds():
+                return
             time.sleep(0.01)
+        self.fail(f"waited in vain until {what}")
 
 
 class Terminal:

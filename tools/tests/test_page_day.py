@@ -11,10 +11,10 @@ from pathlib import Path
 
 sys.path.insert(0, str(Path(__file__).resolve().parent))
 
-from browser_support import LONG, Browser  # noqa: E402
+from browser_support import ANSWERS_S, LONG, Browser  # noqa: E402
 from firefox_support import MISSING, PATH, start  # noqa: E402
 from page_support import OTHER, Served  # noqa: E402
-from session_support import PATIENCE_S, TOOLS, ngc  # noqa: E402
+from session_support import TOOLS, ngc  # noqa: E402
 from test_moves import MACHINE, PROBE, World, program  # noqa: E402
 
 TEXT = (TOOLS.parent / "docs/PAGE.md").read_text()
@@ -43,6 +43,15 @@ G1 X8 F600
 M2
 """
 """Its line 5 is a cut of five seconds."""
+
+PRESSES = 50
+"""A jog ends where the page is silent for 0.3 s, as where others want the processors: its button is pressed anew."""
+SOON = """new Promise(done => {
+    const until = performance.now() + 2000;
+    const look = () => (%s ? done(true) : performance.now() > until ? done(false) : setTimeout(look, 20));
+    look();
+})"""
+"""Whether something holds within two seconds."""
 
 
 def part(title: str) -> str:
@@ -159,12 +168,15 @@ class Day(Walk):
 
     def jogs(self) -> None:
         """For as long as a finger is down, and then a number of millimetres."""
-        before = float(self.browser.js("ngc.state.motors[0]"))
+        before = self.browser.js("ngc.state.motors[0]")
         x, y = self.browser.place("X+", ".pad button")
-        self.browser.down(x, y)
-        self.wait(f"s.motors[0] > {before + 1}")
-        self.browser.up(x, y)
-        self.rests()
+        for _ in range(PRESSES):
+            self.browser.down(x, y)
+            has_moved = self.browser.js(SOON % f"ngc.state.motors[0] > {before}")
+            self.browser.up(x, y)
+            if has_moved:
+                break
+        self.rests(f"s.motors[0] > {before}")
         stood = self.browser.js("ngc.state.motors[0]")
         self.browser.press("1", ".choices button:nth-child(3)")
         self.browser.press("X\u2212", ".pad button")
@@ -271,7 +283,7 @@ class Day(Walk):
         """The server ends."""
         self.press("Quit", "#quit")
         self.browser.press("Quit", "#over button")
-        self.assertEqual(self.server.wait(PATIENCE_S), 0)
+        self.assertEqual(self.server.wait(ANSWERS_S), 0)
         self.browser.wait("document.getElementById('lost-says').textContent === 'The session has ended.'")
         self.done.append("Quit")
 
