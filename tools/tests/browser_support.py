@@ -31,9 +31,9 @@ _POINT = """(() => {
     return [box.x + box.width / 2, box.y + box.height / 2];
 })()"""
 
-LONG = """Math.max(0, ...[...document.querySelectorAll('#over:has(.steps) .words:not(:has(.warn))')]
+LONG = """Math.max(0, ...[...document.querySelectorAll('#over:has(.steps) .words:not(:has(.warn ~ .warn))')]
     .map(one => one.scrollHeight - one.clientHeight))"""
-"""By how much a step after a loss of power is longer than its sheet, and scrolls, if nothing is warned of there."""
+"""By how much a step after a loss of power is longer than its sheet, and scrolls, where it has one warning at most."""
 
 
 def chromium() -> str | None:
