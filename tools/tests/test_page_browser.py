@@ -278,6 +278,18 @@ class Work(InBrowser):
         self.look("held")
         self.no_complaints()
 
+    def test_fetched_again(self) -> None:
+        """A path whose fetch fails is fetched again."""
+        self.browser.js("""(() => {
+            const fetched = window.fetch;
+            window.failed = 0;
+            window.fetch = (what, ...more) => what === 'job' && window.failed < 5 && (window.failed += 1)
+                ? Promise.reject(new Error('no answer')) : fetched(what, ...more);
+        })()""")
+        self.load(SLOW, 4)
+        self.assertEqual(self.browser.js("window.failed"), 5)
+        self.no_complaints()
+
     def test_hold_at_once(self) -> None:
         """From the touch to the word Held, while programs are checked: by the median less than 50 ms of a machine that
         has time for it."""
@@ -418,6 +430,7 @@ class Power(InBrowser):
         browser.wait(f"ngc.state?.session && ngc.state.session !== '{before}'")
         browser.wait("document.querySelector('#over .facts')?.textContent.includes('It begins at')")
         self.look("what was stored")
+        self.not_rehearsed()
         self.press_amid_news("Next")
         self.assertTrue(browser.js("document.querySelector('#over .foot .go').disabled"))
         self.assertIn("they make at most", browser.js("document.querySelector('#over .words').textContent"))
@@ -435,6 +448,25 @@ class Power(InBrowser):
         browser.wait("ngc.state.does === 'running' && ngc.state.motors[0] > 0.02 && ngc.state.spindle === 1")
         self.assertFalse(browser.js("document.getElementById('over').checkVisibility()"))
         self.no_complaints()
+
+    def not_rehearsed(self) -> None:
+        """Where step 1 isn't rehearsed it says why, and what can be done: on a page that watches, where it fails."""
+        browser, words = self.browser, "document.querySelector('#over .words').textContent"
+        self.assertEqual(self.page(OTHER).post("takeover")[0], 200)
+        browser.wait(f"!ngc.state.yours && {words}.includes('It begins at')")  # it was rehearsed before
+        browser.open(self.address)
+        browser.wait(f"window.ngc?.state && {words}.includes('This page watches. Take over, and ngc rehearses it.')")
+        browser.press("Take over", "#takeover")
+        browser.wait(f"{words}.includes('It begins at')")
+        browser.js("""void (window.fetched = window.fetch, window.fetch = (what, ...more) =>
+            what === 'rehearse' ? Promise.reject(new Error('something runs')) : fetched(what, ...more))""")
+        browser.press("Later", "#over button")
+        browser.press("Recover", "#run")
+        browser.wait(f"{words}.includes('It isn\u2019t rehearsed: something runs. Rehearse it again, or go on')")
+        self.look("what isn't rehearsed")
+        browser.js("void (window.fetch = window.fetched)")
+        browser.press("Rehearse again", "#over button")
+        browser.wait(f"{words}.includes('It begins at') && !document.querySelector('#over .bad')")
 
     def press_amid_news(self, says: str) -> None:
         """Touches a button; while the finger is on it the path is drawn anew, of which the sheet tells."""
