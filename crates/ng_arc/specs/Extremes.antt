@@ -32,12 +32,13 @@ unfoldable pub is_passed : ArcDirection → PlanePoint → PlanePoint → PlaneP
 is_passed turn s e d = is_sweep_within (sweep turn s e) (sweep turn s d) (lead turn d e)
 
 -- a circle reaches no farther from its centre than this: its radius, whose square is given, is no longer
-abbrev pub has_room : ℕ → ℤ → Bool
-has_room square room = int_le (pos 0) room && nat_le square (unsigned_abs room * unsigned_abs room)
+abbrev pub is_within : ℕ → ℤ → Bool
+is_within square reach = int_le (pos 0) reach && nat_le square (unsigned_abs reach * unsigned_abs reach)
 
 -- the extreme in a direction isn't passed, or is inside the travel, which reaches this far from the centre
-abbrev pub is_kept : Arc → PlanePoint → ℤ → Bool
-is_kept arc d room = not (is_passed arc.turn (from_centre arc arc.start) (from_centre arc arc.end) d) || has_room (square_of (from_centre arc arc.start)) room
+abbrev pub is_inside : Arc → PlanePoint → ℤ → Bool
+is_inside arc d reach = not (is_passed arc.turn (from_centre arc arc.start) (from_centre arc arc.end) d) || is_within (square_of
+    (from_centre arc arc.start)) reach
 
 abbrev pub axis_a : Arc → Geometry → Axis
 axis_a arc g = pick_a arc.plane g.x g.y g.z
@@ -48,7 +49,7 @@ axis_b arc g = pick_b arc.plane g.x g.y g.z
 -- no extreme that the arc passes is outside the travel
 abbrev pub extremes_inside : Arc → Geometry → Bool
 extremes_inside arc g =
-    is_kept arc (record { a = pos 1; b = pos 0 }) ((axis_a arc g).high -ℤ arc.centre_a)
-    && is_kept arc (record { a = pos 0; b = pos 1 }) ((axis_b arc g).high -ℤ arc.centre_b)
-    && is_kept arc (record { a = negsuc 0; b = pos 0 }) (arc.centre_a -ℤ (axis_a arc g).low)
-    && is_kept arc (record { a = pos 0; b = negsuc 0 }) (arc.centre_b -ℤ (axis_b arc g).low)
+    is_inside arc (record { a = pos 1; b = pos 0 }) ((axis_a arc g).high -ℤ arc.centre_a)
+    && is_inside arc (record { a = pos 0; b = pos 1 }) ((axis_b arc g).high -ℤ arc.centre_b)
+    && is_inside arc (record { a = negsuc 0; b = pos 0 }) (arc.centre_a -ℤ (axis_a arc g).low)
+    && is_inside arc (record { a = pos 0; b = negsuc 0 }) (arc.centre_b -ℤ (axis_b arc g).low)

@@ -7,7 +7,7 @@ use ng_canon::{Arc, Axis, Geometry, PlanePoint, Quadrant, pick_a, pick_b};
 use ng_num::Len;
 
 /// How far a coordinate is above another.
-fn room_nm(below: Len, above: Len) -> i64
+fn reach_nm(below: Len, above: Len) -> i64
     ensures value { result ≡ above -ℤ below }
     ensures size { unsigned_abs result < 2 ^ 45 }
 {
@@ -30,8 +30,8 @@ pub fn extremes_inside(arc: &Arc, geometry: &Geometry) -> bool
     );
     let a: Axis = pick_a(arc.plane, geometry.x, geometry.y, geometry.z);
     let b: Axis = pick_b(arc.plane, geometry.x, geometry.y, geometry.z);
-    passage.keeps(Quadrant::First, room_nm(arc.centre_a, a.high))
-        & passage.keeps(Quadrant::Second, room_nm(arc.centre_b, b.high))
-        & passage.keeps(Quadrant::Third, room_nm(a.low, arc.centre_a))
-        & passage.keeps(Quadrant::Fourth, room_nm(b.low, arc.centre_b))
+    passage.keeps(Quadrant::First, reach_nm(arc.centre_a, a.high))
+        & passage.keeps(Quadrant::Second, reach_nm(arc.centre_b, b.high))
+        & passage.keeps(Quadrant::Third, reach_nm(a.low, arc.centre_a))
+        & passage.keeps(Quadrant::Fourth, reach_nm(b.low, arc.centre_b))
 }

@@ -1,7 +1,7 @@
 //! Which extremes of its circle an arc passes: those at the start of the quadrants that it enters.
 ghost use Rattle.std.specs.Prelude.{◌≡◌, ◌^◌, ◌<◌, ◌||◌, ◌==◌, not, unsigned_abs};
 ghost use Rattle.ng_canon.specs.Plane.{square_of, cross, dot, AreBelowInSize};
-ghost use Rattle.ng_arc.specs.Extremes.{has_room, is_passed, sweep_by};
+ghost use Rattle.ng_arc.specs.Extremes.{is_within, is_passed, sweep_by};
 ghost use Rattle.ng_arc.specs.Private.Quadrants.{direction, changes, passes_toward};
 
 use ng_canon::{ArcDirection, PlanePoint, Quadrant};
@@ -46,13 +46,13 @@ impl ArcSpan {
         (entered + 7 - self.from.number()) % 4 < self.changes
     }
 
-    /// Whether the extreme in the direction at which a quadrant begins isn't passed, or is inside the travel. `room_nm`
+    /// Whether the extreme in the direction at which a quadrant begins isn't passed, or is inside the travel. `reach_nm`
     /// is how far the travel reaches from the centre.
-    pub(crate) fn keeps(&self, towards: Quadrant, room_nm: i64) -> bool
-        requires { unsigned_abs room_nm < 2 ^ 45 }
-        ensures { result ≡ (not (passes_toward self.now towards) || has_room self.now.square room_nm) }
+    pub(crate) fn keeps(&self, towards: Quadrant, reach_nm: i64) -> bool
+        requires { unsigned_abs reach_nm < 2 ^ 45 }
+        ensures { result ≡ (not (passes_toward self.now towards) || is_within self.now.square reach_nm) }
     {
-        !self.passes(towards) || has_room(self.square, room_nm)
+        !self.passes(towards) || is_within(self.square, reach_nm)
     }
 }
 
@@ -81,10 +81,10 @@ fn is_same_way(first: PlanePoint, second: PlanePoint) -> bool
 }
 
 /// Whether a circle, given the square of its radius, reaches no farther from its centre than the travel.
-fn has_room(square: u128, room_nm: i64) -> bool
-    requires { unsigned_abs room_nm < 2 ^ 45 }
-    ensures { result ≡ has_room square room_nm }
+fn is_within(square: u128, reach_nm: i64) -> bool
+    requires { unsigned_abs reach_nm < 2 ^ 45 }
+    ensures { result ≡ is_within square reach_nm }
 {
-    let size = room_nm.unsigned_abs() as u128;
-    room_nm >= 0 && square <= size * size
+    let size = reach_nm.unsigned_abs() as u128;
+    reach_nm >= 0 && square <= size * size
 }

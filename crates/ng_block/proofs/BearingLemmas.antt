@@ -26,12 +26,12 @@ missing (Some _) system word h = absurd (cc h)
 missing None (Some _) word h = absurd (cc h)
 missing None None (Some _) h = absurd (cc h)
 
-pub bearings_kept : (b : Block) (assignments : List Change) (s : StateModel) (lengths : List ℤ) → keeps_offsets b ≡ true →
+pub bearings_same : (b : Block) (assignments : List Change) (s : StateModel) (lengths : List ℤ) → keeps_offsets b ≡ true →
     bearings_of b assignments s lengths ≡ Ok (record { offsets = s.modal.offsets; shown = nothing_shown; changes = assignments })
-bearings_kept b assignments s lengths h =
+bearings_same b assignments s lengths h =
     let n = missing b.g.tool_length b.g.system b.g.non_modal h in
     rw (n.length_is, n.system_is, n.word_is) refl
 
 -- and it isn't under G53
-pub end_kept : (b : Block) (m : ModalState) (o : Offsets) → keeps_offsets b ≡ true → straight_end_of b m o ≡ end_of b m o
-end_kept b m o h = let n = missing b.g.tool_length b.g.system b.g.non_modal h in rw (n.word_is) refl
+pub end_same : (b : Block) (m : ModalState) (o : Offsets) → keeps_offsets b ≡ true → straight_end_of b m o ≡ end_of b m o
+end_same b m o h = let n = missing b.g.tool_length b.g.system b.g.non_modal h in rw (n.word_is) refl

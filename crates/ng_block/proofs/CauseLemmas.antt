@@ -40,7 +40,7 @@ use Rattle.ng_state.specs.declared.modal_state.ModalState.{ModalState}
 use Rattle.ng_block.specs.declared.path.Path.{Path}
 use Rattle.ng_block.specs.declared.path.Path.TheVariants as path
 use Rattle.ng_block.specs.declared.shifts.Shifted.{Shifted}
-use Rattle.ng_block.specs.Arcs.{centre_offsets_on, asked_by, turning_at, path_along_arc}
+use Rattle.ng_block.specs.Arcs.{centre_offsets_on, asked_by, round_path_at, path_along_arc}
 use Rattle.ng_block.specs.Asked.{written_on, pieces_in, values_of, offsets_found, Move, Stays, Goes, Turns}
 use Rattle.ng_block.specs.Asked.{GoesHome, Drills, straight, round, in_cycle, homeward, move_for, move_by}
 use Rattle.ng_block.specs.Motion.{feed_of, fed_pace_of, straight_pace, end_of, straight_end_of}
@@ -81,7 +81,7 @@ unless_refused_err (Some fault) x = refl
 unfoldable pub path_by : Point → Geometry → Move → Result Path Fault
 path_by start geometry Stays = Ok path.Still
 path_by start geometry (Goes pace end) = Ok (moving_at pace start end)
-path_by start geometry (Turns pace asked) = and_then (arc.checked asked) (λ shape. Ok (turning_at pace shape))
+path_by start geometry (Turns pace asked) = and_then (arc.checked asked) (λ shape. Ok (round_path_at pace shape))
 path_by start geometry (GoesHome between home) = Ok (path.Homing (record { start = start; between = between; home = home }))
 path_by start geometry (Drills w s) = and_then (cycle.canned_of w s geometry) (λ drill. Ok (path.Cycle drill))
 
@@ -150,7 +150,7 @@ abbrev moved : {X : Type 0} → Geometry → (Path → X) → Result Path Fault 
 moved geometry done found = and_then found (λ path. unless_refused (first_fault (path_faults path geometry)) (Ok (done path)))
 
 turn_first : {X : Type 0} (pace : Option Pace) (asked : AskedArc) (geometry : Geometry) (done : Path → X) →
-    result_err (unless_refused (first_fault (path_faults (turning_at pace (shape_of asked)) geometry)) (Ok (done (turning_at pace (shape_of asked)))))
+    result_err (unless_refused (first_fault (path_faults (round_path_at pace (shape_of asked)) geometry)) (Ok (done (round_path_at pace (shape_of asked)))))
     ≡ first_fault ((has_no_feed (Turns pace asked), NoFeed) ∷ ((goes_outside (Turns pace asked) geometry, OutsideTravel) ∷ []))
 turn_first None asked geometry done = refl
 turn_first (Some pace) asked geometry done = unless_refused_err _ _
@@ -164,10 +164,10 @@ canned_first : (found : Option Fault) (d : Drill) → result_err (unless found d
 canned_first None d = refl
 canned_first (Some fault) d = refl
 
-moved_turning : {X : Type 0} (r : Result ArcShape Fault) (pace : Option Pace) (geometry : Geometry) (done : Path → X) →
-    moved geometry done (and_then r (λ shape. Ok (turning_at pace shape))) ≡ and_then r (λ shape. moved geometry done (Ok (turning_at pace shape)))
-moved_turning (Ok shape) pace geometry done = refl
-moved_turning (Err fault) pace geometry done = refl
+moved_round : {X : Type 0} (r : Result ArcShape Fault) (pace : Option Pace) (geometry : Geometry) (done : Path → X) →
+    moved geometry done (and_then r (λ shape. Ok (round_path_at pace shape))) ≡ and_then r (λ shape. moved geometry done (Ok (round_path_at pace shape)))
+moved_round (Ok shape) pace geometry done = refl
+moved_round (Err fault) pace geometry done = refl
 
 move_first : {X : Type 0} (move : Move) (start : Point) (geometry : Geometry) (done : Path → X) →
     result_err (moved geometry done (path_by start geometry move)) ≡ first_fault ((reaches_far move, OutOfRange) ∷ move_causes move geometry)
@@ -177,8 +177,8 @@ move_first (Goes None end) start geometry done = refl
 move_first (Goes (Some pace) end) start geometry done = unless_refused_err _ _
 move_first (GoesHome between home) start geometry done = unless_refused_err _ _
 move_first (Turns pace asked) start geometry done =
-    ap result_err (moved_turning (arc.checked asked) pace geometry done)
-    ∙ stage (first_fault (arc.causes asked)) (shape_of asked) (λ shape. moved geometry done (Ok (turning_at pace shape))) (arc.causes asked)
+    ap result_err (moved_round (arc.checked asked) pace geometry done)
+    ∙ stage (first_fault (arc.causes asked)) (shape_of asked) (λ shape. moved geometry done (Ok (round_path_at pace shape))) (arc.causes asked)
     ((has_no_feed (Turns pace asked), NoFeed) ∷ ((goes_outside (Turns pace asked) geometry, OutsideTravel) ∷ []))
     refl (turn_first pace asked geometry done)
 move_first (Drills w s) start geometry done =

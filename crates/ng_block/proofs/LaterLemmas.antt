@@ -68,7 +68,7 @@ drop-all xs n h = let past : length xs ≤ n = omega (arith, h) in drop_of_lengt
 -- ---- skipping some segments leaves unchanged what is left once all are skipped
 
 pub Stays-trans : (p q r : Passing) → Stays p q → Stays q r → Stays p r
-Stays-trans p q r one other = record { rest = other.rest ∙ one.rest; standing = other.standing ∙ one.standing }
+Stays-trans p q r one other = record { rest = other.rest ∙ one.rest; motion_state = other.motion_state ∙ one.motion_state }
 
 one_dropped_more : (x : Segment) (xs ys : List Segment) (n : ℕ) → 0 < n → ys ≡ x ∷ xs → drop (n - 1) xs ≡ drop n ys
 one_dropped_more x xs ys zero some e = absurd (omega (arith, some))
@@ -85,13 +85,13 @@ one_taken_more at x xs ys (suc n) some e =
 
 -- the next segment
 pub Stays-next : (p q : Passing) (x : Segment) → 0 < p.left → rest_of p.rest ≡ x ∷ rest_of q.rest →
-    q.left ≡ p.left - 1 → q.standing ≡ after_segment p.standing x → Stays p q
-Stays-next p q x some split left standing = record {
+    q.left ≡ p.left - 1 → q.motion_state ≡ after_segment p.motion_state x → Stays p q
+Stays-next p q x some split left motion_state = record {
   rest = ap (λ k. drop k (rest_of q.rest)) left ∙ one_dropped_more x (rest_of q.rest) (rest_of p.rest) p.left some split;
-  standing =
-      ap (λ k. after_segments q.standing (take k (rest_of q.rest))) left
-      ∙ ap (λ at. after_segments at (take (p.left - 1) (rest_of q.rest))) standing
-      ∙ one_taken_more p.standing x (rest_of q.rest) (rest_of p.rest) p.left some split;
+  motion_state =
+      ap (λ k. after_segments q.motion_state (take k (rest_of q.rest))) left
+      ∙ ap (λ at. after_segments at (take (p.left - 1) (rest_of q.rest))) motion_state
+      ∙ one_taken_more p.motion_state x (rest_of q.rest) (rest_of p.rest) p.left some split;
 }
 
 -- once no action is left
@@ -102,8 +102,8 @@ rest-without_actions c none =
 -- segments of the motion
 pub Stays-path : (p q : Passing) (xs : List Segment) → actions_left p.rest ≡ [] → p.rest.moves ≡ xs →
     q.rest ≡ record p.rest { moves = drop p.left xs } → q.left ≡ p.left - length xs →
-    q.standing ≡ after_segments p.standing (take p.left xs) → Stays p q
-Stays-path p q xs none moves rest left standing =
+    q.motion_state ≡ after_segments p.motion_state (take p.left xs) → Stays p q
+Stays-path p q xs none moves rest left motion_state =
     let ys = stop_segments_left p.rest in
     let all : rest_of p.rest ≡ xs ++ ys =
     rest-without_actions p.rest none ∙ ap (λ (m : List Segment). m ++ ys) moves in
@@ -113,16 +113,16 @@ Stays-path p q xs none moves rest left standing =
       rest =
           ap (λ k. drop k (rest_of q.rest)) left ∙ ap (λ l. drop (p.left - length xs) l) later
           ∙ drop-on xs ys p.left ∙ sym (ap (λ l. drop p.left l) all);
-      standing =
-          ap (λ at. after_segments at (take q.left (rest_of q.rest))) standing
-          ∙ ap (λ k. after_segments (after_segments p.standing (take p.left xs)) (take k (rest_of q.rest))) left
-          ∙ ap (λ l. after_segments (after_segments p.standing (take p.left xs)) (take (p.left - length xs) l)) later
-          ∙ after_segments-on p.standing xs ys p.left ∙ sym (ap (λ l. after_segments p.standing (take p.left l)) all);
+      motion_state =
+          ap (λ at. after_segments at (take q.left (rest_of q.rest))) motion_state
+          ∙ ap (λ k. after_segments (after_segments p.motion_state (take p.left xs)) (take k (rest_of q.rest))) left
+          ∙ ap (λ l. after_segments (after_segments p.motion_state (take p.left xs)) (take (p.left - length xs) l)) later
+          ∙ after_segments-on p.motion_state xs ys p.left ∙ sym (ap (λ l. after_segments p.motion_state (take p.left l)) all);
     }
 
 -- if none is left to skip, all are skipped
 pub Stays-done : (p q : Passing) → Stays p q → q.left ≡ 0 → rest_of q.rest ≡ drop p.left (rest_of p.rest)
 Stays-done p q stays none = ap (λ k. drop k (rest_of q.rest)) (sym none) ∙ stays.rest
 
-pub Stays-stands : (p q : Passing) → Stays p q → q.left ≡ 0 → q.standing ≡ after_segments p.standing (take p.left (rest_of p.rest))
-Stays-stands p q stays none = ap (λ k. after_segments q.standing (take k (rest_of q.rest))) (sym none) ∙ stays.standing
+pub Stays-stands : (p q : Passing) → Stays p q → q.left ≡ 0 → q.motion_state ≡ after_segments p.motion_state (take p.left (rest_of p.rest))
+Stays-stands p q stays none = ap (λ k. after_segments q.motion_state (take k (rest_of q.rest))) (sym none) ∙ stays.motion_state

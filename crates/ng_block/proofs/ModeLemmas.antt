@@ -56,7 +56,7 @@ missing None None None None None None (Some _) overrides stop h = absurd (cc h)
 missing None None None None None None None (Some _) stop h = absurd (cc h)
 missing None None None None None None None None (Some _) h = absurd (cc h)
 
-pub modes_after-kept : (b : Block) (m : Modes) → keeps_modes b ≡ true → record m { motion = motion_after b m } ≡ modes_after b m
-modes_after-kept b m h =
+pub modes_after-same : (b : Block) (m : Modes) → keeps_modes b ≡ true → record m { motion = motion_after b m } ≡ modes_after b m
+modes_after-same b m h =
     let n = missing b.g.plane b.g.distance b.g.feed_mode b.g.unit b.g.retract b.g.path b.g.system b.m.overrides b.m.stop h in
     rw (n.plane_is, n.distance_is, n.mode_is, n.unit_is, n.retract_is, n.path_is, n.system_is, n.overrides_is, n.stop_is) refl

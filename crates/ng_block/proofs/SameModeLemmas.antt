@@ -79,11 +79,11 @@ modes_left s tools geometry text done b e asks =
     ap (λ (d : Done). d.setup.modal.modes) (sym a.done_is) ∙ ap (λ (x : Block). modes_after x s.modal.modes)
     (sym (same_block s tools geometry text done b a asks))
 
-pub modes_kept : (s : StateModel) (tools : List ℤ) (geometry : Geometry) (text again : List ℕ) (done next : Done)
+pub modes_same : (s : StateModel) (tools : List ℤ) (geometry : Geometry) (text again : List ℕ) (done next : Done)
     (one other : Block) → executed s tools geometry text ≡ Ok done → AsksFor s text one
     → executed done.setup tools geometry again ≡ Ok next → AsksFor done.setup again other → HasSameModes one other
     → next.setup.modal.modes ≡ done.setup.modal.modes
-modes_kept s tools geometry text again done next one other e asks f asks_again same =
+modes_same s tools geometry text again done next one other e asks f asks_again same =
     let left : done.setup.modal.modes ≡ modes_after one s.modal.modes = modes_left s tools geometry text done one e asks in
     modes_left done.setup tools geometry again next other f asks_again
     ∙ modes_of_same one other done.setup.modal.modes same

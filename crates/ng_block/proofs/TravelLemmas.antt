@@ -33,7 +33,7 @@ use Rattle.ng_arc.specs.Extremes.{extremes_inside}
 use Rattle.ng_offsets.specs.declared.offsets.Offsets.{Offsets}
 use Rattle.ng_cycles.specs.Faults as cycle
 use Rattle.ng_cycles.specs.Segments.{after_segment, after_segments, begin, traced, cycle_segments, segments_of as stroke_segments, line_to}
-use Rattle.ng_cycles.specs.Strokes.{Stroke, Across, ToR, TraverseTo, FeedTo, Wait, Turn as TurnSpindle, strokes}
+use Rattle.ng_cycles.specs.Strokes.{Stroke, Across, ToR, TraverseTo, FeedTo, Wait, SetSpindle, strokes}
 use Rattle.ng_cycles.specs.declared.drill.Drill.{Drill}
 use Rattle.ng_cycles.specs.declared.motion_state.MotionState.{MotionState}
 use Rattle.ng_cycles.specs.declared.words.CycleWords.{CycleWords}
@@ -45,12 +45,12 @@ use Rattle.ng_block.specs.declared.path.Path.TheVariants as path
 use Rattle.ng_block.specs.declared.action.Action.{Action}
 use Rattle.ng_block.specs.declared.action.Action.TheVariants as action
 use Rattle.ng_block.specs.Action.{action_outputs, action_segments, actions_segments, outputs_after}
-use Rattle.ng_block.specs.Arcs.{turning_at, centre_offsets_on, asked_by}
+use Rattle.ng_block.specs.Arcs.{round_path_at, centre_offsets_on, asked_by}
 use Rattle.ng_block.specs.Asked.{Move, Stays, Goes, Turns, GoesHome, Drills, straight, round, in_cycle, homeward, move_for, move_by}
 use Rattle.ng_block.specs.Motion.{fed_pace_of, straight_pace, end_of, straight_end_of}
 use Rattle.ng_block.specs.Cycles.{own_words, cycle_words, kept_for, context_of}
 use Rattle.ng_block.specs.Effects.{Done, plan_of, executed}
-use Rattle.ng_block.specs.Ends.{ends, turned_off, stop_segments}
+use Rattle.ng_block.specs.Ends.{ends, switched_off, stop_segments}
 use Rattle.ng_block.specs.Faults.{stays_inside, path_faults}
 use Rattle.ng_block.specs.Homes.{home_on}
 use Rattle.ng_block.specs.Path.{moving_at, point_after, path_segments}
@@ -136,7 +136,7 @@ actions_still o (a ∷ actions) =
 stop_still : (word : Option StopWord) (o : Outputs) → NoneMoves (stop_segments word o)
 stop_still word o = by (ends word)
   where
-    by : (t : Bool) → NoneMoves (cond t (segment.Switch (turned_off o) ∷ []) [])
+    by : (t : Bool) → NoneMoves (cond t (segment.Switch (switched_off o) ∷ []) [])
     by true = tt
     by false = tt
 
@@ -160,7 +160,7 @@ stroke_joins d at ToR = to_r_joins (int_eq at.point.z d.r) at _ _
 stroke_joins d at (TraverseTo z) = (refl, refl)
 stroke_joins d at (FeedTo z) = (refl, refl)
 stroke_joins d at (Wait seconds) = refl
-stroke_joins d at (TurnSpindle spindle) = refl
+stroke_joins d at (SetSpindle spindle) = refl
 
 traced_joins : (d : Drill) (at : MotionState) (ss : List Stroke) → Joins at.point (traced d at ss) (after_segments at (traced d at ss)).point
 traced_joins d at [] = refl
@@ -184,10 +184,10 @@ BeginsAt start (Turns pace asked) = asked.start ≡ start
 BeginsAt start (Drills w s) = s.point ≡ start
 BeginsAt start _ = Unit {0}
 
-turning_joins : (start : Point) (pace : Option Pace) (shape : ArcShape) → shape.start ≡ start
-    → Joins start (path_segments (turning_at pace shape)) (point_after (turning_at pace shape) start)
-turning_joins start None shape e = refl
-turning_joins start (Some pace) shape e = (e, refl)
+round_joins : (start : Point) (pace : Option Pace) (shape : ArcShape) → shape.start ≡ start
+    → Joins start (path_segments (round_path_at pace shape)) (point_after (round_path_at pace shape) start)
+round_joins start None shape e = refl
+round_joins start (Some pace) shape e = (e, refl)
 
 path_joins : (start : Point) (geometry : Geometry) (move : Move) (p : Path) → BeginsAt start move
     → path_by start geometry move ≡ Ok p → Joins start (path_segments p) (point_after p start)
@@ -201,11 +201,11 @@ path_joins start geometry (GoesHome between home) p h e =
     subst (λ (q : Path). Joins start (path_segments q) (point_after q start))
     (same_ok (path.Homing (record { start = start; between = between; home = home })) p e) (refl, (refl, refl))
 path_joins start geometry (Turns pace asked) p h e =
-    let found = then_ok (arc.checked asked) (λ shape. Ok (turning_at pace shape)) p e in
+    let found = then_ok (arc.checked asked) (λ shape. Ok (round_path_at pace shape)) p e in
     let is : shape_of asked ≡ found.0 = (unless_ok (first_fault (arc.causes asked)) (shape_of asked) found.0 found.1).1 in
     subst (λ (q : Path). Joins start (path_segments q) (point_after q start))
-    (same_ok (turning_at pace found.0) p found.2)
-    (turning_joins start pace found.0 (ap (λ (shape : ArcShape). shape.start) (sym is) ∙ h))
+    (same_ok (round_path_at pace found.0) p found.2)
+    (round_joins start pace found.0 (ap (λ (shape : ArcShape). shape.start) (sym is) ∙ h))
 path_joins start geometry (Drills w s) p h e =
     let found = then_ok (cycle.canned_of w s geometry) (λ d. Ok (path.Cycle d)) p e in
     let is = unless_ok (first_fault (cycle.causes w s geometry)) (cycle.drill_of w s) found.0 found.1 in
@@ -320,7 +320,7 @@ stroke_inside g d at ToR e = to_r_inside (int_eq at.point.z d.r) g pace.Traverse
 stroke_inside g d at (TraverseTo z) e = line_inside g pace.Traverse at.point _ e
 stroke_inside g d at (FeedTo z) e = line_inside g (pace.Feed d.rate) at.point _ e
 stroke_inside g d at (Wait seconds) e = (tt, tt)
-stroke_inside g d at (TurnSpindle spindle) e = (tt, tt)
+stroke_inside g d at (SetSpindle spindle) e = (tt, tt)
 
 traced_inside : (g : Geometry) (d : Drill) (at : MotionState) (ss : List Stroke)
     → list_any (cycle.ends_outside g) (traced d at ss) ≡ false → AreInside g (traced d at ss)
@@ -340,7 +340,7 @@ no_drill_goes : (pace : Option Pace) (start end : Point) (d : Drill) → moving_
 no_drill_goes None start end d e = cc e
 no_drill_goes (Some pace) start end d e = cc e
 
-no_drill_turns : (pace : Option Pace) (shape : ArcShape) (d : Drill) → turning_at pace shape ≡ path.Cycle d → ⊥
+no_drill_turns : (pace : Option Pace) (shape : ArcShape) (d : Drill) → round_path_at pace shape ≡ path.Cycle d → ⊥
 no_drill_turns None shape d e = cc e
 no_drill_turns (Some pace) shape d e = cc e
 
@@ -350,8 +350,8 @@ drilled start g Stays d e = absurd (cc e)
 drilled start g (Goes pace end) d e = absurd (no_drill_goes pace start end d (same_ok (moving_at pace start end) (path.Cycle d) e))
 drilled start g (GoesHome between home) d e = absurd (cc e)
 drilled start g (Turns pace asked) d e =
-    let found = then_ok (arc.checked asked) (λ shape. Ok (turning_at pace shape)) (path.Cycle d) e in
-    absurd (no_drill_turns pace found.0 d (same_ok (turning_at pace found.0) (path.Cycle d) found.2))
+    let found = then_ok (arc.checked asked) (λ shape. Ok (round_path_at pace shape)) (path.Cycle d) e in
+    absurd (no_drill_turns pace found.0 d (same_ok (round_path_at pace found.0) (path.Cycle d) found.2))
 drilled start g (Drills w s) d e =
     let found = then_ok (cycle.canned_of w s g) (λ x. Ok (path.Cycle x)) (path.Cycle d) e in
     let is = unless_ok (first_fault (cycle.causes w s g)) (cycle.drill_of w s) found.0 found.1 in

@@ -47,9 +47,9 @@ asked_by b m turn end offsets = record {
 }
 
 -- around an arc at a pace; a block that moves without a pace is refused
-abbrev pub turning_at : Option Pace → ArcShape → Path
-turning_at None shape = WithoutFeed
-turning_at (Some pace) shape = Round (arc_at shape pace)
+abbrev pub round_path_at : Option Pace → ArcShape → Path
+round_path_at None shape = WithoutFeed
+round_path_at (Some pace) shape = Round (arc_at shape pace)
 
 -- around to the line's end, with the feed after the line; or E3 if a computed length, also of the centre, is out of
 -- range, or else the first of C1 to C4
@@ -58,4 +58,4 @@ path_along_arc turn b m o feed =
     and_then (end_of b m o) (λ end.
     and_then (centre_offsets_on b m.modes) (λ offsets.
     and_then (checked (asked_by b m turn end offsets)) (λ shape.
-    Ok (turning_at (fed_pace_of b m feed) shape))))
+    Ok (round_path_at (fed_pace_of b m feed) shape))))

@@ -41,13 +41,13 @@ stop_commands (Some word.EndWithShuttle) origin =
     ∷ command.PalletShuttle ∷ command.ProgramEnd ∷ []
 
 -- spindle stopped, coolant off; speed and slots stay
-abbrev pub turned_off : Outputs → Outputs
-turned_off o = record o { spindle = Stopped; mist = false; flood = false }
+abbrev pub switched_off : Outputs → Outputs
+switched_off o = record o { spindle = Stopped; mist = false; flood = false }
 
--- the outputs after it: the program's end turns them off
+-- the outputs after it: the program's end switches them off
 abbrev pub stop_outputs : Option StopWord → Outputs → Outputs
-stop_outputs word o = if ends word then turned_off o else o
+stop_outputs word o = if ends word then switched_off o else o
 
 -- what it switches, given the outputs before it
 abbrev pub stop_segments : Option StopWord → Outputs → List Segment
-stop_segments word o = if ends word then Switch (turned_off o) ∷ [] else []
+stop_segments word o = if ends word then Switch (switched_off o) ∷ [] else []

@@ -10,13 +10,13 @@ use Rattle.ng_block.specs.BlockSegments.{rest_of}
 use Rattle.ng_block.specs.Effects.{segments_by}
 
 -- the position and outputs before the block, which begins at a point
-abbrev pub standing_before : Effect → Point → MotionState
-standing_before e start = record { point = start; outputs = e.plan.before }
+abbrev pub motion_state_before : Effect → Point → MotionState
+motion_state_before e start = record { point = start; outputs = e.plan.before }
 
 -- the position and outputs before segment n, counted from 0. The position is the end of the segments before it, and the
 -- outputs are those of the last switch before it
-abbrev pub standing_at : Effect → Point → ℕ → MotionState
-standing_at e start n = after_segments (standing_before e start) (take n (segments_by e))
+abbrev pub motion_state_at : Effect → Point → ℕ → MotionState
+motion_state_at e start n = after_segments (motion_state_before e start) (take n (segments_by e))
 
 -- ---- a cursor that skips segments
 
@@ -24,6 +24,6 @@ standing_at e start n = after_segments (standing_before e start) (take n (segmen
 -- for two cursors
 pub record Stays (old new : Passing) : Type 0 where
   pub rest : drop new.left (rest_of new.rest) ≡ drop old.left (rest_of old.rest)
-  pub standing :
-      after_segments new.standing (take new.left (rest_of new.rest))
-      ≡ after_segments old.standing (take old.left (rest_of old.rest))
+  pub motion_state :
+      after_segments new.motion_state (take new.left (rest_of new.rest))
+      ≡ after_segments old.motion_state (take old.left (rest_of old.rest))

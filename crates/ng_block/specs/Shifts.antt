@@ -27,7 +27,7 @@ shift_of b m table lengths =
 abbrev pub nothing_shown : Shown
 nothing_shown = record { tool_length = None; system = None; axis_data = None }
 
--- if a line shows nothing of its offsets, nothing is kept
+-- if a line shows nothing of its offsets, nothing is stored
 abbrev pub shown_in : Option Shown → Shown
 shown_in None = nothing_shown
 shown_in (Some shown) = shown

@@ -1,6 +1,6 @@
 //! What a stop prints and switches, and how the program goes on after a line (NISTIR 6556, 3.6.1).
 ghost use Rattle.std.specs.Prelude.{◌≡◌, ◌∷◌, [], MatchOption};
-ghost use Rattle.ng_block.specs.Ends.{ends, stop_of, stop_commands, turned_off, stop_outputs, stop_segments};
+ghost use Rattle.ng_block.specs.Ends.{ends, stop_of, stop_commands, switched_off, stop_outputs, stop_segments};
 
 use crate::effect::ProgramFlow;
 use arrayvec::ArrayVec;
@@ -77,8 +77,8 @@ pub(crate) fn put_stop(word: Option<StopWord>, origin: Point, commands: &mut Sto
 }
 
 /// The outputs with spindle stopped and coolant off; speed and slots stay.
-pub fn turned_off(outputs: Outputs) -> Outputs
-    ensures { result ≡ turned_off outputs }
+pub fn switched_off(outputs: Outputs) -> Outputs
+    ensures { result ≡ switched_off outputs }
 {
     Outputs {
         spindle: Spindle::Stopped,
@@ -88,13 +88,13 @@ pub fn turned_off(outputs: Outputs) -> Outputs
     }
 }
 
-/// The outputs after a stop: the program's end turns them off.
+/// The outputs after a stop: the program's end switches them off.
 #[inline]
 pub(crate) fn stop_outputs(word: Option<StopWord>, before: Outputs) -> Outputs
     ensures { result ≡ stop_outputs word before }
 {
     if ends(word) {
-        turned_off(before)
+        switched_off(before)
     } else {
         before
     }
@@ -107,7 +107,7 @@ pub(crate) fn stop_segment(word: Option<StopWord>, before: Outputs) -> Option<Se
         (λ segment. stop_segments word before ≡ segment ∷ []) }
 {
     if ends(word) {
-        Some(Segment::Switch(turned_off(before)))
+        Some(Segment::Switch(switched_off(before)))
     } else {
         None
     }

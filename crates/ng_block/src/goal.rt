@@ -36,7 +36,7 @@ fn put_changes(from: &[Change], changes: &mut Changes)
 fn put_selection(system: Option<System>, changes: &mut Changes)
     requires { length changes.old.items + 1 ≤ CHANGES }
     ensures items { changes.new.items ≡ selecting system changes.old.items }
-    ensures room { length changes.new.items ≤ length changes.old.items + 1 }
+    ensures fits { length changes.new.items ≤ length changes.old.items + 1 }
 {
     if let Some(system) = system {
         put_changes(&[system.selection()], changes);
@@ -47,7 +47,7 @@ fn put_selection(system: Option<System>, changes: &mut Changes)
 fn put_stored(stored: &Option<[Change; 3]>, changes: &mut Changes)
     requires { length changes.old.items + 3 ≤ CHANGES }
     ensures items { changes.new.items ≡ storing stored.now changes.old.items }
-    ensures room { length changes.new.items ≤ length changes.old.items + 3 }
+    ensures fits { length changes.new.items ≤ length changes.old.items + 3 }
 {
     if let Some(stored) = stored {
         put_changes(stored, changes);
@@ -69,7 +69,7 @@ impl Effect {
         ensures value { MatchResult result
             (λ _. bearings_of block.now assignments.now state.now tools.now ≡ Ok (bearings_by self.new))
             (λ fault. bearings_of block.now assignments.now state.now tools.now ≡ Err fault) }
-        ensures room { OnOk result (length self.new.changes.items ≤ 132) }
+        ensures fits { OnOk result (length self.new.changes.items ≤ 132) }
     {
         let at = shift_of(block, &state.modal, &state.params, assignments, tools)?;
         self.modal.offsets = at.offsets;
@@ -106,7 +106,7 @@ impl Effect {
         requires slot { IsSlot block.now.values.h (length terms.now.tools) }
         ensures value { let way = path_after_bearings block.now assignments.now state.now terms.now.tools feed_per_min terms.now.geometry in
             MatchResult result (λ _. way ≡ Ok (path_with_bearings self.new)) (λ fault. way ≡ Err fault) }
-        ensures room { OnOk result (length self.new.changes.items ≤ 132) }
+        ensures fits { OnOk result (length self.new.changes.items ≤ 132) }
     {
         self.find_bearings(state, block, assignments, terms.tools)?;
         let offsets = &self.modal.offsets;
@@ -123,7 +123,7 @@ impl Effect {
 
     /// Finds the offsets and the path of a block. Most lines leave the offsets as they are, so that is checked first.
     #[inline]
-    #[tactic(auto, using(crate::proofs::BearingLemmas::bearings_kept, crate::proofs::BearingLemmas::end_kept))]
+    #[tactic(auto, using(crate::proofs::BearingLemmas::bearings_same, crate::proofs::BearingLemmas::end_same))]
     fn find_any_path<A: Allocator + Copy + Drop>(
         &mut self,
         terms: &Terms<'_>,
@@ -136,7 +136,7 @@ impl Effect {
         requires slot { IsSlot block.now.values.h (length terms.now.tools) }
         ensures value { let way = path_after_bearings block.now assignments.now state.now terms.now.tools feed_per_min terms.now.geometry in
             MatchResult result (λ _. way ≡ Ok (path_with_bearings self.new)) (λ fault. way ≡ Err fault) }
-        ensures room { OnOk result (length self.new.changes.items ≤ 132) }
+        ensures fits { OnOk result (length self.new.changes.items ≤ 132) }
     {
         self.changes.clear();
         put_changes(assignments, &mut self.changes);

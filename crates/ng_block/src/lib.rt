@@ -40,7 +40,7 @@ mod terms;
 pub use block_segments::{BlockSegments, Resumed};
 pub use commands::Commands;
 pub use effect::{CHANGES, Changes, Effect, ProgramFlow};
-pub use ends::turned_off;
+pub use ends::switched_off;
 pub use ng_cycles::MotionState;
 pub use ng_offsets::{SLOTS, Tools};
 pub use percent::percent_at;

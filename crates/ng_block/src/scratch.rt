@@ -2,7 +2,7 @@
 ghost use Rattle.std.specs.Prelude.{◌≡◌, MatchResult, Ok, Err};
 ghost use Rattle.ng_num.specs.Causes.{NoneHolds, IsFirstFault};
 ghost use Rattle.ng_block.specs.Causes.{causes};
-ghost use Rattle.ng_words.specs.Kept.{pieces_by};
+ghost use Rattle.ng_words.specs.LineStorage.{pieces_by};
 ghost use Rattle.ng_words.specs.Line.{last_comment};
 ghost use Rattle.ng_expr.specs.Settle.{settled_of};
 ghost use Rattle.ng_block.specs.Effects.{executed, executed_values, in_state};
@@ -112,7 +112,7 @@ impl Scratch {
     }
 
     /// What a line does in a state, or its first fault, in the order of docs/LANGUAGE.md. The state stays as it is, and
-    /// block delete isn't looked at. The effect is kept here until the next line comes; after a fault there is none. A
+    /// block delete isn't looked at. The effect stays here until the next line comes; after a fault there is none. A
     /// dry run and the controller run this for each line. Source: NISTIR 6556, 3.8, and own.
     #[inline(always)]
     pub fn execute<A: Allocator + Copy + Drop>(

@@ -12,7 +12,7 @@ use Rattle.ng_file.specs.Promise.{Promise, no_promise}
 use Rattle.ng_file.specs.declared.device.NoDevice.{NoDevice}
 use Rattle.ng_file.specs.declared.rig.FileRig.{FileRig}
 use Rattle.ng_layout.specs.Areas.{is_large_size}
-use Rattle.ng_layout.specs.Header.{program_room}
+use Rattle.ng_layout.specs.Header.{program_limit_of}
 use Rattle.ng_journal.specs.Formatting.{FormatSpec}
 use Rattle.ng_journal.specs.Journal.{CountsFailure}
 use Rattle.ng_console.specs.Devices.{IsOver}
@@ -29,7 +29,7 @@ pub record FormatsRig {R : Type 0} (large : Bool) (seen : R → Device) (rig_old
   pub faults : IfErr formatted (λ fault. (fault ≡ NotFormatted) ⊎ (fault ≡ DeviceFailed))
   pub formats : wanted_size large ≤ (seen rig_old).sectors
       → IfHonest (seen rig_old) (seen rig_new)
-      (FormatSpec formatted (program_room (is_large_size (seen rig_old).sectors)) (seen rig_old).trace
+      (FormatSpec formatted (program_limit_of (is_large_size (seen rig_old).sectors)) (seen rig_old).trace
       (seen rig_new).trace)
   pub tells : CountsFailure formatted (seen rig_old).failed (seen rig_new).failed
 

@@ -41,7 +41,7 @@ pub record GrowsFile {S : Type 0} (content lasting : S → Option (List ℕ)) (f
   pub faults : IfErr grown (λ fault. (fault ≡ NotFormatted) ⊎ (fault ≡ DeviceFailed))
   pub device : OnOk grown (IfSome (content file_old) (λ held. is_device held ≡ true))
   pub lengthened : OnOk grown (Lengthened large_bytes (content file_old) (content file_new))
-  pub lasts : OnOk grown (IfSome (lasting file_new) (λ kept. content file_new ≡ Some kept))
+  pub lasts : OnOk grown (IfSome (lasting file_new) (λ held. content file_new ≡ Some held))
   pub refused : IsErrOf grown NotFormatted → IfSome (content file_old) (λ held. is_device held ≡ false)
   pub unchanged : IsErrOf grown NotFormatted → content file_new ≡ content file_old
   pub failed : IsErrOf grown DeviceFailed → GrowsInPart content file_old file_new

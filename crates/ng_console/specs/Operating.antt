@@ -19,7 +19,7 @@ use Rattle.ng_console.specs.declared.settings_file.NoSettings.{NoSettings}
 -- No byte has changed, and a loss of power leaves what a read returns.
 pub record IsSettled {S : Type 0} (content lasting : S → Option (List ℕ)) (device settled : S) : Type 0 where
   pub same : IfSome (content device) (λ held. content settled ≡ Some held)
-  pub lasts : IfSome (lasting settled) (λ kept. content settled ≡ Some kept)
+  pub lasts : IfSome (lasting settled) (λ held. content settled ≡ Some held)
 
 -- The console's conversation over that device, once it is settled, which is honest where the file does what it promises;
 -- or the file fails at that; or these bytes can't be

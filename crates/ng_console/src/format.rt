@@ -3,7 +3,7 @@ ghost use Rattle.std.specs.Prelude.{◌≡◌, ◌<◌, ◌≤◌, ◌↔◌, �
 ghost use Rattle.ng_num.specs.declared.fault.Fault.TheVariants.{DeviceFailed, NotFormatted};
 ghost use Rattle.ng_rig.specs.Calls.{IfHonest};
 ghost use Rattle.ng_layout.specs.Areas.{is_large_size};
-ghost use Rattle.ng_layout.specs.Header.{program_room};
+ghost use Rattle.ng_layout.specs.Header.{program_limit_of};
 ghost use Rattle.ng_journal.specs.Formatting.{FormatSpec};
 ghost use Rattle.ng_journal.specs.Journal.{CountsFailure};
 ghost use Rattle.ng_console.specs.Format.{FormatsDevice, FormatsOpened, FormatsRig};
@@ -109,8 +109,8 @@ pub fn format_rig<R: Rig, W: Write>(rig: &mut R, large: bool, writer: &mut W) ->
 /// Makes a device fresh that has enough sectors, those of a large device if one is wanted. J2 if it has fewer; then it
 /// isn't called.
 fn format_wanted<R: Rig>(rig: &mut R, large: bool) -> Result<(), Fault>
-    ensures formats { let room = program_room (is_large_size (R.seen rig.old).sectors) in wanted_size large ≤ (R.seen rig.old).sectors
-        → IfHonest (R.seen rig.old) (R.seen rig.new) (FormatSpec result room (R.seen rig.old).trace (R.seen rig.new).trace) }
+    ensures formats { let most = program_limit_of (is_large_size (R.seen rig.old).sectors) in wanted_size large ≤ (R.seen rig.old).sectors
+        → IfHonest (R.seen rig.old) (R.seen rig.new) (FormatSpec result most (R.seen rig.old).trace (R.seen rig.new).trace) }
     ensures small { IsErrOf result NotFormatted ↔ ((R.seen rig.old).sectors < wanted_size large) }
     ensures unchanged { IsErrOf result NotFormatted → rig.new ≡ rig.old }
     ensures errors { IfErr result (λ e. (e ≡ NotFormatted) ⊎ (e ≡ DeviceFailed)) }

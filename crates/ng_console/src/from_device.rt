@@ -124,7 +124,7 @@ fn dry_stored<R: Read, W: Write, A: Allocator + Copy + Drop>(
         tools,
         place: _,
         length: _,
-        room: _,
+        program_limit: _,
         half: _,
     } = stored;
     state.params.clear_passing();

@@ -60,7 +60,7 @@ pub fn grow_file<S: Append, W: Write>(file: &mut S, writer: &mut W) -> io::Resul
 fn grow<S: Append>(file: &mut S) -> Result<(), Fault>
     ensures device { OnOk result (IfSome (S.content file.old) (λ held. is_device held ≡ true)) }
     ensures lengthened { OnOk result (Lengthened large_bytes (S.content file.old) (S.content file.new)) }
-    ensures lasts { OnOk result (IfSome (S.lasting file.new) (λ kept. S.content file.new ≡ Some kept)) }
+    ensures lasts { OnOk result (IfSome (S.lasting file.new) (λ held. S.content file.new ≡ Some held)) }
     ensures refused { IsErrOf result NotFormatted → IfSome (S.content file.old) (λ held. is_device held ≡ false) }
     ensures unchanged { IsErrOf result NotFormatted → S.content file.new ≡ S.content file.old }
     ensures failed { IsErrOf result DeviceFailed → GrowsInPart S.content file.old file.new }
@@ -76,7 +76,7 @@ fn grow<S: Append>(file: &mut S) -> Result<(), Fault>
 /// Lengthens a file to a large device. J1 if it fails.
 fn lengthen_device<S: Append>(file: &mut S) -> Result<(), Fault>
     ensures lengthened { OnOk result (Lengthened large_bytes (S.content file.old) (S.content file.new)) }
-    ensures lasts { OnOk result (IfSome (S.lasting file.new) (λ kept. S.content file.new ≡ Some kept)) }
+    ensures lasts { OnOk result (IfSome (S.lasting file.new) (λ held. S.content file.new ≡ Some held)) }
     ensures failed { IfErr result
         (λ fault. (fault ≡ DeviceFailed) × LengthenedInPart large_bytes (S.content file.old) (S.content file.new)) }
 {

@@ -136,7 +136,7 @@ pub fn operate_device<S: Storage + Drop, O: Write + Drop, I: Read, W: Write>(
 ///   last sector is written again.
 fn settle<S: Storage>(device: &mut S) -> io::Result<()>
     ensures same { IfSome (S.content device.old) (λ held. S.content device.new ≡ Some held) }
-    ensures lasts { OnOk result (IfSome (S.lasting device.new) (λ kept. S.content device.new ≡ Some kept)) }
+    ensures lasts { OnOk result (IfSome (S.lasting device.new) (λ held. S.content device.new ≡ Some held)) }
     ensures honest { (S.promise device.old).honest → (S.promise device.new).honest }
     ensures durable { (S.promise device.old).honest → OnOk result (IsDurable (S.content device.new) (S.promise device.new)) }
 {

@@ -30,7 +30,7 @@ use Rattle.ng_core.specs.Moments.{answered_by}
 use Rattle.ng_core.specs.Runs.{tried_events}
 use Rattle.ng_core.specs.Headline.{IsAccounted, IsPast, Accounts}
 use Rattle.ng_core.proofs.HistoryLemmas.{History}
-use Rattle.ng_core.proofs.EventsInTurnLemmas.{turns_history}
+use Rattle.ng_core.proofs.ExchangeLemmas.{exchanges_history}
 use Rattle.ng_core.proofs.HistoryStopLemmas.{Leads, IsLeftBy, leads, passed}
 use Rattle.ng_core.proofs.MomentLemmas.{weaker_said}
 
@@ -192,7 +192,7 @@ pub accounts : {A R : Type 0} (seen : R → Device) (x : DurableState) (events :
     (replies : List Reply) (moments : List ℕ) (first now : ControllerModel R)
     → (seen first.journal.rig).honest → IsPast seen x events replies moments first now → Accounts seen x events replies moments first now
 accounts seen x events replies moments first now h p =
-    let history = (turns_history seen events replies first now p.turns).holds h x.program (λ _. p.began.rests) in
+    let history = (exchanges_history seen events replies first now p.exchanges).holds h x.program (λ _. p.began.rests) in
     from_rest seen x events replies moments first now
     (subst (λ (s : SessionModel). Leads seen events replies moments first.geometry
     (record { program = x.program; session = s }) (seen first.journal.rig).trace now) p.began.session

@@ -141,7 +141,7 @@ none_taken_away seen e r old new past x events told before first h is t image ha
     let was = accounts seen x events told before first old h is in
     let rising = was.passes.rising in
     let n : answered_by t (before ++ m ∷ []) ≡ length before = answered_before _ t m before _ rising from until in
-    let each : length before ≡ length told = ap (λ (l : List ℕ). length l) is.answered ∙ each_answered seen events told first old is.turns in
+    let each : length before ≡ length told = ap (λ (l : List ℕ). length l) is.answered ∙ each_answered seen events told first old is.exchanges in
     let some : take (answered_by t (before ++ m ∷ [])) (told ++ r ∷ []) ≡ told = take_told _ told (r ∷ []) (n ∙ each) in
     let begins : moment (seen first.journal.rig).trace ≤ t = omega (arith, from, begins_before _ _ before rising) in
     subst (λ (l : List Reply). x.saved.entries + dones l ≤ y.saved.entries) some

@@ -98,13 +98,13 @@ module _ {R : Type 0} (seen : R → Device) where
       → old.journal.broken ≡ false → fault ≡ OutOfMemory → memory
       → new.journal ≡ old.journal → new.lines ≡ old.lines → new.geometry ≡ old.geometry → new.session ≡ old.session
       → CarriesOut seen (needs memory device reads) out (Err fault) old new
-  carried_short memory device reads fault out old new whole is taken same lines geometry kept =
+  carried_short memory device reads fault out old new whole is taken same lines geometry unmoved =
       let short : CarriesOut seen (needs memory device reads) out (Err OutOfMemory) old new = record {
-        does = does_aside seen OutOfMemory out old new (inl refl) same lines kept;
+        does = does_aside seen OutOfMemory out old new (inl refl) same lines unmoved;
         calls = calls_none seen OutOfMemory out old new (λ h. ap (λ (j : JournalModel R). (seen j.rig).trace) same);
-        reads = reads_aside seen OutOfMemory out old new (inl refl) kept lines
+        reads = reads_aside seen OutOfMemory out old new (inl refl) unmoved lines
             (keeps_same seen old.journal new.journal same);
-        comes = stays_same reads OutOfMemory old new kept (λ other. same);
+        comes = stays_same reads OutOfMemory old new unmoved (λ other. same);
         line = λ read. tt;
         ledger = tt;
         hindered = inl (refl, taken);
@@ -142,15 +142,15 @@ module _ {R : Type 0} (seen : R → Device) where
       → new.geometry ≡ old.geometry → new.session ≡ old.session → new.lines ≡ old.lines
       → IsCausedBy memory device (ledger_of old.journal) out e → JournalCall {T = T} seen (Err e) old.journal new.journal
       → CarriesOut seen (needs memory device reads) out (Err fault) old new
-  carried_failed memory device reads fault e out old new is does made which unchanged geometry kept lines hindered call =
+  carried_failed memory device reads fault e out old new is does made which unchanged geometry unmoved lines hindered call =
       let there : CarriesOut seen (needs memory device reads) out (Err e) old new = record {
         does = does;
         calls = λ h program. record {
           calls = made h program;
           unchanged = λ other. ap (λ (j : JournalModel R). (seen j.rig).trace) (unless_lost e old.journal new.journal which unchanged other);
         };
-        reads = reads_unstored seen e out old new which unchanged kept lines;
-        comes = stays_same reads e old new kept (unless_lost e old.journal new.journal which unchanged);
+        reads = reads_unstored seen e out old new which unchanged unmoved lines;
+        comes = stays_same reads e old new unmoved (unless_lost e old.journal new.journal which unchanged);
         line = λ read. tt;
         ledger = tt;
         hindered = hindered;
@@ -168,12 +168,12 @@ module _ {R : Type 0} (seen : R → Device) where
       → ⊥)
       → new.geometry ≡ old.geometry → new.session ≡ old.session → JournalCall {T = T} seen (Err e) old.journal new.journal
       → CarriesOut seen (needs memory device reads) out (Err fault) old new
-  carried_lost memory device reads fault e out old new is does calls lost asked unused geometry kept call =
+  carried_lost memory device reads fault e out old new is does calls lost asked unused geometry unmoved call =
       let there : CarriesOut seen (needs memory device reads) out (Err e) old new = record {
         does = does;
         calls = calls;
-        reads = reads_lost seen e out old new lost (ap session_status kept);
-        comes = stays_same reads e old new kept (λ other. absurd (other lost));
+        reads = reads_lost seen e out old new lost (ap session_status unmoved);
+        comes = stays_same reads e old new unmoved (λ other. absurd (other lost));
         line = λ read. tt;
         ledger = tt;
         hindered = inr (inr (lost, asked, unused));

@@ -93,12 +93,12 @@ hindered_entry T e q s ledger saved due which iff =
     hindered_storing T e ledger (λ program. end q program s s.current) (Commit saved) which iff (λ program. stored_end q program s saved due)
 
 -- the entry of a program
-pub hindered_load : (T : Type 0) (e : Fault) (room : ℕ) (s : SessionModel) (saved : StoredModel) (text : List ℕ)
-    (ledger : Ledger) → load_refusal s text ≡ None → length text ≤ room → saved ≡ after_load s.stored (length text)
+pub hindered_load : (T : Type 0) (e : Fault) (most : ℕ) (s : SessionModel) (saved : StoredModel) (text : List ℕ)
+    (ledger : Ledger) → load_refusal s text ≡ None → length text ≤ most → saved ≡ after_load s.stored (length text)
     → (e ≡ CountersUsed) ⊎ (e ≡ DeviceFailed)
-    → (let answered : Result T Fault = Err e in IsErrOf answered CountersUsed ↔ ((length text ≤ room) × UsesUp ledger (Load saved)))
+    → (let answered : Result T Fault = Err e in IsErrOf answered CountersUsed ↔ ((length text ≤ most) × UsesUp ledger (Load saved)))
     → IsCausedBy (load_refusal s text ≡ None) (load_refusal s text ≡ None) ledger (λ program. load program s text) e
-hindered_load T e room s saved text ledger free small is which iff =
+hindered_load T e most s saved text ledger free small is which iff =
     hindered_as ledger (λ program. load program s text) (λ program. load program s text) (λ none. absurd none) (λ u. free) (λ program. refl) e
     (hindered_storing T e ledger (λ program. load program s text) (Load saved) which
     (λ used. (iff.0 used).1, λ u. iff.1 (small, u))

@@ -1,4 +1,4 @@
--- A device that was lengthened to a large one stands for the same, but for the room for a program.
+-- A device that was lengthened to a large one stands for the same, but for the program limit.
 use Rattle.std.proofs.Common.{◌≡◌, ℕ, zero, suc, ◌+◌, ◌<◌, ◌≤◌, Bool, List, ℤ, Option, Some, None, Result, Ok, Err, refl, sym, ◌∙◌, ap, subst, arith}
 use Rattle.ng_num.specs.declared.fault.Fault.{Fault}
 use Rattle.ng_rig.specs.Trace.{Image}
@@ -7,7 +7,7 @@ use Rattle.ng_layout.specs.declared.header.Format.TheVariants.{One, Two}
 use Rattle.ng_layout.specs.declared.header.Header.{Header}
 use Rattle.ng_layout.specs.Areas.{greatest_area, program_first, program_size, snapshot_first, snapshot_size, tools_first, tools_size, log_first, log_size_of}
 use Rattle.ng_layout.specs.Fields.{number_at}
-use Rattle.ng_layout.specs.Header.{header_in, program_room}
+use Rattle.ng_layout.specs.Header.{header_in, program_limit_of}
 use Rattle.ng_layout.specs.Log.{LogPosition, ReplayState, run}
 use Rattle.ng_layout.specs.Sectors.{program_text}
 use Rattle.ng_layout.specs.Stands.{is_large, newer, in_force, stretch, snapshot, standing, durable_state_under}
@@ -15,7 +15,7 @@ use Rattle.ng_layout.specs.Stands.{stands, stands_beside, beside_header, beside_
 use Rattle.ng_layout.specs.Stored.{DurableState}
 use Rattle.ng_layout.proofs.ImageLemmas.{force-within, log-long, stretch-same, under}
 use Rattle.ng_journal.proofs.FoundStateLemmas.{none_found}
-use Rattle.ng_core.specs.Lifetime.{IsGrown, StandsGrown, with_room_of, grown_of}
+use Rattle.ng_core.specs.Lifetime.{IsGrown, StandsGrown, with_limit_of, grown_of}
 
 module _ (old new : Image) (g : IsGrown old new) where
   header_same : (k : ℕ) → k < 2 → header_in (is_large new) k (new k) ≡ header_in (is_large old) k (old k)
@@ -40,17 +40,17 @@ module _ (old new : Image) (g : IsGrown old new) where
 
   -- ---- the state
 
-  more_room : (room : ℕ) (f : Option ReplayState) (text : List ℕ) (length : ℕ)
-      → standing (program_room (is_large new)) f text length ≡ grown_of new (standing room f text length)
-  more_room room None text length = refl
-  more_room room (Some f) text length = refl
+  more_limit : (most : ℕ) (f : Option ReplayState) (text : List ℕ) (length : ℕ)
+      → standing (program_limit_of (is_large new)) f text length ≡ grown_of new (standing most f text length)
+  more_limit most None text length = refl
+  more_limit most (Some f) text length = refl
 
-  under_more_room : (room : ℕ) (h : Header) (area tools text log : ℕ → List ℕ)
-      → durable_state_under (program_room (is_large new)) h area tools text log ≡ grown_of new (durable_state_under room h area tools text log)
+  under_more_limit : (most : ℕ) (h : Header) (area tools text log : ℕ → List ℕ)
+      → durable_state_under (program_limit_of (is_large new)) h area tools text log ≡ grown_of new (durable_state_under most h area tools text log)
   unfolding durable_state_under
-  under_more_room room h area tools text log =
+  under_more_limit most h area tools text log =
       let first : LogPosition = record { at = 0; number = 0; found = snapshot h.format h.length area tools } in
-      more_room room (run (log_size_of h) h.format h.length log h.epoch first).found (program_text h.length text) h.length
+      more_limit most (run (log_size_of h) h.format h.length log h.epoch first).found (program_text h.length text) h.length
 
   few_areas : (h : Header) → in_force old ≡ Some h → h.area ≤ 1
   few_areas h is = subst (λ (large : Bool). h.area ≤ greatest_area large) g.small (force-within old h is).area
@@ -63,8 +63,8 @@ module _ (old new : Image) (g : IsGrown old new) where
       let log = row_same log_first (log_size_of h) (omega (arith, log-long h.format)) in
       let base = λ (first size : ℕ). stretch first size old in
       under new h (force_same ∙ is)
-      ∙ (λ i. durable_state_under (program_room (is_large new)) h (area i) (tools i) (text i) (log i))
-      ∙ under_more_room (program_room (is_large old)) h (base (snapshot_first h.epoch) snapshot_size) (base (tools_first h.epoch) tools_size)
+      ∙ (λ i. durable_state_under (program_limit_of (is_large new)) h (area i) (tools i) (text i) (log i))
+      ∙ under_more_limit (program_limit_of (is_large old)) h (base (snapshot_first h.epoch) snapshot_size) (base (tools_first h.epoch) tools_size)
       (base (program_first h.area) (program_size h.area)) (base log_first (log_size_of h))
       ∙ ap (grown_of new) (sym (under old h is))
 
@@ -75,7 +75,7 @@ module _ (old new : Image) (g : IsGrown old new) where
 
   -- with any table
   format_more : (tools : List ℤ) (format : Format) (s : DurableState)
-      → beside_format tools format (with_room_of new s) ≡ with_room_of new (beside_format tools format s)
+      → beside_format tools format (with_limit_of new s) ≡ with_limit_of new (beside_format tools format s)
   format_more tools One s = refl
   format_more tools Two s = refl
 

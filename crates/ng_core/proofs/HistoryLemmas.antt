@@ -36,7 +36,7 @@ OnSpecAnyState seen true answer event program old new = (answer ≡ broken_answe
 OnSpecAnyState seen false answer event program old new = OnSpecIfHonest seen answer event program old new
 
 -- an event with its reply, and the moment at which it was answered
-pub record HonestTurn {A R : Type 0} (seen : R → Device) (event : Event A) (r : Reply) (at : ℕ)
+pub record HonestExchange {A R : Type 0} (seen : R → Device) (event : Event A) (r : Reply) (at : ℕ)
     (answer : Result Reply Fault) (program : List ℕ) (old new : ControllerModel R) : Type 0 where
   pub told_is : r ≡ reply_to answer
   pub moment_is : at ≡ moment (seen new.journal.rig).trace
@@ -50,5 +50,5 @@ History seen [] (r ∷ replies) moments program old new = ⊥
 History seen (event ∷ events) [] moments program old new = ⊥
 History seen (event ∷ events) (r ∷ replies) [] program old new = ⊥
 History {A} {R} seen (event ∷ events) (r ∷ replies) (m ∷ moments) program old new =
-    (answer : Result Reply Fault) × ((between : ControllerModel R) × (HonestTurn seen event r m answer program old between
+    (answer : Result Reply Fault) × ((between : ControllerModel R) × (HonestExchange seen event r m answer program old between
     × History seen events replies moments (program_after answer (transition_of old program event) program) between new))

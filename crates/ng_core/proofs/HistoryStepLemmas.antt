@@ -11,7 +11,7 @@ use Rattle.ng_session.specs.declared.reply.Reply.{Reply}
 use Rattle.ng_core.specs.Model.{ControllerModel, IsAtRestWith}
 use Rattle.ng_core.specs.Events.{Handles, reply_to, broken_answer}
 use Rattle.ng_core.specs.Causes.{transition_of}
-use Rattle.ng_core.proofs.HistoryLemmas.{History, HonestTurn, OnSpecIfHonest, OnSpecAnyState, program_after}
+use Rattle.ng_core.proofs.HistoryLemmas.{History, HonestExchange, OnSpecIfHonest, OnSpecAnyState, program_after}
 
 -- Some of the events were answered. Any history of the rest makes a history of all.
 pub record GoesOn {A R : Type 0} (seen : R → Device) (events rest : List (Event A)) (done : List Reply)
@@ -43,7 +43,7 @@ goes_more : {A R : Type 0} (seen : R → Device) (events : List (Event A)) (even
     (done : List Reply) (moments : List ℕ) (r : Reply) (answer : Result Reply Fault) (program : List ℕ)
     (old now next : ControllerModel R)
     → (g : GoesOn seen events (event ∷ rest) done moments program old now)
-    → HonestTurn seen event r (moment (seen next.journal.rig).trace) answer g.here now next
+    → HonestExchange seen event r (moment (seen next.journal.rig).trace) answer g.here now next
     → (next.journal.broken ≡ false → IsAtRestWith (seen next.journal.rig).trace next (program_after answer (transition_of now g.here event) g.here))
     → GoesOn seen events rest (done ++ r ∷ []) (moments ++ moment (seen next.journal.rig).trace ∷ []) program old next
 goes_more seen events event rest done moments r answer program old now next g s rests = record {

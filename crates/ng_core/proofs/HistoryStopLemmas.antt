@@ -24,7 +24,7 @@ use Rattle.ng_core.specs.Moments.{AtEachStop, IsRising, answered_by}
 use Rattle.ng_core.specs.Runs.{IsCrashAfterSome, PassesAsSession, answered_events, answered_events_by}
 use Rattle.ng_core.specs.Runs.{session_replies, session_replies_by, tried_events, tried_events_by}
 use Rattle.ng_core.specs.Causes.{transition_of}
-use Rattle.ng_core.proofs.HistoryLemmas.{History, HonestTurn, OnSpecIfHonest, OnSpecAnyState, program_after}
+use Rattle.ng_core.proofs.HistoryLemmas.{History, HonestExchange, OnSpecIfHonest, OnSpecAnyState, program_after}
 use Rattle.ng_core.proofs.MomentLemmas.{none_by, one_by, same_moment, same_more, same_none, same_each, same_rising, no_call, one_call, more_calls, weaker_said}
 
 -- ---- what a stop leaves, and how much of it was acknowledged
@@ -171,22 +171,23 @@ none_more r replies is none (suc n) = let rest = none n in omega (arith, is, res
 idles_more : {A R : Type 0} (seen : R → Device) (event : Event A) (events : List (Event A)) (r : Reply)
     (replies : List Reply) (m : ℕ) (moments : List ℕ) (answer : Result Reply Fault) (program : List ℕ)
     (old between new : ControllerModel R)
-    → old.journal.broken ≡ true → HonestTurn seen event r m answer program old between
+    → old.journal.broken ≡ true → HonestExchange seen event r m answer program old between
     → Idles seen events replies moments between new → Idles seen (event ∷ events) (r ∷ replies) (m ∷ moments)
     old new
 idles_more {A} {R} seen event events r replies m moments answer program old between new broken step rest =
-    let turn : OnSpecAnyState seen true answer event program old between =
+    let exchange : OnSpecAnyState seen true answer event program old between =
     subst (λ (b : Bool). OnSpecAnyState seen b answer event program old between) broken step.stepping in
     let here : moment (seen between.journal.rig).trace ≡ moment (seen old.journal.rig).trace =
-    ap (λ (c : ControllerModel R). moment (seen c.journal.rig).trace) turn.1 in
+    ap (λ (c : ControllerModel R). moment (seen c.journal.rig).trace) exchange.1 in
     let first : m ≡ moment (seen old.journal.rig).trace = step.moment_is ∙ here in
     let others : moments ≡ same_moment (moment (seen old.journal.rig).trace) events = rest.moments_are ∙ ap (λ (k : ℕ). same_moment k events) here in
     record {
       answers = answer ∷ rest.answers;
       replies_are = λ i. step.told_is i ∷ rest.replies_are i;
       moments_are = (λ i. first i ∷ others i) ∙ sym (same_more (moment (seen old.journal.rig).trace) event events);
-      none = none_more r replies (ap done_count (step.told_is ∙ ap (λ (a : Result Reply Fault). reply_to a) turn.0) ∙ none_done old.session event) rest.none;
-      same = rest.same ∙ turn.1;
+      none = none_more r replies (ap done_count (step.told_is ∙ ap (λ (a : Result Reply Fault). reply_to a) exchange.0)
+          ∙ none_done old.session event) rest.none;
+      same = rest.same ∙ exchange.1;
     }
 
 idles : {A R : Type 0} (seen : R → Device) (events : List (Event A)) (replies : List Reply) (moments program : List ℕ) (old new : ControllerModel R)
@@ -211,11 +212,11 @@ idles seen (event ∷ events) (r ∷ replies) [] program old new h broken = absu
 idles seen (event ∷ events) (r ∷ replies) (m ∷ moments) program old new h broken =
     let answer = h.0 in
     let between = h.1.0 in
-    let turn : OnSpecAnyState seen true answer event program old between =
+    let exchange : OnSpecAnyState seen true answer event program old between =
     subst (λ (b : Bool). OnSpecAnyState seen b answer event program old between) broken h.1.1.0.stepping in
     idles_more seen event events r replies m moments answer program old between new broken h.1.1.0
     (idles seen events replies moments (program_after answer (transition_of old program event) program) between new
-    h.1.1.1 (ap (λ (c : ControllerModel _). c.journal.broken) turn.1 ∙ broken))
+    h.1.1.1 (ap (λ (c : ControllerModel _). c.journal.broken) exchange.1 ∙ broken))
 
 -- the rest of a history goes on from the controller that an answered event left
 led_on : {A R : Type 0} (seen : R → Device) (event : Event A) (events : List (Event A)) (r v : Reply)
@@ -422,11 +423,11 @@ leads seen (event ∷ events) (r ∷ replies) [] program old new h whole rests =
 leads seen (event ∷ events) (r ∷ replies) (m ∷ moments) program old new h whole rests =
     let answer = h.0 in
     let between = h.1.0 in
-    let turn : OnSpecIfHonest seen answer event program old between =
+    let exchange : OnSpecIfHonest seen answer event program old between =
     subst (λ (b : Bool). OnSpecAnyState seen b answer event program old between) whole h.1.1.0.stepping in
     subst (λ (at : ℕ). Leads seen (event ∷ events) (r ∷ replies) (at ∷ moments) old.geometry
     (program_session_of program old) (seen old.journal.rig).trace new) (sym h.1.1.0.moment_is)
-    (led seen event events r replies moments answer program old between new h.1.1.0.told_is turn whole rests h.1.1.1
+    (led seen event events r replies moments answer program old between new h.1.1.0.told_is exchange whole rests h.1.1.1
     (λ p w k g. leads seen events replies moments p between new g w k))
 
 abbrev pub passed : {A R : Type 0} (seen : R → Device) (events : List (Event A)) (replies : List Reply)

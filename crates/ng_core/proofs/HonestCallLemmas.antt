@@ -18,7 +18,7 @@ use Rattle.ng_session.specs.Session.{Transition, load, load_unless, load_refusal
 use Rattle.ng_session.specs.declared.reply.Reply.{Reply}
 use Rattle.ng_core.specs.Causes.{stored_for}
 use Rattle.ng_core.specs.Model.{ControllerModel}
-use Rattle.ng_core.specs.Events.{MakesCalls, CallsFor, CallsIfHonest, IsKeptAfter, KeepsLedger, handed_all}
+use Rattle.ng_core.specs.Events.{MakesCalls, CallsFor, CallsIfHonest, IsStoredAfter, KeepsLedger, handed_all}
 use Rattle.ng_core.proofs.QuietEventLemmas.{IsStill}
 
 -- ---- nothing is called
@@ -102,10 +102,10 @@ told_record (Err e) r ledger saved old new p = record { writes = p.writes; laid 
 
 -- an entry
 pub makes_entry : {R T : Type 0} (seen : R → Device) (result : Result T Fault) (r : Reply)
-    (kept saved : StoredModel) (out : List ℕ → Transition) (old new : ControllerModel R) → kept ≡ saved
+    (own saved : StoredModel) (out : List ℕ → Transition) (old new : ControllerModel R) → own ≡ saved
     → ((program : List ℕ) → stored_for (out program) (out program).reply ≡ Some (Commit saved))
-    → Records seen result kept old.journal new.journal → MakesIfHonest seen (told_as result r) out old new
-makes_entry seen result r kept saved out old new is stores p h program =
+    → Records seen result own old.journal new.journal → MakesIfHonest seen (told_as result r) out old new
+makes_entry seen result r own saved out old new is stores p h program =
     let before = seen old.journal.rig in
     let after = (seen new.journal.rig).trace in
     subst (λ (o : Option Storing). MakesCalls (told_as result r) o (out program) before.sectors
@@ -140,10 +140,10 @@ told_load (Ok v) r area header loaded old new p = record { writes = p.writes; te
 told_load (Err e) r area header loaded old new p = record { writes = p.writes; text = tt; laid = tt; synced = tt }
 
 -- a program
-pub makes_load : {R T : Type 0} (seen : R → Device) (result : Result T Fault) (r : Reply) (kept : StoredModel) (text : List ℕ) (old new : ControllerModel R)
-    → load_refusal old.session text ≡ None → kept ≡ after_load old.session.stored (length text) → StoresText seen result kept text old.journal new.journal
+pub makes_load : {R T : Type 0} (seen : R → Device) (result : Result T Fault) (r : Reply) (own : StoredModel) (text : List ℕ) (old new : ControllerModel R)
+    → load_refusal old.session text ≡ None → own ≡ after_load old.session.stored (length text) → StoresText seen result own text old.journal new.journal
     → MakesIfHonest seen (told_as result r) (λ program. load program old.session text) old new
-makes_load seen result r kept text old new free is p h program =
+makes_load seen result r own text old new free is p h program =
     let before = seen old.journal.rig in
     let after = (seen new.journal.rig).trace in
     let area = spare_area (is_large_size before.sectors) old.journal.header.area in
@@ -159,21 +159,21 @@ makes_load seen result r kept text old new free is p h program =
 pub ledger_quiet : {R : Type 0} (seen : R → Device) (out : List ℕ → Transition) (old new : ControllerModel R)
     → ((program : List ℕ) → IsStill program old.session.stored (out program)) → ledger_of new.journal ≡ ledger_of old.journal → KeepsLedger seen out old new
 ledger_quiet seen out old new quiet same program =
-    subst (λ (o : Option Storing). IsKeptAfter o (seen old.journal.rig).sectors (ledger_of old.journal)
+    subst (λ (o : Option Storing). IsStoredAfter o (seen old.journal.rig).sectors (ledger_of old.journal)
     (ledger_of new.journal)) (sym (quiet program).nothing) same
 
 -- for an equal outcome
 pub ledger_on : {R : Type 0} (seen : R → Device) (answer : Result Reply Fault) (out wanted : List ℕ → Transition) (old new : ControllerModel R)
     → ((program : List ℕ) → out program ≡ wanted program) → IfOk answer (λ r. KeepsLedger seen out old new) → IfOk answer (λ r. KeepsLedger seen wanted old new)
-ledger_on seen answer out wanted old new equal kept =
-    subst (λ (f : List ℕ → Transition). IfOk answer (λ r. KeepsLedger seen f old new)) (λ i program. equal program i) kept
+ledger_on seen answer out wanted old new equal own =
+    subst (λ (f : List ℕ → Transition). IfOk answer (λ r. KeepsLedger seen f old new)) (λ i program. equal program i) own
 
 -- an entry
-pub ledger_entry : {R : Type 0} (seen : R → Device) (kept saved : StoredModel) (out : List ℕ → Transition) (old new : ControllerModel R) → kept ≡ saved
+pub ledger_entry : {R : Type 0} (seen : R → Device) (own saved : StoredModel) (out : List ℕ → Transition) (old new : ControllerModel R) → own ≡ saved
     → ((program : List ℕ) → stored_for (out program) (out program).reply ≡ Some (Commit saved))
-    → IsLedgerAfter (ledger_of old.journal) kept (ledger_of new.journal) → KeepsLedger seen out old new
-ledger_entry seen kept saved out old new is stores p program =
-    subst (λ (o : Option Storing). IsKeptAfter o (seen old.journal.rig).sectors (ledger_of old.journal) (ledger_of new.journal)) (sym (stores program))
+    → IsLedgerAfter (ledger_of old.journal) own (ledger_of new.journal) → KeepsLedger seen out old new
+ledger_entry seen own saved out old new is stores p program =
+    subst (λ (o : Option Storing). IsStoredAfter o (seen old.journal.rig).sectors (ledger_of old.journal) (ledger_of new.journal)) (sym (stores program))
     (subst (λ (x : StoredModel). IsLedgerAfter (ledger_of old.journal) x (ledger_of new.journal)) is p)
 
 -- a block of which something is open
@@ -181,16 +181,16 @@ pub ledger_opening : {R : Type 0} (seen : R → Device) (half : HalfModel) (out 
     → ((program : List ℕ) → stored_for (out program) (out program).reply ≡ Some (Open half))
     → IsLedgerAfter (ledger_of old.journal) (record old.journal.saved { half = Some half }) (ledger_of new.journal) → KeepsLedger seen out old new
 ledger_opening seen half out old new stores p program =
-    subst (λ (o : Option Storing). IsKeptAfter o (seen old.journal.rig).sectors (ledger_of old.journal) (ledger_of new.journal)) (sym (stores program)) p
+    subst (λ (o : Option Storing). IsStoredAfter o (seen old.journal.rig).sectors (ledger_of old.journal) (ledger_of new.journal)) (sym (stores program)) p
 
 -- a program
-pub ledger_load : {R : Type 0} (seen : R → Device) (kept : StoredModel) (text : List ℕ) (old new : ControllerModel R)
-    → load_refusal old.session text ≡ None → kept ≡ after_load old.session.stored (length text)
-    → ledger_of new.journal ≡ with_program (spare_area (is_large_size (seen old.journal.rig).sectors) old.journal.header.area) (ledger_of old.journal) kept
+pub ledger_load : {R : Type 0} (seen : R → Device) (own : StoredModel) (text : List ℕ) (old new : ControllerModel R)
+    → load_refusal old.session text ≡ None → own ≡ after_load old.session.stored (length text)
+    → ledger_of new.journal ≡ with_program (spare_area (is_large_size (seen old.journal.rig).sectors) old.journal.header.area) (ledger_of old.journal) own
     → KeepsLedger seen (λ program. load program old.session text) old new
-ledger_load seen kept text old new free is p program =
+ledger_load seen own text old new free is p program =
     let sectors = (seen old.journal.rig).sectors in
-    subst (λ (o : Option Fault). let out : Transition = load_unless program old.session text o in IsKeptAfter
+    subst (λ (o : Option Fault). let out : Transition = load_unless program old.session text o in IsStoredAfter
     (stored_for out out.reply) sectors (ledger_of old.journal) (ledger_of new.journal)) (sym free)
     (subst (λ (x : StoredModel). ledger_of new.journal ≡ with_program
     (spare_area (is_large_size sectors) old.journal.header.area) (ledger_of old.journal) x) is p)

@@ -7,7 +7,7 @@ pub mod AccountLemmas
 pub mod HistoryStepLemmas
 pub mod AcknowledgedLemmas
 pub mod PastLemmas
-pub mod EventsInTurnLemmas
+pub mod ExchangeLemmas
 pub mod HonestEventLemmas
 pub mod StoredJournalLemmas
 pub mod TickLemmas

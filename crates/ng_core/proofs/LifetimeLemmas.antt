@@ -34,7 +34,7 @@ use Rattle.ng_core.specs.Power.{PowerOnResult, PowerOnSpec, PowerOnSpecIfHonest,
 use Rattle.ng_core.specs.Headline.{IsAccounted, IsPast, IsPoweredOn, Accounts}
 use Rattle.ng_core.specs.Lives.{CommittedSession, state_after_session, items_of_session}
 use Rattle.ng_core.specs.Lifetime.{grown_of, GivenEvents, DeviceSession, EndsSession, IsFoundAs, IsDeviceSession}
-use Rattle.ng_core.specs.Lifetime.{IsLifetime, cut_within, cut_after, KeepsToEntries, state_found, LifetimeIsKept}
+use Rattle.ng_core.specs.Lifetime.{IsLifetime, cut_within, cut_after, KeepsToEntries, state_found, LifetimeHolds}
 use Rattle.ng_core.specs.Lifetime.{KeepsFromFormat, KeepsFromImage}
 use Rattle.ng_core.proofs.AccountLemmas.{accounts}
 use Rattle.ng_core.proofs.GrownDeviceLemmas.{grown_stands}
@@ -44,11 +44,11 @@ use Rattle.ng_core.proofs.SessionStopLemmas.{left_synced}
 use Rattle.ng_core.proofs.MomentLemmas.{within_call}
 
 -- what came of a session, whatever was given in it
-record IsKeptBy {A R : Type 0} (seen : R → Device) (geometry : Geometry) (tools : List ℤ) (x : DurableState)
+record HoldsBy {A R : Type 0} (seen : R → Device) (geometry : Geometry) (tools : List ℤ) (x : DurableState)
     (s : DeviceSession A R) (given : Option (GivenEvents A R)) : Type 0 where
-  kept : Option CommittedSession
-  entries : KeepsToEntries seen geometry x s given kept
-  stands_for : StandsBeside tools (state_after_session geometry x kept) (items_of_session geometry x kept) s.image s.items
+  committed : Option CommittedSession
+  entries : KeepsToEntries seen geometry x s given committed
+  stands_for : StandsBeside tools (state_after_session geometry x committed) (items_of_session geometry x committed) s.image s.items
 
 -- ---- within power on
 
@@ -60,7 +60,7 @@ left_either : {A R : Type 0} (seen : R → Device) (tools : List ℤ) (s : Devic
 left_either seen tools s written p ends =
     let old = (seen s.rig).trace in
     let handed : List Item = items old ++ s.items in
-    let stops = (p.recovers.kept written).stops in
+    let stops = (p.recovers.keeps written).stops in
     let which = within_call s.image handed old (seen (power_on_rig s.answer)).trace _ s.at stops ends.0.from ends.0.until ends.0.stop in
     elim which [
       | inl since ↦
@@ -69,11 +69,11 @@ left_either seen tools s written p ends =
       | inr either ↦ either
     ]
 
-kept_within : {A R : Type 0} (seen : R → Device) (geometry : Geometry) (tools : List ℤ) (x : DurableState) (s : DeviceSession A R)
+holds_within : {A R : Type 0} (seen : R → Device) (geometry : Geometry) (tools : List ℤ) (x : DurableState) (s : DeviceSession A R)
     → stands_beside tools (reads (seen s.rig).trace) ≡ Ok x → IsWritten (reads (seen s.rig).trace)
     → PowerOnSpecIfHonest tools s.answer (seen s.rig).trace (seen (power_on_rig s.answer)).trace → EndsSession seen s None
-    → IsKeptBy seen geometry tools x s None
-kept_within seen geometry tools x s state written p ends =
+    → HoldsBy seen geometry tools x s None
+holds_within seen geometry tools x s state written p ends =
     let old = (seen s.rig).trace in
     let e = left_either seen tools s written p ends in
     let nothing : s.items ≡ [] = append_cancel_left (items old) s.items [] (e.handed_is ∙ sym (append-nil (items old))) in
@@ -85,7 +85,7 @@ kept_within seen geometry tools x s state written p ends =
           (λ after. inr (record { state = after ∙ ap recovered_of state; written = e.written; handed_is = nothing }))
           e.state;
     }) in
-    record { kept = l.committed; entries = l.keeps; stands_for = l.stands_for }
+    record { committed = l.committed; entries = l.keeps; stands_for = l.stands_for }
 
 -- ---- after it
 
@@ -114,9 +114,9 @@ from_here geometry lines x before given executed begun acknowledged image p =
     }
 
 -- what a session that was cut after power on left
-record IsKeptAfter {A R : Type 0} (seen : R → Device) (geometry : Geometry) (tools : List ℤ) (x : DurableState)
+record HoldsAfter {A R : Type 0} (seen : R → Device) (geometry : Geometry) (tools : List ℤ) (x : DurableState)
     (s : DeviceSession A R) (g : GivenEvents A R) : Type 0 where
-  is_kept : IsKeptBy seen geometry tools x s (Some g)
+  by_given : HoldsBy seen geometry tools x s (Some g)
   modern : IsModern s.image
 
 module _ {A R : Type 0} (seen : R → Device) (tools : List ℤ) (x : DurableState) (s : DeviceSession A R) (g : GivenEvents A R) where
@@ -132,7 +132,7 @@ module _ {A R : Type 0} (seen : R → Device) (tools : List ℤ) (x : DurableSta
   -- by what the past accounts for
   by_accounts : items (seen g.first.journal.rig).trace ≡ items (seen s.rig).trace
       → Accounts seen (recovered x) g.events g.replies g.moments g.first g.now → EndsSession seen s (Some g)
-      → IsKeptAfter seen g.first.geometry tools x s g
+      → HoldsAfter seen g.first.geometry tools x s g
   by_accounts same a ends =
       let before = items (seen g.first.journal.rig).trace in
       let tried = tried_events (take (suc (answered_by s.at g.moments)) g.events) a.passes.answers in
@@ -142,15 +142,15 @@ module _ {A R : Type 0} (seen : R → Device) (tools : List ℤ) (x : DurableSta
       (subst (λ (l : List Item). IsAccountedBy a before (l ++ s.items)) (sym same) here) in
       let l = lived_since g.first.geometry tools x (cut_after g.first.geometry x s g tried) rest in
       record {
-        is_kept = record { kept = Some l.committed; entries = (a.passes, l.keeps); stands_for = l.stands_for };
+        by_given = record { committed = Some l.committed; entries = (a.passes, l.keeps); stands_for = l.stands_for };
         modern = rest.stands_for.modern;
       }
 
-  kept_after : (geometry : Geometry) → stands_beside tools (reads (seen s.rig).trace) ≡ Ok x → IsWritten (reads (seen s.rig).trace)
+  holds_after : (geometry : Geometry) → stands_beside tools (reads (seen s.rig).trace) ≡ Ok x → IsWritten (reads (seen s.rig).trace)
       → (seen s.rig).honest → s.settings.geometry ≡ geometry → PowerOnSpec seen s.settings s.rig s.answer
       → IfHonest (seen s.rig) (seen (power_on_rig s.answer)) (PowerOnSpecIfHonest tools s.answer (seen s.rig).trace (seen (power_on_rig s.answer)).trace)
-      → EndsSession seen s (Some g) → IsKeptAfter seen geometry tools x s g
-  kept_after geometry state written honest geometry_is spec powers ends =
+      → EndsSession seen s (Some g) → HoldsAfter seen geometry tools x s g
+  holds_after geometry state written honest geometry_is spec powers ends =
       let old = (seen s.rig).trace in
       let told : PowerOnResult R = Ok g.first in
       let power : PowerOnSpec seen s.settings s.rig told = subst (λ (a : PowerOnResult R). PowerOnSpec seen s.settings s.rig a) ends.1 spec in
@@ -159,14 +159,14 @@ module _ {A R : Type 0} (seen : R → Device) (tools : List ℤ) (x : DurableSta
       ends.1 powers in
       let began : IsPoweredOn seen (recovered x) g.first =
       powered_on tools seen g.first old (recovered x) (power.rests.0, power.rests.1) ((p.holds honest).rests written) (ap recovered_of state) in
-      let past : IsPast seen (recovered x) g.events g.replies g.moments g.first g.now = record { began = began; turns = ends.2.0; answered = ends.2.1 } in
+      let past : IsPast seen (recovered x) g.events g.replies g.moments g.first g.now = record { began = began; exchanges = ends.2.0; answered = ends.2.1 } in
       let a = accounts seen (recovered x) g.events g.replies g.moments g.first g.now (p.keeps honest) past in
       let r = (p.holds honest).recovers.renews in
-      subst (λ (l : Geometry). IsKeptAfter seen l tools x s g) (power.geometry ∙ geometry_is) (by_accounts (r.second.items_are ∙ r.first.items_are) a ends)
+      subst (λ (l : Geometry). HoldsAfter seen l tools x s g) (power.geometry ∙ geometry_is) (by_accounts (r.second.items_are ∙ r.first.items_are) a ends)
 
 -- ---- a session
 
--- what power on found stands for what was left, on a grown device with more room
+-- what power on found stands for what was left, on a grown device with a greater limit
 record IsFoundFor (found left : Image) (tools : List ℤ) (x : DurableState) : Type 0 where
   force : in_force found ≡ in_force left
   state : stands_beside tools found ≡ Ok x
@@ -185,20 +185,20 @@ module _ {A R : Type 0} (seen : R → Device) (geometry : Geometry) (left : Imag
       → IfHonest (seen s.rig) (seen (power_on_rig s.answer)) (PowerOnSpecIfHonest tools s.answer (seen s.rig).trace (seen (power_on_rig s.answer)).trace)
   powers_by tools table = is.powers.powers is.enough tools table
 
-  kept_by : (tools : List ℤ) (x : DurableState) → stands_beside tools (reads (seen s.rig).trace) ≡ Ok x → IsWritten (reads (seen s.rig).trace)
+  holds_by : (tools : List ℤ) (x : DurableState) → stands_beside tools (reads (seen s.rig).trace) ≡ Ok x → IsWritten (reads (seen s.rig).trace)
       → IsTableOver s.settings.tools tools (reads (seen s.rig).trace) → (given : Option (GivenEvents A R)) → EndsSession seen s given
-      → IsKeptBy seen geometry tools x s given
-  kept_by tools x state written table None ends = kept_within seen geometry tools x s state written ((powers_by tools table).holds is.honest) ends
-  kept_by tools x state written table (Some g) ends =
-      (kept_after seen tools x s g geometry state written is.honest is.geometry_is is.powers (powers_by tools table) ends).is_kept
+      → HoldsBy seen geometry tools x s given
+  holds_by tools x state written table None ends = holds_within seen geometry tools x s state written ((powers_by tools table).holds is.honest) ends
+  holds_by tools x state written table (Some g) ends =
+      (holds_after seen tools x s g geometry state written is.honest is.geometry_is is.powers (powers_by tools table) ends).by_given
 
-  session_is_kept : (tools : List ℤ) (x : DurableState) → stands_beside tools left ≡ Ok x → IsWritten left
-      → IsTableOver s.settings.tools tools left → IsKeptBy seen geometry tools (state_found s.is_grown (reads (seen s.rig).trace) x) s s.given
-  session_is_kept tools x state written table =
+  session_holds : (tools : List ℤ) (x : DurableState) → stands_beside tools left ≡ Ok x → IsWritten left
+      → IsTableOver s.settings.tools tools left → HoldsBy seen geometry tools (state_found s.is_grown (reads (seen s.rig).trace) x) s s.given
+  session_holds tools x state written table =
       let found = reads (seen s.rig).trace in
       let f = found_for found left tools x state written s.is_grown is.found in
       let over : IsTableOver s.settings.tools tools found = λ header force format. table header (sym f.force ∙ force) format in
-      kept_by tools (state_found s.is_grown found x) f.state f.written over s.given is.ends
+      holds_by tools (state_found s.is_grown found x) f.state f.written over s.given is.ends
 
 -- ---- format 2 stays
 
@@ -268,33 +268,33 @@ stays_modern {A} {R} seen geometry left s is x state written m = by s.given is.e
     by (Some g) ends =
         let f = found [] in
         let y = state_found s.is_grown old x in
-        (kept_after seen [] y s g geometry f.state f.written is.honest is.geometry_is is.powers (powers []) ends).modern
+        (holds_after seen [] y s g geometry f.state f.written is.honest is.geometry_is is.powers (powers []) ends).modern
 
 -- ---- a lifetime
 
-pub kept_from_image : {R : Type 0} (A : Type 0) (seen : R → Device) → KeepsFromImage A seen
-kept_from_image A seen geometry tools left x [] state written table is = tt
-kept_from_image A seen geometry tools left x (s ∷ ss) state written table is =
-    let one = session_is_kept seen geometry left s is.0 tools x state written table.0 in
-    let after = state_after_session geometry (state_found s.is_grown (reads (seen s.rig).trace) x) one.kept in
-    let rest = kept_from_image A seen geometry tools s.image after ss one.stands_for.state one.stands_for.written table.1 is.1 in
-    (one.kept, (record { entries = one.entries; stands_for = one.stands_for }, rest))
+pub holds_from_image : {R : Type 0} (A : Type 0) (seen : R → Device) → KeepsFromImage A seen
+holds_from_image A seen geometry tools left x [] state written table is = tt
+holds_from_image A seen geometry tools left x (s ∷ ss) state written table is =
+    let one = session_holds seen geometry left s is.0 tools x state written table.0 in
+    let after = state_after_session geometry (state_found s.is_grown (reads (seen s.rig).trace) x) one.committed in
+    let rest = holds_from_image A seen geometry tools s.image after ss one.stands_for.state one.stands_for.written table.1 is.1 in
+    (one.committed, (record { entries = one.entries; stands_for = one.stands_for }, rest))
 
-kept_modern : {A R : Type 0} (seen : R → Device) (geometry : Geometry) (tools : List ℤ) (left : Image) (x : DurableState)
+holds_modern : {A R : Type 0} (seen : R → Device) (geometry : Geometry) (tools : List ℤ) (left : Image) (x : DurableState)
     (life : List (DeviceSession A R)) → stands_beside tools left ≡ Ok x → IsWritten left → IsModern left
-    → IsLifetime seen geometry left life → LifetimeIsKept seen geometry tools x life
-kept_modern seen geometry tools left x [] state written m is = tt
-kept_modern seen geometry tools left x (s ∷ ss) state written m is =
-    let one = session_is_kept seen geometry left s is.0 tools x state written (any_table s.settings.tools tools left m) in
+    → IsLifetime seen geometry left life → LifetimeHolds seen geometry tools x life
+holds_modern seen geometry tools left x [] state written m is = tt
+holds_modern seen geometry tools left x (s ∷ ss) state written m is =
+    let one = session_holds seen geometry left s is.0 tools x state written (any_table s.settings.tools tools left m) in
     let next = stays_modern seen geometry left s is.0 x (sym (modern-beside tools left m) ∙ state) written m in
-    let after = state_after_session geometry (state_found s.is_grown (reads (seen s.rig).trace) x) one.kept in
-    let rest = kept_modern seen geometry tools s.image after ss one.stands_for.state one.stands_for.written next is.1 in
-    (one.kept, (record { entries = one.entries; stands_for = one.stands_for }, rest))
+    let after = state_after_session geometry (state_found s.is_grown (reads (seen s.rig).trace) x) one.committed in
+    let rest = holds_modern seen geometry tools s.image after ss one.stands_for.state one.stands_for.written next is.1 in
+    (one.committed, (record { entries = one.entries; stands_for = one.stands_for }, rest))
 
-pub kept_from_format : {R : Type 0} (A : Type 0) (seen : R → Device) → KeepsFromFormat A seen
-kept_from_format A seen (Ok v) room old new f = λ geometry tools life is.
-    let r : IsImageUnder new first_header (fresh_standing room) = at_rest new first_header (fresh_standing room) f.at in
+pub holds_from_format : {R : Type 0} (A : Type 0) (seen : R → Device) → KeepsFromFormat A seen
+holds_from_format A seen (Ok v) most old new f = λ geometry tools life is.
+    let r : IsImageUnder new first_header (fresh_standing most) = at_rest new first_header (fresh_standing most) f.at in
     let m : IsModern (reads new) = record { header = first_header; force = r.force; format = refl } in
     let state = modern-beside tools (reads new) m ∙ r.stands_for in
-    kept_modern seen geometry tools (reads new) (fresh_standing room) life state r.written m is
-kept_from_format A seen (Err e) room old new f = tt
+    holds_modern seen geometry tools (reads new) (fresh_standing most) life state r.written m is
+holds_from_format A seen (Err e) most old new f = tt

@@ -74,7 +74,7 @@ does_not_load {R} {T} seen fault e saved text old new free is same which unchang
     (λ program. refl))
 
 -- a program that isn't too long isn't refused as too long
-pub not_too_long : (T : Type 0) (e : Fault) (room n : ℕ) → n ≤ room → (e ≡ ProgramTooLong) ⊎ ((e ≡ CountersUsed) ⊎ (e ≡ DeviceFailed))
-    → (let answered : Result T Fault = Err e in IsErrOf answered ProgramTooLong ↔ (room < n)) → (e ≡ CountersUsed) ⊎ (e ≡ DeviceFailed)
-not_too_long T e room n small (inl long) iff = absurd (omega (arith, small, iff.0 (λ i. Err (long i))))
-not_too_long T e room n small (inr which) iff = which
+pub not_too_long : (T : Type 0) (e : Fault) (most n : ℕ) → n ≤ most → (e ≡ ProgramTooLong) ⊎ ((e ≡ CountersUsed) ⊎ (e ≡ DeviceFailed))
+    → (let answered : Result T Fault = Err e in IsErrOf answered ProgramTooLong ↔ (most < n)) → (e ≡ CountersUsed) ⊎ (e ≡ DeviceFailed)
+not_too_long T e most n small (inl long) iff = absurd (omega (arith, small, iff.0 (λ i. Err (long i))))
+not_too_long T e most n small (inr which) iff = which

@@ -16,21 +16,24 @@ use Rattle.ng_core.specs.Power.{PowerOnResult, PowerOnSpecIfHonest, IsController
 use Rattle.ng_core.specs.AnsweredEvents.{AreAnsweredEvents, answered_at}
 use Rattle.ng_core.specs.Runs.{IsRun}
 use Rattle.ng_core.specs.Headline.{IsPoweredOn, IsPast, BeginsPast, AddsToPast, AreRun}
-use Rattle.ng_core.proofs.EventsInTurnLemmas.{turns_joined_at, turns_ran}
+use Rattle.ng_core.proofs.ExchangeLemmas.{exchanges_joined_at, exchanges_ran}
 use Rattle.ng_core.proofs.AccountLemmas.{accounts}
 
 pub adds_to_past : {A R : Type 0} (seen : R → Device) (events : List (Event A)) (replies : List Reply) (old new : ControllerModel R)
     → (t : AreAnsweredEvents seen events replies old new)
     → IfHonest (seen old.journal.rig) (seen new.journal.rig) (AddsToPast seen events replies (answered_at seen events replies old new t) old new)
 adds_to_past seen events replies old new t = record {
-  keeps = (turns_ran seen events replies old new t).keeps;
-  back = (turns_ran seen events replies old new t).back;
+  keeps = (exchanges_ran seen events replies old new t).keeps;
+  back = (exchanges_ran seen events replies old new t).back;
   holds = λ h x past told before first is.
       let moments = answered_at seen events replies old new t in
-      let joined = turns_joined_at seen past events told replies first old new is.turns t in
+      let joined = exchanges_joined_at seen past events told replies first old new is.exchanges t in
       let whole : IsPast seen x (past ++ events) (told ++ replies) (before ++ moments) first new =
-      record { began = is.began; turns = joined.0; answered = ap (λ (l : List ℕ). l ++ moments) is.answered ∙ sym joined.1 } in
-      (whole, accounts seen x (past ++ events) (told ++ replies) (before ++ moments) first new ((turns_ran seen past told first old is.turns).back h) whole);
+      record { began = is.began; exchanges = joined.0; answered = ap (λ (l : List ℕ). l ++ moments) is.answered ∙ sym joined.1 } in (
+        whole,
+        accounts seen x (past ++ events) (told ++ replies) (before ++ moments) first new
+            ((exchanges_ran seen past told first old is.exchanges).back h) whole,
+      );
 }
 
 -- all that is said of events answered in turn, with the moments at which they were answered
@@ -38,10 +41,10 @@ pub are_run : {A R : Type 0} (seen : R → Device) (events : List (Event A)) (re
     → (t : AreAnsweredEvents seen events replies old new) → moments ≡ answered_at seen events replies old new t
     → AreRun seen events replies moments old new
 are_run seen events replies moments old new t is = record {
-  turns = t;
+  exchanges = t;
   answered = is;
   ran = subst (λ (l : List ℕ). IfHonest (seen old.journal.rig) (seen new.journal.rig) (IsRun seen events replies l old new)) (sym is)
-      (turns_ran seen events replies old new t);
+      (exchanges_ran seen events replies old new t);
   past = subst (λ (l : List ℕ). IfHonest (seen old.journal.rig) (seen new.journal.rig) (AddsToPast seen events replies l old new)) (sym is)
       (adds_to_past seen events replies old new t);
 }
@@ -68,7 +71,7 @@ begins_past A tools seen (Ok c) old new begun p = λ written x is.
     record {
       began = powered_on tools seen c old x (begun.1, begun.2)
           (subst (λ (l : Trace). IsControllerRecovered tools c old l) begun.0 (p.rests written)) is;
-      turns = refl;
+      exchanges = refl;
       answered = refl;
     }
 begins_past A tools seen (Err e) old new begun p = λ written. tt

@@ -34,6 +34,6 @@ pub powered : {R : Type 0} (tools : List ℤ) (journal : JournalModel R) (saved 
     (Ok (record { journal = journal; session = session; lines = lines; geometry = geometry })) old new
 powered tools journal saved session lines geometry old new stored held known r = record {
   recovers = subst (λ (x : StoredModel). RecoverSpec tools (Ok (journal, x)) old new) (sym stored) r;
-  rests = λ written. recovered tools journal session lines geometry old new (stored ∙ sym held) known (r.kept written).ready;
+  rests = λ written. recovered tools journal session lines geometry old new (stored ∙ sym held) known (r.keeps written).ready;
   force = (record { synced = r.synced; program_is = refl }, known (program_under journal.header (reads new)));
 }

@@ -28,7 +28,7 @@ use Rattle.ng_core.specs.Model.{ControllerModel, durable_state_of}
 use Rattle.ng_session.specs.Runs.{crash_in, session_of_transition}
 use Rattle.ng_core.specs.Causes.{stored_for}
 use Rattle.ng_core.specs.Needs.{needs, needs_line}
-use Rattle.ng_core.specs.Events.{IsCrashOfEither, program_session_of, CallsFor, IsKeptAfter, CarriesOut}
+use Rattle.ng_core.specs.Events.{IsCrashOfEither, program_session_of, CallsFor, IsStoredAfter, CarriesOut}
 use Rattle.ng_core.specs.Events.{CarriesOutEvent, IsAnsweredBy, IsAnsweredAnyway, IsAnsweredByLine}
 use Rattle.ng_core.specs.Private.Ahead.{PlansAhead}
 use Rattle.ng_core.proofs.EventCallLemmas.{acts_unread}
@@ -252,7 +252,7 @@ module _ {R : Type 0} (seen : R → Device) where
           (l.comes.0, p.session ∙ l.comes.1);
       ledger = p.ledger ∙ l.ledger;
     };
-    ledger = λ program. subst (λ (l : Ledger). IsKeptAfter (stored_for (out program) (out program).reply)
+    ledger = λ program. subst (λ (l : Ledger). IsStoredAfter (stored_for (out program) (out program).reply)
         (seen old.journal.rig).sectors (ledger_of old.journal) l) (sym p.ledger) (c.ledger program);
     hindered = tt;
     broken = p.call.broken;

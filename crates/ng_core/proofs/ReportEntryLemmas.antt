@@ -19,7 +19,7 @@ use Rattle.ng_session.specs.declared.reply.Reply.TheVariants as reply
 use Rattle.ng_core.specs.Model.{ControllerModel, durable_state_of}
 use Rattle.ng_core.specs.Events.{IsCarriedOutIfHonest, TouchesNothing}
 use Rattle.ng_core.proofs.HonestEventLemmas.{does_moved, does_unmoved, Storing}
-use Rattle.ng_core.proofs.TickLemmas.{StoresEntry, kept}
+use Rattle.ng_core.proofs.TickLemmas.{StoresEntry, still_known}
 
 storing : {R T : Type 0} (seen : R → Device) (result : Result T Fault) (saved : StoredModel) (entry : Entry)
     (next : SessionModel) (old : ControllerModel R) (journal : JournalModel R) → saved ≡ next.stored
@@ -36,7 +36,7 @@ pub keeps : {R T : Type 0} (seen : R → Device) (v : T) (r : Reply) (saved : St
     → IsCarriedOutIfHonest seen (Ok r) (λ program. commits program entry next) old new
 keeps seen v r saved entry next old new is replied there p lines =
     does_moved seen r v (λ program. commits program entry next) old new
-    (storing seen (Ok v) saved entry next old new.journal is p) (kept old.lines new.lines lines)
+    (storing seen (Ok v) saved entry next old new.journal is p) (still_known old.lines new.lines lines)
     (λ program. replied) (λ program. there) (λ program. refl)
     (subst (λ (x : Reply). TouchesNothing x → ⊥) (sym replied) (λ z. z))
 
@@ -86,8 +86,8 @@ no_block_at_rest s free =
     none_of s.current (first_of (is_none s.current) (not (is_running s.activity)) (not s.held)
     (rest_of (is_at_rest s) (is_none s.stored.half) free))
 
-pub has_room : (n : ℕ) → not (nat_lt n greatest_count) ≡ false → n < greatest_count
-has_room n room = grind (arith, nat_tests)
+pub counts_on : (n : ℕ) → not (nat_lt n greatest_count) ≡ false → n < greatest_count
+counts_on n below = grind (arith, nat_tests)
 
 -- ---- the greatest count
 

@@ -54,7 +54,7 @@ left_synced tools old image handed synced written stop =
 
 pub within_power_on : {R : Type 0} (seen : R → Device) → SessionsWithinPowerOn seen
 within_power_on seen geometry tools x result old new p state written =
-    let stops = (p.recovers.kept written).stops in
+    let stops = (p.recovers.keeps written).stops in
     let left = λ (image : Image) (handed : List Item). left_within geometry tools x old image handed state written in (
       one_call old new _ _ stops (λ t image handed either. ⊎_elim (λ since. inl (stop_now old image handed since)) (λ e. inr (left image handed e)) either),
       λ synced. one_call old new _ _ stops

@@ -46,8 +46,8 @@ does_held seen c held =
     (λ program. still refl refl refl refl) refl refl (λ program. refl) (λ program. refl))
 
 -- what is known of the lines is unchanged
-pub kept : (k l : KnownModel) → l ≡ k → (program : List ℕ) → IsKnownOf program k → IsKnownOf program l
-kept k l same program known = known_as program program k l refl same known
+pub still_known : (k l : KnownModel) → l ≡ k → (program : List ℕ) → IsKnownOf program k → IsKnownOf program l
+still_known k l same program known = known_as program program k l refl same known
 
 -- ---- an item
 
@@ -113,7 +113,7 @@ pub opens : {R T : Type 0} (seen : R → Device) (v : T) (r : Reply) (half : Hal
     → IsCarriedOutIfHonest seen (Ok r) (λ program. opening half program old.geometry old.session) old new
 opens seen v r half old new replied next held p lines =
     does_moved seen r v (λ program. opening half program old.geometry old.session) old new
-    (storing_half seen (Ok v) half old new.journal held p) (kept old.lines new.lines lines) (λ program. replied)
+    (storing_half seen (Ok v) half old new.journal held p) (still_known old.lines new.lines lines) (λ program. replied)
     (λ program. next) (λ program. refl)
     (subst (λ (x : Reply). TouchesNothing x → ⊥) (sym replied) (opening_touches half.index half.opened))
 
@@ -158,7 +158,7 @@ does_commit seen v r saved old new due replied next p lines =
     does_on seen (Ok r) (λ program. end old.geometry program old.session (Some due.block)) _ old old new refl
     (λ program. sym (ap (λ (o : Option CurrentBlockModel). end old.geometry program old.session o) due.current))
     (does_moved seen r v (λ program. end old.geometry program old.session (Some due.block)) old new
-    (storing_entry seen (Ok v) saved old new.journal due p) (kept old.lines new.lines lines)
+    (storing_entry seen (Ok v) saved old new.journal due p) (still_known old.lines new.lines lines)
     (λ program. replied) (λ program. next) (λ program. refl)
     (subst (λ (x : Reply). TouchesNothing x → ⊥) (sym replied) (λ z. z)))
 

@@ -23,7 +23,7 @@ AreAnsweredEvents {A} {R} seen (event ∷ events) (r ∷ replies) old new =
 -- the moments of the device's trace at which they were answered
 abbrev pub answered_at : {A R : Type 0} (seen : R → Device) (events : List (Event A)) (replies : List Reply)
     (old new : ControllerModel R) → AreAnsweredEvents seen events replies old new → List ℕ
-answered_at seen [] replies old new turns = []
-answered_at seen (event ∷ events) [] old new turns = []
-answered_at seen (event ∷ events) (r ∷ replies) old new turns =
-    moment (seen turns.0.journal.rig).trace ∷ answered_at seen events replies turns.0 new turns.1.1
+answered_at seen [] replies old new exchanges = []
+answered_at seen (event ∷ events) [] old new exchanges = []
+answered_at seen (event ∷ events) (r ∷ replies) old new exchanges =
+    moment (seen exchanges.0.journal.rig).trace ∷ answered_at seen events replies exchanges.0 new exchanges.1.1

@@ -144,16 +144,16 @@ CallsIfHonest seen answer out old new = (seen old.journal.rig).honest → (progr
     → CallsFor answer (out program) (seen old.journal.rig).sectors (ledger_of old.journal) (seen old.journal.rig).trace (seen new.journal.rig).trace
 
 -- what a journal keeps afterwards, if this was to be stored
-abbrev pub IsKeptAfter : Option Storing → (sectors : ℕ) → Ledger → Ledger → Type 0
-IsKeptAfter None sectors old new = new ≡ old
-IsKeptAfter (Some (Commit saved)) sectors old new = IsLedgerAfter old saved new
-IsKeptAfter (Some (Open half)) sectors old new = IsLedgerAfter old (record old.saved { half = Some half }) new
-IsKeptAfter (Some (Load saved)) sectors old new = new ≡ with_program (spare_area (is_large_size sectors) old.header.area) old saved
+abbrev pub IsStoredAfter : Option Storing → (sectors : ℕ) → Ledger → Ledger → Type 0
+IsStoredAfter None sectors old new = new ≡ old
+IsStoredAfter (Some (Commit saved)) sectors old new = IsLedgerAfter old saved new
+IsStoredAfter (Some (Open half)) sectors old new = IsLedgerAfter old (record old.saved { half = Some half }) new
+IsStoredAfter (Some (Load saved)) sectors old new = new ≡ with_program (spare_area (is_large_size sectors) old.header.area) old saved
 
 -- With any device, the journal keeps what the outcome stores, which is the same for each program.
 abbrev pub KeepsLedger : {R : Type 0} → (R → Device) → (List ℕ → Transition) → ControllerModel R → ControllerModel R → Type 0
 KeepsLedger seen out old new = (program : List ℕ)
-    → IsKeptAfter (stored_for (out program) (out program).reply) (seen old.journal.rig).sectors (ledger_of old.journal) (ledger_of new.journal)
+    → IsStoredAfter (stored_for (out program) (out program).reply) (seen old.journal.rig).sectors (ledger_of old.journal) (ledger_of new.journal)
 
 -- The program in force after an event: that of its outcome or, without memory or a counter for it, the one before.
 abbrev pub LeavesProgram : {R : Type 0} → Result Reply Fault → Transition → List ℕ → ControllerModel R → Trace → Type 0

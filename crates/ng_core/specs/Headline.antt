@@ -34,8 +34,8 @@ pub record IsPoweredOn {R : Type 0} (seen : R → Device) (x : DurableState) (c 
 pub record IsPast {A R : Type 0} (seen : R → Device) (x : DurableState) (events : List (Event A))
     (replies : List Reply) (moments : List ℕ) (first now : ControllerModel R) : Type 0 where
   pub began : IsPoweredOn seen x first
-  pub turns : AreAnsweredEvents seen events replies first now
-  pub answered : moments ≡ answered_at seen events replies first now turns
+  pub exchanges : AreAnsweredEvents seen events replies first now
+  pub answered : moments ≡ answered_at seen events replies first now exchanges
 
 -- ---- what a stop leaves of it
 
@@ -95,7 +95,7 @@ AddsToPast {A} {R} seen events replies moments old new = (x : DurableState) (pas
 -- proceed as the session does, and each past ends with them.
 pub record AreRun {A R : Type 0} (seen : R → Device) (events : List (Event A)) (replies : List Reply)
     (moments : List ℕ) (old new : ControllerModel R) : Type 0 where
-  pub turns : AreAnsweredEvents seen events replies old new
-  pub answered : moments ≡ answered_at seen events replies old new turns
+  pub exchanges : AreAnsweredEvents seen events replies old new
+  pub answered : moments ≡ answered_at seen events replies old new exchanges
   pub ran : IfHonest (seen old.journal.rig) (seen new.journal.rig) (IsRun seen events replies moments old new)
   pub past : IfHonest (seen old.journal.rig) (seen new.journal.rig) (AddsToPast seen events replies moments old new)

@@ -10,7 +10,7 @@ use Rattle.ng_rig.specs.Trace.{Image, Trace, reads, items, moment, trace_at, IsS
 use Rattle.ng_rig.specs.Continuation.{IsSynced}
 use Rattle.ng_settings.specs.declared.standard.Settings.{Settings}
 use Rattle.ng_layout.specs.Areas.{header_count, least_size}
-use Rattle.ng_layout.specs.Header.{header_in, program_room}
+use Rattle.ng_layout.specs.Header.{header_in, program_limit_of}
 use Rattle.ng_layout.specs.Stands.{is_large, in_force, stands_beside, recovered, IsWritten}
 use Rattle.ng_layout.specs.Stored.{DurableState}
 use Rattle.ng_journal.specs.Formatting.{FormatSpec, fresh_standing}
@@ -35,15 +35,15 @@ pub record IsGrown (old new : Image) : Type 0 where
   pub same : (n : ℕ) → n < least_size → new n ≡ old n
   pub headers : (k : ℕ) → k < header_count → header_in (is_large new) k (old k) ≡ header_in false k (old k)
 
--- with the room for a program that the device with this image has
-abbrev pub with_room_of : Image → DurableState → DurableState
-with_room_of image x = record x { saved = record x.saved { room = program_room (is_large image) } }
+-- with the program limit of the device with this image
+abbrev pub with_limit_of : Image → DurableState → DurableState
+with_limit_of image x = record x { saved = record x.saved { program_limit = program_limit_of (is_large image) } }
 
 abbrev pub grown_of : Image → Result DurableState Fault → Result DurableState Fault
-grown_of image (Ok x) = Ok (with_room_of image x)
+grown_of image (Ok x) = Ok (with_limit_of image x)
 grown_of image (Err e) = Err e
 
--- The grown device stands for the same, with any table of the settings, but for the room for a program.
+-- The grown device stands for the same, with any table of the settings, but for the program limit.
 pub record StandsGrown (old new : Image) : Type 0 where
   pub force : in_force new ≡ in_force old
   pub state : (tools : List ℤ) → stands_beside tools new ≡ grown_of new (stands_beside tools old)
@@ -88,7 +88,7 @@ EndsSession seen s None =
 EndsSession seen s (Some g) =
     StopsSession s (items (seen s.rig).trace) (moment (seen g.first.journal.rig).trace) (seen g.now.journal.rig).trace
     × (s.answer ≡ Ok g.first)
-    × ((turns : AreAnsweredEvents seen g.events g.replies g.first g.now) × (g.moments ≡ answered_at seen g.events g.replies g.first g.now turns))
+    × ((exchanges : AreAnsweredEvents seen g.events g.replies g.first g.now) × (g.moments ≡ answered_at seen g.events g.replies g.first g.now exchanges))
 
 -- what power on found: the image that was left, or that of the grown device
 abbrev pub IsFoundAs : Bool → Image → Image → Type 0
@@ -140,41 +140,41 @@ cut_after geometry x s g tried =
 -- executed, every acknowledged one among them and at most one more. Its events proceed as those of `ng_session` do.
 abbrev pub KeepsToEntries : {A R : Type 0} → (R → Device) → Geometry → DurableState → DeviceSession A R → Option (GivenEvents A R)
     → Option CommittedSession → Type 0
-KeepsToEntries seen geometry x s None kept = SessionKeepsToFold geometry x (cut_within s) kept
+KeepsToEntries seen geometry x s None committed = SessionKeepsToFold geometry x (cut_within s) committed
 KeepsToEntries seen geometry x s (Some g) None = ⊥
-KeepsToEntries seen geometry x s (Some g) (Some kept) =
+KeepsToEntries seen geometry x s (Some g) (Some committed) =
     (p : PassesAsSession seen g.events g.replies g.moments geometry (session_at_power_on (recovered x)) (seen g.first.journal.rig).trace g.now)
-    × KeepsToFold geometry x (cut_after geometry x s g (tried_events (take (suc (answered_by s.at g.moments)) g.events) p.answers)) kept
+    × KeepsToFold geometry x (cut_after geometry x s g (tried_events (take (suc (answered_by s.at g.moments)) g.events) p.answers)) committed
 
 -- So the stop leaves the state after these entries, and what was handed out is what they hand out, with what may follow.
-pub record SessionIsKept {A R : Type 0} (seen : R → Device) (geometry : Geometry) (tools : List ℤ) (x : DurableState)
-    (s : DeviceSession A R) (kept : Option CommittedSession) : Type 0 where
-  pub entries : KeepsToEntries seen geometry x s s.given kept
-  pub stands_for : StandsBeside tools (state_after_session geometry x kept) (items_of_session geometry x kept) s.image s.items
+pub record SessionHolds {A R : Type 0} (seen : R → Device) (geometry : Geometry) (tools : List ℤ) (x : DurableState)
+    (s : DeviceSession A R) (committed : Option CommittedSession) : Type 0 where
+  pub entries : KeepsToEntries seen geometry x s s.given committed
+  pub stands_for : StandsBeside tools (state_after_session geometry x committed) (items_of_session geometry x committed) s.image s.items
 
--- the state in which power on finds a device: that which was left, on a grown device with its room
+-- the state in which power on finds a device: that which was left, on a grown device with its limit
 abbrev pub state_found : Bool → Image → DurableState → DurableState
-state_found is_grown image x = if is_grown then with_room_of image x else x
+state_found is_grown image x = if is_grown then with_limit_of image x else x
 
 -- each session, from the state after the one before
-abbrev pub LifetimeIsKept : {A R : Type 0} → (R → Device) → Geometry → List ℤ → DurableState → List (DeviceSession A R) → Type 0
-LifetimeIsKept seen geometry tools x [] = Unit {0}
-LifetimeIsKept seen geometry tools x (s ∷ ss) =
+abbrev pub LifetimeHolds : {A R : Type 0} → (R → Device) → Geometry → List ℤ → DurableState → List (DeviceSession A R) → Type 0
+LifetimeHolds seen geometry tools x [] = Unit {0}
+LifetimeHolds seen geometry tools x (s ∷ ss) =
     let found = state_found s.is_grown (reads (seen s.rig).trace) x in
-    (kept : Option CommittedSession)
-    × (SessionIsKept seen geometry tools found s kept × LifetimeIsKept seen geometry tools (state_after_session geometry found kept) ss)
+    (committed : Option CommittedSession)
+    × (SessionHolds seen geometry tools found s committed × LifetimeHolds seen geometry tools (state_after_session geometry found committed) ss)
 
 -- ---- the laws
 
 -- From a device on that was formatted, whatever tools the settings have.
 abbrev pub KeepsFromFormat : {R : Type 0} → Type 0 → (R → Device) → Type 0
-KeepsFromFormat {R} A seen = (result : Result (Unit {0}) Fault) (room : ℕ) (old new : Trace) → FormatSpec result room old new
+KeepsFromFormat {R} A seen = (result : Result (Unit {0}) Fault) (most : ℕ) (old new : Trace) → FormatSpec result most old new
     → OnOk result ((geometry : Geometry) (tools : List ℤ) (life : List (DeviceSession A R)) → IsLifetime seen geometry (reads new) life
-    → LifetimeIsKept seen geometry tools (fresh_standing room) life)
+    → LifetimeHolds seen geometry tools (fresh_standing most) life)
 
 -- From any image on that only such a controller wrote, of either format; until it is of format 2, all settings have one
 -- tool table.
 abbrev pub KeepsFromImage : {R : Type 0} → Type 0 → (R → Device) → Type 0
 KeepsFromImage {R} A seen = (geometry : Geometry) (tools : List ℤ) (left : Image) (x : DurableState) (life : List (DeviceSession A R))
     → stands_beside tools left ≡ Ok x → IsWritten left → HasOneTable tools left life → IsLifetime seen geometry left life
-    → LifetimeIsKept seen geometry tools x life
+    → LifetimeHolds seen geometry tools x life

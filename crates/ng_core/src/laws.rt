@@ -24,10 +24,10 @@ use std::alloc::Allocator;
 /// way too.
 pub fn histories<R: Rig, A: Allocator>()
     ensures { (events : List (Event A)) (replies : List Reply) (program : List ℕ) (old new : ControllerModel R)
-        → (R.seen old.journal.rig).honest → (turns : AreAnsweredEvents R.seen events replies old new)
+        → (R.seen old.journal.rig).honest → (exchanges : AreAnsweredEvents R.seen events replies old new)
         → old.journal.broken ≡ false → IsAtRestWith (R.seen old.journal.rig).trace old program
         → PassesAsSession R.seen events replies
-        (answered_at R.seen events replies old new turns)
+        (answered_at R.seen events replies old new exchanges)
         old.geometry (program_session_of program old) (R.seen old.journal.rig).trace new }
 {}
 
@@ -94,7 +94,7 @@ pub fn lifetime<R: Rig, A: Allocator>()
     ensures found { KeepsFromImage A R.seen }
 {}
 
-/// A small device that became a large one stands for what it stood for, but for its room for a program.
+/// A small device that became a large one stands for what it stood for, but for its program limit.
 pub fn grown()
     ensures { (old new : Image) → IsGrown old new → StandsGrown old new }
 {}

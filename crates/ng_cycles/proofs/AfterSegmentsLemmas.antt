@@ -15,7 +15,7 @@ use Rattle.ng_cycles.specs.declared.motion_state.MotionState.{MotionState}
 use Rattle.ng_cycles.specs.Private.Counts.{lead_length, has_switch, stops}
 use Rattle.ng_canon.specs.declared.outputs.Spindle.TheVariants.{Stopped}
 use Rattle.ng_cycles.specs.Left.{seconds_of}
-use Rattle.ng_cycles.specs.Strokes.{Stroke, Across, ToR, TraverseTo, FeedTo, Wait, Turn, numbers_from, pecks, again, strokes_of, strokes, repeat}
+use Rattle.ng_cycles.specs.Strokes.{Stroke, Across, ToR, TraverseTo, FeedTo, Wait, SetSpindle, numbers_from, pecks, again, strokes_of, strokes, repeat}
 use Rattle.ng_cycles.specs.Segments.{begin, cycle_segments, traced, segments_of, after_segments}
 use Rattle.ng_cycles.proofs.SkipLemmas.{take-nothing}
 
@@ -39,12 +39,12 @@ outputs-alone p p' o (segment.Arc arc ∷ xs) = refl
 outputs-alone p p' o (segment.Dwell seconds ∷ xs) = outputs-alone p p' o xs
 outputs-alone p p' o (segment.Switch q ∷ xs) = outputs-alone p p' q xs
 
-outputs-kept : (at : MotionState) (xs : List Segment) → has_switch xs ≡ false → (after_segments at xs).outputs ≡ at.outputs
-outputs-kept at [] h = refl
-outputs-kept at (segment.Line line ∷ xs) h = outputs-kept (record at { point = line.end }) xs h
-outputs-kept at (segment.Arc arc ∷ xs) h = outputs-kept (record at { point = arc.end }) xs h
-outputs-kept at (segment.Dwell seconds ∷ xs) h = outputs-kept at xs h
-outputs-kept at (segment.Switch q ∷ xs) h = absurd (cc h)
+outputs-same : (at : MotionState) (xs : List Segment) → has_switch xs ≡ false → (after_segments at xs).outputs ≡ at.outputs
+outputs-same at [] h = refl
+outputs-same at (segment.Line line ∷ xs) h = outputs-same (record at { point = line.end }) xs h
+outputs-same at (segment.Arc arc ∷ xs) h = outputs-same (record at { point = arc.end }) xs h
+outputs-same at (segment.Dwell seconds ∷ xs) h = outputs-same at xs h
+outputs-same at (segment.Switch q ∷ xs) h = absurd (cc h)
 
 outputs-set : (at at' : MotionState) (xs : List Segment) → has_switch xs ≡ true → (after_segments at xs).outputs ≡ (after_segments at' xs).outputs
 outputs-set at at' [] h = absurd (cc h)
@@ -53,52 +53,53 @@ outputs-set at at' (segment.Arc arc ∷ xs) h = outputs-set (record at { point =
 outputs-set at at' (segment.Dwell seconds ∷ xs) h = outputs-set at at' xs h
 outputs-set at at' (segment.Switch q ∷ xs) h = outputs-alone at.point at'.point q xs
 
--- ---- strokes that don't turn the spindle
+-- ---- strokes that don't set the spindle
 
-abbrev has_turn : List Stroke → Bool
-has_turn [] = false
-has_turn (Across r ∷ rest) = has_turn rest
-has_turn (ToR ∷ rest) = has_turn rest
-has_turn (TraverseTo z ∷ rest) = has_turn rest
-has_turn (FeedTo z ∷ rest) = has_turn rest
-has_turn (Wait seconds ∷ rest) = has_turn rest
-has_turn (Turn spindle ∷ rest) = true
+abbrev sets_spindle : List Stroke → Bool
+sets_spindle [] = false
+sets_spindle (Across r ∷ rest) = sets_spindle rest
+sets_spindle (ToR ∷ rest) = sets_spindle rest
+sets_spindle (TraverseTo z ∷ rest) = sets_spindle rest
+sets_spindle (FeedTo z ∷ rest) = sets_spindle rest
+sets_spindle (Wait seconds ∷ rest) = sets_spindle rest
+sets_spindle (SetSpindle spindle ∷ rest) = true
 
-turn-append : (xs ys : List Stroke) → has_turn xs ≡ false → has_turn ys ≡ false → has_turn (xs ++ ys) ≡ false
-turn-append [] ys h g = g
-turn-append (Across r ∷ xs) ys h g = turn-append xs ys h g
-turn-append (ToR ∷ xs) ys h g = turn-append xs ys h g
-turn-append (TraverseTo z ∷ xs) ys h g = turn-append xs ys h g
-turn-append (FeedTo z ∷ xs) ys h g = turn-append xs ys h g
-turn-append (Wait seconds ∷ xs) ys h g = turn-append xs ys h g
-turn-append (Turn spindle ∷ xs) ys h g = absurd (cc h)
+spindle-append : (xs ys : List Stroke) → sets_spindle xs ≡ false → sets_spindle ys ≡ false → sets_spindle (xs ++ ys) ≡ false
+spindle-append [] ys h g = g
+spindle-append (Across r ∷ xs) ys h g = spindle-append xs ys h g
+spindle-append (ToR ∷ xs) ys h g = spindle-append xs ys h g
+spindle-append (TraverseTo z ∷ xs) ys h g = spindle-append xs ys h g
+spindle-append (FeedTo z ∷ xs) ys h g = spindle-append xs ys h g
+spindle-append (Wait seconds ∷ xs) ys h g = spindle-append xs ys h g
+spindle-append (SetSpindle spindle ∷ xs) ys h g = absurd (cc h)
 
-turn-pecks : (d : Drill) (q a n : ℕ) → has_turn (flat_map (again d q) (numbers_from a n)) ≡ false
-turn-pecks d q a zero = refl
-turn-pecks d q a (suc n) = turn-pecks d q (suc a) n
+spindle-pecks : (d : Drill) (q a n : ℕ) → sets_spindle (flat_map (again d q) (numbers_from a n)) ≡ false
+spindle-pecks d q a zero = refl
+spindle-pecks d q a (suc n) = spindle-pecks d q (suc a) n
 
-turn-work : (d : Drill) (w : Work) → stops w ≡ false → has_turn (strokes_of d w) ≡ false
-turn-work d Drilling h = refl
-turn-work d (DrillingWithDwell seconds) h = refl
-turn-work d (PeckDrilling q) h = turn-append (flat_map (again d q) (numbers_from 1 (pecks d q - 1)))
-    (TraverseTo d.clear ∷ []) (turn-pecks d q 1 (pecks d q - 1)) refl
-turn-work d Boring h = refl
-turn-work d (BoringWithStop seconds) h = absurd (cc h)
-turn-work d (BoringWithDwell seconds) h = refl
+spindle-work : (d : Drill) (w : Work) → stops w ≡ false → sets_spindle (strokes_of d w) ≡ false
+spindle-work d Drilling h = refl
+spindle-work d (DrillingWithDwell seconds) h = refl
+spindle-work d (PeckDrilling q) h = spindle-append (flat_map (again d q) (numbers_from 1 (pecks d q - 1)))
+    (TraverseTo d.clear ∷ []) (spindle-pecks d q 1 (pecks d q - 1)) refl
+spindle-work d Boring h = refl
+spindle-work d (BoringWithStop seconds) h = absurd (cc h)
+spindle-work d (BoringWithDwell seconds) h = refl
 
-turn-repeats : (d : Drill) (b n : ℕ) → stops d.work ≡ false → has_turn (flat_map (repeat d) (numbers_from b n)) ≡ false
-turn-repeats d b zero h = refl
-turn-repeats d b (suc n) h = turn-append (strokes_of d d.work) (flat_map (repeat d) (numbers_from (suc b) n))
-    (turn-work d d.work h) (turn-repeats d (suc b) n h)
+spindle-repeats : (d : Drill) (b n : ℕ) → stops d.work ≡ false → sets_spindle (flat_map (repeat d) (numbers_from b n)) ≡ false
+spindle-repeats d b zero h = refl
+spindle-repeats d b (suc n) h = spindle-append (strokes_of d d.work) (flat_map (repeat d) (numbers_from (suc b) n))
+    (spindle-work d d.work h) (spindle-repeats d (suc b) n h)
 
-turn-rise : (d : Drill) (rises : Bool) (ss : List Stroke) → has_turn ss ≡ false → has_turn ((if rises then TraverseTo d.r ∷ [] else []) ++ ss) ≡ false
-turn-rise d true ss h = h
-turn-rise d false ss h = h
+spindle-rise : (d : Drill) (rises : Bool) (ss : List Stroke) → sets_spindle ss ≡ false
+    → sets_spindle ((if rises then TraverseTo d.r ∷ [] else []) ++ ss) ≡ false
+spindle-rise d true ss h = h
+spindle-rise d false ss h = h
 
-turn-strokes : (d : Drill) → stops d.work ≡ false → has_turn (strokes d) ≡ false
-turn-strokes d h = turn-rise d (int_lt d.start.z d.r) (flat_map (repeat d) (numbers_from 1 d.repeats)) (turn-repeats d 1 d.repeats h)
+spindle-strokes : (d : Drill) → stops d.work ≡ false → sets_spindle (strokes d) ≡ false
+spindle-strokes d h = spindle-rise d (int_lt d.start.z d.r) (flat_map (repeat d) (numbers_from 1 d.repeats)) (spindle-repeats d 1 d.repeats h)
 
--- ---- without turns, nothing switches
+-- ---- where the spindle isn't set, nothing switches
 
 to_r-none : (d : Drill) (at : MotionState) (ss : List Stroke) (there : Bool) (n : ℕ) →
     ((at : MotionState) (n : ℕ) → has_switch (take n (traced d at ss)) ≡ false) →
@@ -108,7 +109,7 @@ to_r-none d at ss true n none = none at n
 to_r-none d at ss false zero none = refl
 to_r-none d at ss false (suc n) none = none (record at { point = record at.point { z = d.r } }) n
 
-switch-none : (d : Drill) (at : MotionState) (ss : List Stroke) (n : ℕ) → has_turn ss ≡ false → has_switch (take n (traced d at ss)) ≡ false
+switch-none : (d : Drill) (at : MotionState) (ss : List Stroke) (n : ℕ) → sets_spindle ss ≡ false → has_switch (take n (traced d at ss)) ≡ false
 switch-none d at [] n h = ap has_switch (take-nothing n)
 switch-none d at (Across r ∷ ss) zero h = refl
 switch-none d at (Across r ∷ ss) (suc n) h = switch-none d _ ss n h
@@ -119,15 +120,15 @@ switch-none d at (FeedTo z ∷ ss) zero h = refl
 switch-none d at (FeedTo z ∷ ss) (suc n) h = switch-none d _ ss n h
 switch-none d at (Wait seconds ∷ ss) zero h = refl
 switch-none d at (Wait seconds ∷ ss) (suc n) h = switch-none d at ss n h
-switch-none d at (Turn spindle ∷ ss) n h = absurd (cc h)
+switch-none d at (SetSpindle spindle ∷ ss) n h = absurd (cc h)
 
 pub none-switched : (d : Drill) (n : ℕ) → stops d.work ≡ false → has_switch (take n (cycle_segments d)) ≡ false
-none-switched d n h = switch-none d (begin d) (strokes d) n (turn-strokes d h)
+none-switched d n h = switch-none d (begin d) (strokes d) n (spindle-strokes d h)
 
 -- ---- G86 switches first when it stops the spindle
 
-stop-work : (d : Drill) (w : Work) → stops w ≡ true → strokes_of d w ≡ FeedTo d.z ∷ Wait (seconds_of w) ∷ Turn
-    Stopped ∷ TraverseTo d.clear ∷ Turn d.outputs.spindle ∷ []
+stop-work : (d : Drill) (w : Work) → stops w ≡ true → strokes_of d w ≡ FeedTo d.z ∷ Wait (seconds_of w) ∷ SetSpindle
+    Stopped ∷ TraverseTo d.clear ∷ SetSpindle d.outputs.spindle ∷ []
 stop-work d (BoringWithStop seconds) h = refl
 stop-work d Drilling h = absurd (cc h)
 stop-work d (DrillingWithDwell seconds) h = absurd (cc h)
@@ -139,7 +140,7 @@ stop-work d (BoringWithDwell seconds) h = absurd (cc h)
 to_hole : Drill → MotionState → Bool → ℤ → List Stroke → List Segment
 to_hole d at there seconds ss =
     let to_r = if there then [] else segments_of d at (TraverseTo d.r) in
-    to_r ++ traced d (after_segments at to_r) (FeedTo d.z ∷ Wait seconds ∷ Turn Stopped ∷ ss)
+    to_r ++ traced d (after_segments at to_r) (FeedTo d.z ∷ Wait seconds ∷ SetSpindle Stopped ∷ ss)
 
 hole-before : (d : Drill) (at : MotionState) (there : Bool) (seconds : ℤ) (ss : List Stroke) (n : ℕ)
     → n ≤ (if there then 0 else 1) + 2 → has_switch (take n (to_hole d at there seconds ss)) ≡ false
@@ -171,7 +172,7 @@ hole-after d at false seconds ss (suc (suc (suc (suc n)))) h = refl
 first_hole : Drill → Bool → ℤ → List Stroke → List Segment
 first_hole d rises seconds ss =
     traced d (begin d) ((if rises then TraverseTo d.r ∷ [] else [])
-    ++ (Across 1 ∷ ToR ∷ FeedTo d.z ∷ Wait seconds ∷ Turn Stopped ∷ ss))
+    ++ (Across 1 ∷ ToR ∷ FeedTo d.z ∷ Wait seconds ∷ SetSpindle Stopped ∷ ss))
 
 lead : Drill → Bool → ℕ
 lead d rises = (if rises then 1 else 0) + (1 + (if int_eq (if rises then d.r else d.start.z) d.r then 0 else 1))
@@ -202,7 +203,7 @@ segments-stop d zero some h = absurd (omega arith)
 segments-stop d (suc m) some h =
     let rest = flat_map (repeat d) (numbers_from 2 m) in
     let lead = if int_lt d.start.z d.r then TraverseTo d.r ∷ [] else [] in (
-      (TraverseTo d.clear ∷ Turn d.outputs.spindle ∷ []) ++ rest,
+      (TraverseTo d.clear ∷ SetSpindle d.outputs.spindle ∷ []) ++ rest,
       ap (λ (hole : List Stroke). traced d (begin d) (lead ++ (Across 1 ∷ ToR ∷ (hole ++ rest)))) (stop-work d d.work h),
     )
 
@@ -249,18 +250,18 @@ stand-same a b p o =
     let first : a ≡ P = ap (λ (q : Point). record { point = q; outputs = a.outputs }) p in
     first ∙ ap (λ (q : Outputs). record { point = b.point; outputs = q }) o
 
-pub stood-switched : (d : Drill) (before own : MotionState) (n : ℕ) → 1 ≤ d.repeats → 1 ≤ n
+pub switched-motion_state : (d : Drill) (before own : MotionState) (n : ℕ) → 1 ≤ d.repeats → 1 ≤ n
     → own ≡ after_segments (begin d) (take n (cycle_segments d)) → has_switch (take n (cycle_segments d)) ≡ true
     → own ≡ after_segments before (take n (cycle_segments d))
-stood-switched d before own n some more e h =
+switched-motion_state d before own n some more e h =
     e ∙ stand-same _ _ (point-cycle d (begin d) before n some more) (outputs-set (begin d) before (take n (cycle_segments d)) h)
 
-pub stood-kept : (d : Drill) (before own : MotionState) (n : ℕ) → 1 ≤ d.repeats → 1 ≤ n
+pub unswitched-motion_state : (d : Drill) (before own : MotionState) (n : ℕ) → 1 ≤ d.repeats → 1 ≤ n
     → own ≡ after_segments (begin d) (take n (cycle_segments d)) → has_switch (take n (cycle_segments d)) ≡ false
     → record { point = own.point; outputs = before.outputs } ≡ after_segments before (take n (cycle_segments d))
-stood-kept d before own n some more e h =
+unswitched-motion_state d before own n some more e h =
     stand-same _ _ (ap (λ (at : MotionState). at.point) e ∙ point-cycle d (begin d) before n some more)
-    (sym (outputs-kept before (take n (cycle_segments d)) h))
+    (sym (outputs-same before (take n (cycle_segments d)) h))
 
 by-case : (t b : Bool) (a n : ℕ) → nat_lt a n ≡ t → (n ≤ a → b ≡ false) → (a < n → b ≡ true) → t ≡ b
 by-case true b a n e few more = sym (more (ltb-true a n e))

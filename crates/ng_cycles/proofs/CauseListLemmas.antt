@@ -32,7 +32,7 @@ far_first xs ys e = any_append xs ys ∙ or_true (list_any is_far xs) (list_any 
 pub far_rest : (xs ys : List ℤ) → list_any is_far xs ≡ false → list_any is_far (xs ++ ys) ≡ list_any is_far ys
 far_rest xs ys e = any_append xs ys ∙ rw e refl
 
--- ---- lengths that are checked in turn
+-- ---- lengths that are checked in order
 
 pub first_far : {X Y : Type 0} (xs ys : List ℤ) (x : X) (y : Y) (fault : Fault) → Err fault ≡ far_unless xs x → Err fault ≡ far_unless (xs ++ ys) y
 first_far xs ys x y fault h = let e = far_err xs x fault h in rw (e.1, far_first xs ys e.0) refl
@@ -46,7 +46,7 @@ rest_far xs ys x found y h = let e = far_ok xs x found h in rw (far_rest xs ys e
 pub none_far : {X Y : Type 0} (xs : List ℤ) (x found : X) (y : Y) → Ok found ≡ far_unless xs x → Ok y ≡ far_unless xs y
 none_far xs x found y h = let e = far_ok xs x found h in rw e.0 refl
 
--- ---- causes that are checked in turn
+-- ---- causes that are checked in order
 
 pub hole_err : {X : Type 0} (below inverse : Bool) (work rest : List (Bool × Fault)) (fault : Fault) (x : X)
     → below ≡ false → inverse ≡ false → first_fault work ≡ Some fault →

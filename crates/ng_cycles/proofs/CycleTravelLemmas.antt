@@ -21,7 +21,7 @@ use Rattle.ng_cycles.specs.declared.drill.Work.TheVariants.{Drilling, DrillingWi
 use Rattle.ng_cycles.specs.declared.motion_state.MotionState.{MotionState}
 use Rattle.ng_cycles.specs.Private.Inside.{top_of, rises_inside, extremes_inside}
 use Rattle.ng_cycles.specs.Faults.{ends_outside, leaves_travel}
-use Rattle.ng_cycles.specs.Strokes.{Stroke, Across, ToR, TraverseTo, FeedTo, Wait, Turn, numbers_from, coordinate}
+use Rattle.ng_cycles.specs.Strokes.{Stroke, Across, ToR, TraverseTo, FeedTo, Wait, SetSpindle, numbers_from, coordinate}
 use Rattle.ng_cycles.specs.Strokes.{bottom, pecks, clearance, again, strokes_of, repeat}
 use Rattle.ng_cycles.specs.Segments.{traced, segments_of, after_segments, begin}
 
@@ -95,7 +95,7 @@ Ends g d ToR = Unit {0}
 Ends g d (TraverseTo z) = On g.z z
 Ends g d (FeedTo z) = On g.z z
 Ends g d (Wait seconds) = Unit {0}
-Ends g d (Turn spindle) = Unit {0}
+Ends g d (SetSpindle spindle) = Unit {0}
 
 abbrev AllEnd : Geometry → Drill → List Stroke → Type 0
 AllEnd g d [] = Unit {0}
@@ -164,7 +164,7 @@ stays g d at (FeedTo z ∷ rest) r h all =
     let now : Stands g (height_at at z).point = (h.0, h.1, all.0) in
     both_none (is_inside g (height_at at z).point) _ (stands_inside g (height_at at z).point now) (stays g d (height_at at z) rest r now all.1)
 stays g d at (Wait seconds ∷ rest) r h all = stays g d at rest r h all.1
-stays g d at (Turn spindle ∷ rest) r h all = stays g d (record at { outputs = record d.outputs { spindle = spindle } }) rest r h all.1
+stays g d at (SetSpindle spindle ∷ rest) r h all = stays g d (record at { outputs = record d.outputs { spindle = spindle } }) rest r h all.1
 
 -- ---- and the other direction: if no segment ends outside, the strokes end inside
 
@@ -188,7 +188,7 @@ shown g d at (FeedTo z ∷ rest) none =
     let now = inside_stands g (height_at at z).point (first_none (is_inside g (height_at at z).point) _ none) in
     (now.2, shown g d (height_at at z) rest (rest_none (is_inside g (height_at at z).point) _ none))
 shown g d at (Wait seconds ∷ rest) none = (tt, shown g d at rest none)
-shown g d at (Turn spindle ∷ rest) none = (tt, shown g d (record at { outputs = record d.outputs { spindle = spindle } }) rest none)
+shown g d at (SetSpindle spindle ∷ rest) none = (tt, shown g d (record at { outputs = record d.outputs { spindle = spindle } }) rest none)
 
 -- ---- heights
 

@@ -19,7 +19,7 @@ use Rattle.ng_cycles.specs.Strokes.{Stroke, TraverseTo, numbers_from, coordinate
 use Rattle.ng_cycles.specs.Segments.{begin, cycle_segments, traced, segments_of, after_segment, after_segments, CycleModel, later}
 
 abbrev pub ahead : Drill → MotionState → List Stroke → CycleModel
-ahead d at ss = record { standing = at; segments = traced d at ss }
+ahead d at ss = record { motion_state = at; segments = traced d at ss }
 
 pub traced-append : (d : Drill) (at : MotionState) (xs ys : List Stroke)
     → traced d at (xs ++ ys) ≡ traced d at xs ++ traced d (after_segments at (traced d at xs)) ys
@@ -32,15 +32,15 @@ traced-append d at (s ∷ xs) ys =
     ∙ ap (λ (end : MotionState). (here ++ traced d after xs) ++ traced d end ys) (sym (fold-append after_segment at here (traced d after xs))))
 
 later-append : (at : MotionState) (xs ys : List Segment) (k : ℕ)
-    → later (length xs + k) (record { standing = at; segments = xs ++ ys }) ≡ later k
-    (record { standing = after_segments at xs; segments = ys })
+    → later (length xs + k) (record { motion_state = at; segments = xs ++ ys }) ≡ later k
+    (record { motion_state = after_segments at xs; segments = ys })
 later-append at xs ys k = rw (take-append-add xs ys k, drop-append-add xs ys k, fold-append after_segment at xs (take k ys)) refl
 
 skip-strokes : (d : Drill) (at : MotionState) (xs ys : List Stroke) (k n : ℕ) → n ≡ length (traced d at xs)
     → later (n + k) (ahead d at (xs ++ ys)) ≡ later k (ahead d (after_segments at (traced d at xs)) ys)
 skip-strokes d at xs ys k n e =
     ap (λ (m : ℕ). later (m + k) (ahead d at (xs ++ ys))) e
-    ∙ (ap (λ (segments : List Segment). later (length (traced d at xs) + k) (record { standing = at; segments = segments })) (traced-append d at xs ys)
+    ∙ (ap (λ (segments : List Segment). later (length (traced d at xs) + k) (record { motion_state = at; segments = segments })) (traced-append d at xs ys)
     ∙ later-append at (traced d at xs) (traced d (after_segments at (traced d at xs)) ys) k)
 
 -- ---- a hole
@@ -206,7 +206,7 @@ skip_pecks d at q a n (suc j) left done left' k out rest some e f g =
 -- ---- one segment
 
 pub later-next : (old new : CycleModel) (segment : Segment) (n k : ℕ) → n ≡ suc k
-    → old.segments ≡ segment ∷ new.segments → new.standing ≡ after_segment old.standing segment
+    → old.segments ≡ segment ∷ new.segments → new.motion_state ≡ after_segment old.motion_state segment
     → later k new ≡ later n old
 later-next old new segment n k e s t = rw (e, s, t) refl
 

@@ -10,7 +10,7 @@ use Rattle.ng_cycles.specs.declared.drill.Work.TheVariants.{Drilling, DrillingWi
 use Rattle.ng_cycles.specs.declared.left.CycleLeft.{CycleLeft}
 use Rattle.ng_cycles.specs.declared.phase.Phase.{Phase}
 use Rattle.ng_cycles.specs.declared.phase.Phase.TheVariants as phase
-use Rattle.ng_cycles.specs.Strokes.{Stroke, TraverseTo, FeedTo, Wait, Turn, numbers_from, bottom, pecks, clearance, again, strokes_of, repeat}
+use Rattle.ng_cycles.specs.Strokes.{Stroke, TraverseTo, FeedTo, Wait, SetSpindle, numbers_from, bottom, pecks, clearance, again, strokes_of, repeat}
 use Rattle.ng_cycles.specs.Segments.{traced, after_segment, CycleModel}
 
 -- how long it dwells at the bottom
@@ -26,7 +26,7 @@ way_out d Drilling = TraverseTo d.clear ∷ []
 way_out d (DrillingWithDwell seconds) = TraverseTo d.clear ∷ []
 way_out d (PeckDrilling peck) = TraverseTo d.clear ∷ []
 way_out d Boring = FeedTo d.clear ∷ []
-way_out d (BoringWithStop seconds) = Turn Stopped ∷ TraverseTo d.clear ∷ Turn d.outputs.spindle ∷ []
+way_out d (BoringWithStop seconds) = SetSpindle Stopped ∷ TraverseTo d.clear ∷ SetSpindle d.outputs.spindle ∷ []
 way_out d (BoringWithDwell seconds) = FeedTo d.clear ∷ []
 
 -- how many segments there are at a hole, from R on
@@ -53,9 +53,9 @@ strokes_in d phase.Across = []
 strokes_in d phase.ToR = TraverseTo d.r ∷ strokes_of d d.work
 strokes_in d phase.Down = strokes_of d d.work
 strokes_in d phase.Dwell = Wait (seconds_of d.work) ∷ way_out d d.work
-strokes_in d phase.Stop = Turn Stopped ∷ TraverseTo d.clear ∷ Turn d.outputs.spindle ∷ []
-strokes_in d phase.OutStopped = TraverseTo d.clear ∷ Turn d.outputs.spindle ∷ []
-strokes_in d phase.Start = Turn d.outputs.spindle ∷ []
+strokes_in d phase.Stop = SetSpindle Stopped ∷ TraverseTo d.clear ∷ SetSpindle d.outputs.spindle ∷ []
+strokes_in d phase.OutStopped = TraverseTo d.clear ∷ SetSpindle d.outputs.spindle ∷ []
+strokes_in d phase.Start = SetSpindle d.outputs.spindle ∷ []
 strokes_in d phase.Out = TraverseTo d.clear ∷ []
 strokes_in d phase.FeedOut = FeedTo d.clear ∷ []
 strokes_in d (phase.PeckOut p) = TraverseTo d.r ∷ TraverseTo (int_min d.r (bottom d p.peck p.done +ℤ clearance)) ∷
@@ -69,17 +69,17 @@ abbrev pub strokes_left : Drill → CycleLeft → List Stroke
 strokes_left d c = strokes_in d c.phase ++ flat_map (repeat d) (numbers_from (suc c.begun) c.repeats_left)
 
 abbrev pub ahead_of : CycleLeft → CycleModel
-ahead_of c = record { standing = c.standing; segments = traced c.canned c.standing (strokes_left c.canned c) }
+ahead_of c = record { motion_state = c.motion_state; segments = traced c.canned c.motion_state (strokes_left c.canned c) }
 
 -- the next of the remaining segments, if there is one
 abbrev pub IsNextSegment : CycleModel → CycleModel → Option Segment → Type 0
 IsNextSegment old new result = MatchOption result ((old.segments ≡ []) × (new ≡ old))
-    (λ segment. (old.segments ≡ segment ∷ new.segments) × (new.standing ≡ after_segment old.standing segment))
+    (λ segment. (old.segments ≡ segment ∷ new.segments) × (new.motion_state ≡ after_segment old.motion_state segment))
 
 -- a segment is the next one, and the repeat stays
 pub record NextSegmentSpec (old new : CycleLeft) (segment : Segment) : Type 0 where
   pub segments : (ahead_of old).segments ≡ segment ∷ (ahead_of new).segments
-  pub standing : new.standing ≡ after_segment old.standing segment
+  pub motion_state : new.motion_state ≡ after_segment old.motion_state segment
   pub canned : new.canned ≡ old.canned
   pub begun : new.begun ≡ old.begun
   pub repeats : new.repeats_left ≡ old.repeats_left

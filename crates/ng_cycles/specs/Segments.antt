@@ -8,7 +8,7 @@ use Rattle.ng_canon.specs.declared.segment.Segment.{Segment}
 use Rattle.ng_canon.specs.declared.segment.Segment.TheVariants as segment
 use Rattle.ng_cycles.specs.declared.drill.Drill.{Drill}
 use Rattle.ng_cycles.specs.declared.motion_state.MotionState.{MotionState}
-use Rattle.ng_cycles.specs.Strokes.{Stroke, Across, ToR, TraverseTo, FeedTo, Wait, Turn, coordinate, strokes}
+use Rattle.ng_cycles.specs.Strokes.{Stroke, Across, ToR, TraverseTo, FeedTo, Wait, SetSpindle, coordinate, strokes}
 
 -- the machine's position and outputs after a segment
 abbrev pub after_segment : MotionState → Segment → MotionState
@@ -31,7 +31,7 @@ segments_of d at ToR = if int_eq at.point.z d.r then [] else line_to pace.Traver
 segments_of d at (TraverseTo z) = line_to pace.Traverse at.point (record at.point { z = z }) ∷ []
 segments_of d at (FeedTo z) = line_to (pace.Feed d.rate) at.point (record at.point { z = z }) ∷ []
 segments_of d at (Wait seconds) = segment.Dwell seconds ∷ []
-segments_of d at (Turn spindle) = segment.Switch (record d.outputs { spindle = spindle }) ∷ []
+segments_of d at (SetSpindle spindle) = segment.Switch (record d.outputs { spindle = spindle }) ∷ []
 
 abbrev pub traced : Drill → MotionState → List Stroke → List Segment
 traced d at [] = []
@@ -46,12 +46,12 @@ cycle_segments d = traced d (begin d) (strokes d)
 
 -- the remaining segments, and the machine's position and outputs before them
 pub record CycleModel : Type 0 where
-  pub standing : MotionState
+  pub motion_state : MotionState
   pub segments : List Segment
 
 abbrev pub whole : Drill → CycleModel
-whole d = record { standing = begin d; segments = cycle_segments d }
+whole d = record { motion_state = begin d; segments = cycle_segments d }
 
 -- the model after the first n of them
 abbrev pub later : ℕ → CycleModel → CycleModel
-later n a = record { standing = after_segments a.standing (take n a.segments); segments = drop n a.segments }
+later n a = record { motion_state = after_segments a.motion_state (take n a.segments); segments = drop n a.segments }

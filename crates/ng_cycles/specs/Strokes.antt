@@ -15,7 +15,7 @@ pub data Stroke : Type 0 where
   TraverseTo : ℤ → Stroke  -- a traverse in Z alone
   FeedTo : ℤ → Stroke  -- a feed in Z alone
   Wait : ℤ → Stroke  -- a dwell
-  Turn : Spindle → Stroke  -- a switch of the spindle
+  SetSpindle : Spindle → Stroke  -- a switch of the spindle
 
 -- n numbers, from the first one on
 abbrev pub numbers_from : ℕ → ℕ → List ℕ
@@ -48,7 +48,7 @@ strokes_of d Drilling = FeedTo d.z ∷ TraverseTo d.clear ∷ []
 strokes_of d (DrillingWithDwell seconds) = FeedTo d.z ∷ Wait seconds ∷ TraverseTo d.clear ∷ []
 strokes_of d (PeckDrilling peck) = FeedTo (bottom d peck 1) ∷ (flat_map (again d peck) (numbers_from 1 (pecks d peck - 1)) ++ TraverseTo d.clear ∷ [])
 strokes_of d Boring = FeedTo d.z ∷ FeedTo d.clear ∷ []
-strokes_of d (BoringWithStop seconds) = FeedTo d.z ∷ Wait seconds ∷ Turn Stopped ∷ TraverseTo d.clear ∷ Turn d.outputs.spindle ∷ []
+strokes_of d (BoringWithStop seconds) = FeedTo d.z ∷ Wait seconds ∷ SetSpindle Stopped ∷ TraverseTo d.clear ∷ SetSpindle d.outputs.spindle ∷ []
 strokes_of d (BoringWithDwell seconds) = FeedTo d.z ∷ Wait seconds ∷ FeedTo d.clear ∷ []
 
 abbrev pub repeat : Drill → ℕ → List Stroke

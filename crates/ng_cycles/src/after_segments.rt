@@ -45,7 +45,7 @@ impl Canned {
             return before;
         }
         let drill = self.drill();
-        let own = Cycle::from(self, n).standing();
+        let own = Cycle::from(self, n).motion_state();
         if drill.has_switched(n) {
             return own;
         }

@@ -76,9 +76,9 @@ impl Cycle {
     }
 
     /// The machine's position and outputs before the next segment.
-    pub fn standing(&self) -> MotionState
-        ensures { result ≡ self.now.standing }
+    pub fn motion_state(&self) -> MotionState
+        ensures { result ≡ self.now.motion_state }
     {
-        self.left.standing
+        self.left.motion_state
     }
 }

@@ -19,7 +19,7 @@ use ng_num::{Len, Num};
 #[derive(Clone, Copy)]
 pub(crate) struct CycleLeft {
     pub canned: Canned,
-    pub standing: MotionState,
+    pub motion_state: MotionState,
     /// How many repeats have begun.
     pub begun: u32,
     pub repeats_left: u32,
@@ -91,7 +91,7 @@ pub(crate) fn cycle_left(canned: &Canned) -> CycleLeft
     ensures count { result.begun + result.repeats_left ≡ result.canned.repeats }
 {
     let drill = canned.drill();
-    let standing = MotionState {
+    let motion_state = MotionState {
         point: drill.start,
         outputs: drill.outputs,
     };
@@ -102,7 +102,7 @@ pub(crate) fn cycle_left(canned: &Canned) -> CycleLeft
     };
     CycleLeft {
         canned: *canned,
-        standing,
+        motion_state,
         begun: 0,
         repeats_left: drill.repeats,
         phase,
@@ -112,34 +112,34 @@ pub(crate) fn cycle_left(canned: &Canned) -> CycleLeft
 impl CycleLeft {
     /// A traverse in Z.
     fn traverse(&mut self, z: Len, next: Phase) -> Segment
-        ensures segment { result ≡ line_to pace.Traverse self.old.standing.point (record self.old.standing.point { z = z }) }
-        ensures left { self.new ≡ record self.old { standing = after_segment self.old.standing result; phase = next } }
+        ensures segment { result ≡ line_to pace.Traverse self.old.motion_state.point (record self.old.motion_state.point { z = z }) }
+        ensures left { self.new ≡ record self.old { motion_state = after_segment self.old.motion_state result; phase = next } }
     {
         self.phase = next;
-        let end = self.standing.at_height(z);
-        self.standing.move_to(end, Pace::Traverse)
+        let end = self.motion_state.at_height(z);
+        self.motion_state.move_to(end, Pace::Traverse)
     }
 
     /// A feed in Z.
     fn feed(&mut self, z: Len, next: Phase) -> Segment
-        ensures segment { result ≡ line_to (pace.Feed self.old.canned.rate) self.old.standing.point
-            (record self.old.standing.point { z = z }) }
-        ensures left { self.new ≡ record self.old { standing = after_segment self.old.standing result; phase = next } }
+        ensures segment { result ≡ line_to (pace.Feed self.old.canned.rate) self.old.motion_state.point
+            (record self.old.motion_state.point { z = z }) }
+        ensures left { self.new ≡ record self.old { motion_state = after_segment self.old.motion_state result; phase = next } }
     {
         self.phase = next;
-        let end = self.standing.at_height(z);
+        let end = self.motion_state.at_height(z);
         let rate = self.canned.drill().rate;
-        self.standing.move_to(end, Pace::Feed(rate))
+        self.motion_state.move_to(end, Pace::Feed(rate))
     }
 
     /// A switch of the spindle.
-    fn turn(&mut self, spindle: Spindle, next: Phase) -> Segment
+    fn set_spindle(&mut self, spindle: Spindle, next: Phase) -> Segment
         ensures segment { result ≡ Segment.Switch (record self.old.canned.outputs { spindle = spindle }) }
-        ensures left { self.new ≡ record self.old { standing = after_segment self.old.standing result; phase = next } }
+        ensures left { self.new ≡ record self.old { motion_state = after_segment self.old.motion_state result; phase = next } }
     {
         self.phase = next;
         let outputs = self.canned.drill().outputs;
-        self.standing.turn(spindle, outputs)
+        self.motion_state.set_spindle(spindle, outputs)
     }
 
     /// A move to the hole of the next repeat, if there is one.
@@ -155,9 +155,9 @@ impl CycleLeft {
         }
         self.repeats_left -= 1;
         self.begun += 1;
-        let end = self.canned.hole_at(self.begun, self.standing.point.z);
+        let end = self.canned.hole_at(self.begun, self.motion_state.point.z);
         self.phase = self.canned.at_place(end.z);
-        Some(self.standing.move_to(end, Pace::Traverse))
+        Some(self.motion_state.move_to(end, Pace::Traverse))
     }
 
     /// Down to Z, or to the bottom of the first peck.
@@ -215,11 +215,11 @@ impl CycleLeft {
             Phase::ToR => Some(self.traverse(r, Phase::Down)),
             Phase::Down => Some(self.down()),
             Phase::Dwell => Some(self.dwell()),
-            Phase::Stop => Some(self.turn(Spindle::Stopped, Phase::OutStopped)),
+            Phase::Stop => Some(self.set_spindle(Spindle::Stopped, Phase::OutStopped)),
             Phase::OutStopped => Some(self.traverse(clear, Phase::Start)),
             Phase::Start => {
                 let spindle = self.canned.spindle();
-                Some(self.turn(spindle, Phase::Across))
+                Some(self.set_spindle(spindle, Phase::Across))
             }
             Phase::Out => Some(self.traverse(clear, Phase::Across)),
             Phase::FeedOut => Some(self.feed(clear, Phase::Across)),

@@ -27,7 +27,7 @@ fn switch(outputs: Outputs) -> Segment
 }
 
 /// Outputs with another state of the spindle.
-fn turning(outputs: Outputs, spindle: Spindle) -> Outputs
+fn with_spindle(outputs: Outputs, spindle: Spindle) -> Outputs
     ensures { result ≡ record outputs { spindle = spindle } }
 {
     Outputs {
@@ -44,7 +44,7 @@ impl MotionState {
     /// Moves to a point.
     pub(crate) fn move_to(&mut self, end: Point, pace: Pace) -> Segment
         ensures segment { result ≡ line_to pace self.old.point end }
-        ensures standing { self.new ≡ after_segment self.old result }
+        ensures motion_state { self.new ≡ after_segment self.old result }
     {
         let start = self.point;
         self.point = end;
@@ -63,11 +63,11 @@ impl MotionState {
     }
 
     /// Switches the spindle.
-    pub(crate) fn turn(&mut self, spindle: Spindle, outputs: Outputs) -> Segment
+    pub(crate) fn set_spindle(&mut self, spindle: Spindle, outputs: Outputs) -> Segment
         ensures segment { result ≡ Segment.Switch (record outputs { spindle = spindle }) }
-        ensures standing { self.new ≡ after_segment self.old result }
+        ensures motion_state { self.new ≡ after_segment self.old result }
     {
-        self.outputs = turning(outputs, spindle);
+        self.outputs = with_spindle(outputs, spindle);
         switch(self.outputs)
     }
 }

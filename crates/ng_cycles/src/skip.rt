@@ -61,19 +61,20 @@ impl Canned {
 impl CycleLeft {
     /// Whether the machine is at the height at which repeats end.
     fn stands_clear(&self) -> bool
-        ensures { result ≡ true → (self.now.standing.point.z ≡ self.now.canned.clear)
-            × (self.now.standing.outputs ≡ self.now.canned.outputs) }
+        ensures { result ≡ true → (self.now.motion_state.point.z ≡ self.now.canned.clear)
+            × (self.now.motion_state.outputs ≡ self.now.canned.outputs) }
     {
         let drill = self.canned.drill();
-        self.standing.point.z.nm() == drill.clear.nm() && self.standing.outputs == drill.outputs
+        self.motion_state.point.z.nm() == drill.clear.nm()
+            && self.motion_state.outputs == drill.outputs
     }
 
     /// Skips as many whole repeats as `n` segments cover. Returns how many segments are left to skip.
     fn pass_repeats(&mut self, n: u64) -> u64
         requires count { self.old.begun + self.old.repeats_left ≡ self.old.canned.repeats }
         requires phase { self.old.phase ≡ Phase.Across }
-        requires clear { self.old.standing.point.z ≡ self.old.canned.clear }
-        requires outputs { self.old.standing.outputs ≡ self.old.canned.outputs }
+        requires clear { self.old.motion_state.point.z ≡ self.old.canned.clear }
+        requires outputs { self.old.motion_state.outputs ≡ self.old.canned.outputs }
         ensures later { later result (ahead_of self.new) ≡ later n (ahead_of self.old) }
         ensures fewer { result ≤ n }
         ensures canned { self.new.canned ≡ self.old.canned }
@@ -88,7 +89,7 @@ impl CycleLeft {
         self.begun += passed;
         self.repeats_left -= passed;
         let clear = self.canned.clear();
-        self.standing.point = self.canned.hole_at(self.begun, clear);
+        self.motion_state.point = self.canned.hole_at(self.begun, clear);
         rest
     }
 
@@ -107,7 +108,7 @@ impl CycleLeft {
         }
         let done = pecking.done + whole;
         let bottom = self.canned.drill().bottom(pecking.peck, done);
-        self.standing.point = self.standing.at_height(bottom);
+        self.motion_state.point = self.motion_state.at_height(bottom);
         self.phase = Phase::PeckOut(Pecking {
             peck: pecking.peck,
             done,

@@ -7,7 +7,7 @@ use Rattle.ng_session.specs.declared.event.Event.{Event}
 use Rattle.ng_session.specs.declared.reply.Reply.{Reply}
 use Rattle.ng_core.specs.Model.{ControllerModel}
 use Rattle.ng_core.specs.AnsweredEvents.{IsAnsweredEvent, AreAnsweredEvents, answered_at}
-use Rattle.ng_core.proofs.EventsInTurnLemmas.{turns_joined_at, turns_fail, turns_geometry}
+use Rattle.ng_core.proofs.ExchangeLemmas.{exchanges_joined_at, exchanges_fail, exchanges_geometry}
 use Rattle.ng_core.proofs.PastLemmas.{are_run}
 use Rattle.ng_desk.specs.declared.call.Call.{Call}
 use Rattle.ng_desk.specs.Calls.{NumberedFrom, events_of, replies_of}
@@ -31,14 +31,14 @@ numbered_more number (first ∷ history) call numbered is = (numbered.0, numbere
 
 module _ {A R : Type 0} (seen : R → Device) where
   run_of : (events : List (Event A)) (replies : List Reply) (moments : List ℕ) (old new : ControllerModel R) → length replies ≡ length events
-      → (turns : AreAnsweredEvents seen events replies old new) → moments ≡ answered_at seen events replies old new turns
+      → (exchanges : AreAnsweredEvents seen events replies old new) → moments ≡ answered_at seen events replies old new exchanges
       → (seen new.journal.rig).sectors ≡ (seen old.journal.rig).sectors → IsPromisedRun seen events replies moments old new
-  run_of events replies moments old new each turns answered size =
+  run_of events replies moments old new each exchanges answered size =
       record {
-        runs = are_run seen events replies moments old new turns answered;
+        runs = are_run seen events replies moments old new exchanges answered;
         each = each;
-        failures = turns_fail seen events replies old new turns;
-        geometry = turns_geometry seen events replies old new turns;
+        failures = exchanges_fail seen events replies old new exchanges;
+        geometry = exchanges_geometry seen events replies old new exchanges;
         size = size;
       }
 
@@ -46,9 +46,9 @@ module _ {A R : Type 0} (seen : R → Device) where
       (old mid new : ControllerModel R) → IsPromisedRun seen events replies moments old mid
       → IsAnsweredEvent seen event reply mid new → (seen new.journal.rig).sectors ≡ (seen mid.journal.rig).sectors
       → IsPromisedRun seen (events ++ event ∷ []) (replies ++ reply ∷ []) (moments ++ moment (seen new.journal.rig).trace ∷ []) old new
-  run_more events replies moments event reply old mid new run turn size =
+  run_more events replies moments event reply old mid new run exchange size =
       let at = moment (seen new.journal.rig).trace in
-      let joined = turns_joined_at seen events (event ∷ []) replies (reply ∷ []) old mid new run.runs.turns (new, (turn, refl)) in
+      let joined = exchanges_joined_at seen events (event ∷ []) replies (reply ∷ []) old mid new run.runs.exchanges (new, (exchange, refl)) in
       run_of (events ++ event ∷ []) (replies ++ reply ∷ []) (moments ++ at ∷ []) old new
       (omega (arith, length-append replies (reply ∷ []), length-append events (event ∷ []), run.each))
       joined.0 (ap (λ (l : List ℕ). l ++ at ∷ []) run.runs.answered ∙ sym joined.1)
@@ -68,8 +68,8 @@ module _ {A R : Type 0} (seen : R → Device) where
       (mid new : ControllerModel R) → RunsFrom seen start history moments mid
       → IsAnsweredEvent seen call.event call.reply mid new → (seen new.journal.rig).sectors ≡ (seen mid.journal.rig).sectors
       → RunsFrom seen start (history ++ call ∷ []) (moments ++ moment (seen new.journal.rig).trace ∷ []) new
-  runs_more start history moments call mid new runs turn size first from =
+  runs_more start history moments call mid new runs exchange size first from =
       let now = moments ++ moment (seen new.journal.rig).trace ∷ [] in
       subst (λ (es : List (Event A)). IsPromisedRun seen es (replies_of (history ++ call ∷ [])) now first new) (sym (events_more history call))
       (subst (λ (rs : List Reply). IsPromisedRun seen (events_of history ++ call.event ∷ []) rs now first new) (sym (replies_more history call))
-      (run_more (events_of history) (replies_of history) moments call.event call.reply first mid new (runs first from) turn size))
+      (run_more (events_of history) (replies_of history) moments call.event call.reply first mid new (runs first from) exchange size))

@@ -83,21 +83,21 @@ impl<R: Rig, A: Allocator + Copy + Drop, O: Origin<R>> Book<R, A, O> {
         ensures call { IfOk result (λ call. (call.number ≡ length self.old.history) × (call.event ≡ event.now)) }
         ensures history { IfOk result (λ call. self.new.history ≡ self.old.history ++ call ∷ []) }
         ensures moments { OnOk result (self.new.moments ≡ self.old.moments ++ moment (R.seen self.new.controller.journal.rig).trace ∷ []) }
-        ensures turn { IfOk result (λ call. IsAnsweredEvent R.seen event.now call.reply self.old.controller self.new.controller) }
+        ensures exchange { IfOk result (λ call. IsAnsweredEvent R.seen event.now call.reply self.old.controller self.new.controller) }
         ensures size { (R.seen self.new.controller.journal.rig).sectors ≡ (R.seen self.old.controller.journal.rig).sectors }
         ensures counted { OnOk result (mine.new.amount ≡ mine.old.amount + 1) }
         ensures parts { mine.new.parts ≡ mine.old.parts }
         ensures memory { IfErr result (λ fault. (fault ≡ OutOfMemory) × (self.new ≡ self.old) × (mine.new.amount ≡ mine.old.amount)) }
     {
         self.history.reserve(1)?;
-        let kept = copied(self.alloc, event)?;
+        let copy = copied(self.alloc, event)?;
         let told = copied(self.alloc, event)?;
         let given = copied(self.alloc, event)?;
         let number = self.history.len() as u64;
         let reply = self.controller.on(given);
         self.moments.push(&self.controller);
         self.calls.add(mine, 1);
-        self.history.push_reserved(Call::of(number, kept, &reply));
+        self.history.push_reserved(Call::of(number, copy, &reply));
         Ok(Call::of(number, told, &reply))
     }
 

@@ -21,14 +21,14 @@ take_min (b ∷ bs) zero n e = let none : n ≡ 0 = omega (arith, e) in ap (λ k
 take_min (b ∷ bs) (suc m) zero e = absurd (omega (arith, e))
 take_min (b ∷ bs) (suc m) (suc n) e = let less : n ≡ min (length bs) m = omega (arith, e) in ap (λ l. b ∷ l) (take_min bs m n less)
 
--- as much as there is room for
-pub kept_front : (most n : ℕ) (old bytes : List ℕ) → length old ≤ most → n ≡ min (length bytes) (most - length old)
+-- as much as fits
+pub head_front : (most n : ℕ) (old bytes : List ℕ) → length old ≤ most → n ≡ min (length bytes) (most - length old)
     → old ++ take n bytes ≡ take most (old ++ bytes)
-kept_front most n [] bytes h e = take_min bytes most n (omega (arith, e))
-kept_front zero n (x ∷ old) bytes h e = absurd (omega (arith, h))
-kept_front (suc most) n (x ∷ old) bytes h e =
+head_front most n [] bytes h e = take_min bytes most n (omega (arith, e))
+head_front zero n (x ∷ old) bytes h e = absurd (omega (arith, h))
+head_front (suc most) n (x ∷ old) bytes h e =
     let less : n ≡ min (length bytes) (most - length old) = omega (arith, e) in
-    ap (λ l. x ∷ l) (kept_front most n old bytes (omega (arith, h)) less)
+    ap (λ l. x ∷ l) (head_front most n old bytes (omega (arith, h)) less)
 
 -- what was cut off before is cut off again
 pub cut_on : (most : ℕ) (front bytes : List ℕ) → take most (take most front ++ bytes) ≡ take most (front ++ bytes)
@@ -46,10 +46,10 @@ after_newline (b ∷ front) rest zero e = absurd (omega (arith, e))
 after_newline (b ∷ front) rest (suc n) e = after_newline front rest n (omega (arith, e))
 
 -- what is kept of a line isn't empty, and neither is what was passed
-pub some_passed : (kept passed : List ℕ) (t : Bool) → t ≡ (length kept == 0) → not t ≡ true → kept ≡ take 301 passed → passed ≢ []
+pub some_passed : (head passed : List ℕ) (t : Bool) → t ≡ (length head == 0) → not t ≡ true → head ≡ take 301 passed → passed ≢ []
 some_passed [] passed true e f is = λ none. absurd cc
 some_passed [] passed false e f is = λ none. absurd cc
-some_passed (x ∷ kept) passed t e f is = λ none. let bare : (x ∷ kept) ≡ [] = is ∙ ap (take 301) none in absurd cc
+some_passed (x ∷ head) passed t e f is = λ none. let bare : (x ∷ head) ≡ [] = is ∙ ap (take 301) none in absurd cc
 
 -- everything that waits is taken
 pub all_taken : (here w left : List ℕ) → w ≡ here → left ≡ drop (length w) here → here ≡ w ++ left

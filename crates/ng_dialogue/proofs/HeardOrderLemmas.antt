@@ -37,47 +37,47 @@ taken_alone None command order h = tt
 taken_alone (Some more) command order h = h more
 
 -- if what is kept of a line isn't long, it is the whole line
-kept_whole : (line kept : List ℕ) → kept ≡ take 301 line → length kept ≤ 300 → kept ≡ line
-kept_whole line kept is short =
+head_whole : (line head : List ℕ) → head ≡ take 301 line → length head ≤ 300 → head ≡ line
+head_whole line head is short =
     let size = simp length-take at (ap length is) in
     is ∙ take_all 301 line (omega (arith, size, short))
 
-command_whole : (line kept : List ℕ) (command : ConsoleCommand) → kept ≡ take 301 line → IsCommand kept command → IsCommand line command
-command_whole line kept command is asked = let P : List ℕ → Type 0 = λ l. IsCommand l command in subst P (kept_whole line kept is asked.0) asked
+command_whole : (line head : List ℕ) (command : ConsoleCommand) → head ≡ take 301 line → IsCommand head command → IsCommand line command
+command_whole line head command is asked = let P : List ℕ → Type 0 = λ l. IsCommand l command in subst P (head_whole line head is asked.0) asked
 
 -- a short line is kept whole
-none_whole : (line kept : List ℕ) → kept ≡ take 301 line → IsNoCommand kept → IsNoCommand line
-none_whole line kept is none command asked =
+none_whole : (line head : List ℕ) → head ≡ take 301 line → IsNoCommand head → IsNoCommand line
+none_whole line head is none command asked =
     let short : length line ≤ 300 = asked.0 in
-    let same : line ≡ kept = sym (is ∙ take_all 301 line (omega (arith, short))) in
+    let same : line ≡ head = sym (is ∙ take_all 301 line (omega (arith, short))) in
     let P : List ℕ → Type 0 = λ l. IsCommand l command in
     none command (subst P same asked)
 
 -- a line that isn't a command
-pub heard_none : {A : Type 0} (old new : Option (List ℕ)) (kept : List ℕ) (order : Order A)
-    → TakesLine 301 old new kept → IsNoCommand kept → order ≡ Refuse BadCommand → TakesOrder old new (Some order)
-heard_none None new kept order took none is = tt
-heard_none (Some text) None kept order took none is = absurd took
-heard_none (Some text) (Some rest) kept order took none is = (took.0, rest, took.1, inl (none_whole took.0 kept took.2 none, is, refl))
+pub heard_none : {A : Type 0} (old new : Option (List ℕ)) (head : List ℕ) (order : Order A)
+    → TakesLine 301 old new head → IsNoCommand head → order ≡ Refuse BadCommand → TakesOrder old new (Some order)
+heard_none None new head order took none is = tt
+heard_none (Some text) None head order took none is = absurd took
+heard_none (Some text) (Some rest) head order took none is = (took.0, rest, took.1, inl (none_whole took.0 head took.2 none, is, refl))
 
 -- a command
-pub heard : {A : Type 0} (old mid new : Option (List ℕ)) (kept : List ℕ) (command : ConsoleCommand)
-    (order : Option (Order A)) → TakesLine 301 old mid kept → IsCommand kept command
+pub heard : {A : Type 0} (old mid new : Option (List ℕ)) (head : List ℕ) (command : ConsoleCommand)
+    (order : Option (Order A)) → TakesLine 301 old mid head → IsCommand head command
     → TakesCommand command mid new order → TakesOrder old new order
-heard None mid new kept command None took asked follows = tt
-heard None mid new kept command (Some order) took asked follows = tt
-heard (Some text) None new kept command None took asked follows = absurd took
-heard (Some text) None new kept command (Some order) took asked follows = absurd took
-heard (Some text) (Some more) new kept command None took asked follows =
+heard None mid new head command None took asked follows = tt
+heard None mid new head command (Some order) took asked follows = tt
+heard (Some text) None new head command None took asked follows = absurd took
+heard (Some text) None new head command (Some order) took asked follows = absurd took
+heard (Some text) (Some more) new head command None took asked follows =
     let P : ConsoleCommand → Type 0 = λ c. IsCommand took.0 c in
-    inr (took.0, more, took.1, subst P follows (command_whole took.0 kept command took.2 asked))
-heard (Some text) (Some more) None kept command (Some order) took asked follows = absurd follows
-heard (Some text) (Some more) (Some rest) kept command (Some order) took asked follows =
-    (took.0, more, took.1, inr (command, command_whole took.0 kept command took.2 asked, follows))
+    inr (took.0, more, took.1, subst P follows (command_whole took.0 head command took.2 asked))
+heard (Some text) (Some more) None head command (Some order) took asked follows = absurd follows
+heard (Some text) (Some more) (Some rest) head command (Some order) took asked follows =
+    (took.0, more, took.1, inr (command, command_whole took.0 head command took.2 asked, follows))
 
 -- the same, if the reader or the allocation may have failed
-pub heard_ok : {A E : Type 0} (old mid new : Option (List ℕ)) (kept : List ℕ) (command : ConsoleCommand)
-    (r : Result (Option (Order A)) E) → TakesLine 301 old mid kept → IsCommand kept command
+pub heard_ok : {A E : Type 0} (old mid new : Option (List ℕ)) (head : List ℕ) (command : ConsoleCommand)
+    (r : Result (Option (Order A)) E) → TakesLine 301 old mid head → IsCommand head command
     → IfOk r (TakesCommand command mid new) → IfOk r (TakesOrder old new)
-heard_ok old mid new kept command (Ok order) took asked follows = heard old mid new kept command order took asked follows
-heard_ok old mid new kept command (Err fault) took asked follows = tt
+heard_ok old mid new head command (Ok order) took asked follows = heard old mid new head command order took asked follows
+heard_ok old mid new head command (Err fault) took asked follows = tt

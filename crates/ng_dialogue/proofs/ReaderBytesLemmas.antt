@@ -60,41 +60,41 @@ pub step_on : (old now r : Option (List ℕ)) (passed front : List ℕ) (w left 
     → Keeps now (text_left w r) → w.ended ≡ false → left.ended ≡ false
     → w.bytes ≡ front ++ left.bytes → Consumes old (text_left left r) (passed ++ front)
 step_on old now r passed front w left p k e f parts =
-    let kept = subst (λ (t : Option (List ℕ)). Keeps now t) (text_on w r e) k in
+    let head = subst (λ (t : Option (List ℕ)). Keeps now t) (text_on w r e) k in
     let next = prepend_known left.bytes r in
     subst (λ (t : Option (List ℕ)). Consumes old t (passed ++ front)) (sym (text_on left r f))
     (Consumes-trans old now next passed front p
-    (Keeps-consumes now (prepend_known w.bytes r) next front kept
+    (Keeps-consumes now (prepend_known w.bytes r) next front head
     (Consumes-front w.bytes front left.bytes r parts)))
 
 -- what was passed and a newline after it are taken
-line_taken : (old new : Option (List ℕ)) (most : ℕ) (passed front kept : List ℕ)
+line_taken : (old new : Option (List ℕ)) (most : ℕ) (passed front head : List ℕ)
     → Consumes old new (passed ++ front ++ 10 ∷ []) → HasNoNewline passed → HasNoNewline front
-    → kept ≡ take most (passed ++ front) → TakesLine most old new kept
-line_taken None new most passed front kept p bare none is = tt
-line_taken (Some t) None most passed front kept p bare none is = absurd p
-line_taken (Some t) (Some x) most passed front kept p bare none is =
+    → head ≡ take most (passed ++ front) → TakesLine most old new head
+line_taken None new most passed front head p bare none is = tt
+line_taken (Some t) None most passed front head p bare none is = absurd p
+line_taken (Some t) (Some x) most passed front head p bare none is =
     (passed ++ front, (HasNoNewline-append passed front bare none, inl (p ∙ append_assoc (passed ++ front) (10 ∷ []) x)), is)
 
 -- a newline is found after what was passed
-pub line_ends : (old now r : Option (List ℕ)) (most : ℕ) (passed front rest kept : List ℕ) (w left : Waiting)
+pub line_ends : (old now r : Option (List ℕ)) (most : ℕ) (passed front rest head : List ℕ) (w left : Waiting)
     → Consumes old now passed → Keeps now (text_left w r) → w.ended ≡ false
-    → left.ended ≡ false → HasNoNewline passed → HasNoNewline front → w.bytes ≡ front ++ 10 ∷ rest → left.bytes ≡ rest → kept ≡ take most (passed ++ front)
-    → TakesLine most old (text_left left r) kept
-line_ends old now r most passed front rest kept w left p k e f bare none parts is_rest is =
+    → left.ended ≡ false → HasNoNewline passed → HasNoNewline front → w.bytes ≡ front ++ 10 ∷ rest → left.bytes ≡ rest → head ≡ take most (passed ++ front)
+    → TakesLine most old (text_left left r) head
+line_ends old now r most passed front rest head w left p k e f bare none parts is_rest is =
     let whole : w.bytes ≡ (front ++ 10 ∷ []) ++ left.bytes = parts ∙ ap (λ l. front ++ 10 ∷ l) (sym is_rest) ∙ sym (append_assoc front (10 ∷ []) left.bytes) in
     let taken = step_on old now r passed (front ++ 10 ∷ []) w left p k e f whole in
-    line_taken old (text_left left r) most passed front kept
+    line_taken old (text_left left r) most passed front head
     (subst (λ (l : List ℕ). Consumes old (text_left left r) l) (sym (append_assoc passed front (10 ∷ []))) taken) bare none is
 
 -- the text ends after what was passed: that is the last line
-pub last_line : (old now new : Option (List ℕ)) (most : ℕ) (passed kept : List ℕ) → Consumes old now passed
+pub last_line : (old now new : Option (List ℕ)) (most : ℕ) (passed head : List ℕ) → Consumes old now passed
     → Keeps now new → IsAtEnd new → HasNoNewline passed → passed ≢ []
-    → kept ≡ take most passed → TakesLine most old new kept
-last_line None now new most passed kept p k e bare some is = tt
-last_line (Some t) None new most passed kept p k e bare some is = absurd p
-last_line (Some t) (Some n) None most passed kept p k e bare some is = absurd k
-last_line (Some t) (Some n) (Some x) most passed kept p k e bare some is =
+    → head ≡ take most passed → TakesLine most old new head
+last_line None now new most passed head p k e bare some is = tt
+last_line (Some t) None new most passed head p k e bare some is = absurd p
+last_line (Some t) (Some n) None most passed head p k e bare some is = absurd k
+last_line (Some t) (Some n) (Some x) most passed head p k e bare some is =
     (passed, (bare, inr (p ∙ ap (λ l. passed ++ l) (sym k ∙ e) ∙ append-nil passed, some, e)), is)
 
 -- nothing was taken in between

@@ -13,16 +13,20 @@ pub(crate) enum TakenBytes {
     /// All of them are kept.
     Whole,
     /// All of them were skipped: there was no memory for them.
-    NoRoom,
+    NoMemory,
     /// The text ended before the last of them.
     Cut,
 }
 
 /// Keeps bytes if those before were kept and there is memory.
-fn keep_on<A: Allocator + Copy + Drop>(text: &mut Vec<u8, A>, has_room: bool, bytes: &[u8]) -> bool
-    ensures { result ≡ true → (has_room ≡ true) × (text.new.items ≡ text.old.items ++ bytes.now) }
+fn keep_on<A: Allocator + Copy + Drop>(
+    text: &mut Vec<u8, A>,
+    has_memory: bool,
+    bytes: &[u8],
+) -> bool
+    ensures { result ≡ true → (has_memory ≡ true) × (text.new.items ≡ text.old.items ++ bytes.now) }
 {
-    has_room && text.extend_from_slice(bytes).is_ok()
+    has_memory && text.extend_from_slice(bytes).is_ok()
 }
 
 /// Takes this many bytes, and keeps them in a text that was empty. Its memory grows once, before the first byte is
@@ -43,21 +47,21 @@ pub(crate) fn take_bytes<R: Read, A: Allocator + Copy + Drop>(
     ensures last { input.old.ended ≡ true → (input.new ≡ input.old) × (reader.new ≡ reader.old) }
 {
     let mut left = length as usize;
-    let mut has_room = text.reserve_exact(length as usize).is_ok();
+    let mut has_memory = text.reserve_exact(length as usize).is_ok();
     while left > 0 {
         if !input.fill(reader)? {
             return Ok(TakenBytes::Cut);
         }
         let waiting = input.waiting();
         let taken = waiting.len().min(left);
-        let kept = keep_on(text, has_room, &waiting[..taken]);
-        has_room = kept;
+        let head = keep_on(text, has_memory, &waiting[..taken]);
+        has_memory = head;
         input.consume(taken);
         left -= taken;
     }
-    if has_room {
+    if has_memory {
         Ok(TakenBytes::Whole)
     } else {
-        Ok(TakenBytes::NoRoom)
+        Ok(TakenBytes::NoMemory)
     }
 }

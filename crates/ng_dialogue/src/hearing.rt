@@ -55,7 +55,7 @@ fn load<R: Read, A: Allocator + Copy + Drop>(
     let mut text = Vec::new(alloc);
     match take_bytes(input, reader, length, &mut text)? {
         TakenBytes::Whole => Ok(Order::Give(Event::Load(Text::of(text)))),
-        TakenBytes::NoRoom => Ok(Order::Refuse(Fault::OutOfMemory)),
+        TakenBytes::NoMemory => Ok(Order::Refuse(Fault::OutOfMemory)),
         TakenBytes::Cut => Ok(Order::Refuse(Fault::BadCommand)),
     }
 }

@@ -10,16 +10,16 @@ use ng_commands::LONGEST;
 use ng_text::split_line;
 use std::io::Read;
 
-/// The most bytes that are kept of a line: one more than a command can have.
-pub(crate) const KEPT_COMMAND: usize = 301;
+/// The most bytes of the head of a line: one more than a command can have.
+pub(crate) const COMMAND_HEAD: usize = 301;
 
-/// Keeps as many bytes as there is room for.
-fn keep(line: &mut ArrayVec<u8, KEPT_COMMAND>, bytes: &[u8])
+/// Keeps as many bytes as fit.
+fn keep(line: &mut ArrayVec<u8, COMMAND_HEAD>, bytes: &[u8])
     ensures { line.new.items ≡ take 301 (line.old.items ++ bytes.now) }
 {
-    let room = KEPT_COMMAND - line.len();
-    let kept = bytes.len().min(room);
-    let Ok(()) = line.try_extend_from_slice(&bytes[..kept]) else {
+    let free = COMMAND_HEAD - line.len();
+    let head = bytes.len().min(free);
+    let Ok(()) = line.try_extend_from_slice(&bytes[..head]) else {
         unreachable!()
     };
 }
@@ -29,7 +29,7 @@ fn keep(line: &mut ArrayVec<u8, KEPT_COMMAND>, bytes: &[u8])
 pub(crate) fn next_line<R: Read>(
     input: &mut Input,
     reader: &mut R,
-    line: &mut ArrayVec<u8, KEPT_COMMAND>,
+    line: &mut ArrayVec<u8, COMMAND_HEAD>,
 ) -> Result<bool, ReadError>
     ensures some { IfOk result
         (λ more. more ≡ true → TakesLine 301 (text_left input.old (R.remaining reader.old))
@@ -39,7 +39,7 @@ pub(crate) fn next_line<R: Read>(
     ensures last { input.old.ended ≡ true → (result ≡ Ok false) × (input.new ≡ input.old) × (reader.new ≡ reader.old) }
 {
     line.clear();
-    for _turn in 0..u64::MAX {
+    for _pass in 0..u64::MAX {
         if !input.fill(reader)? {
             return Ok(!line.is_empty());
         }

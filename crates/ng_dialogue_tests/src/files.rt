@@ -15,7 +15,7 @@ use std::test::Fail;
 #[derive(Drop)]
 struct Disk {
     bytes: Vec<u8>,
-    /// How many writes there is room for.
+    /// How many writes there may be.
     writes_left: usize,
     /// How often the length is asked for before the bytes from 1,024 on are gone.
     lengths_left: usize,
@@ -69,7 +69,7 @@ impl Storage for Disk {
     }
 }
 
-/// A disk with this many bytes, all zeros, that has room for this many writes.
+/// A disk with this many bytes, all zeros, that takes this many writes.
 fn disk_with(alloc: Global, length: usize, writes_left: usize) -> Result<Disk, AllocError> {
     let mut bytes = Vec::new(alloc);
     bytes.resize(length, 0)?;

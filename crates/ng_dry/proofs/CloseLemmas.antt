@@ -23,9 +23,10 @@ not_empty [] t e f h = cc
 not_empty (x ∷ xs) t e f h = cc
 
 -- the last line, which has no newline
-pub rest_of-alone : (p : DryRunModel) (kept line : List ℕ) → HasNoNewline kept → kept ≢ [] → line ≡ kept → rest_of p kept [] ≡ due p (line ∷ [])
+pub rest_of-alone : (p : DryRunModel) (partial line : List ℕ) → HasNoNewline partial → partial ≢ [] → line ≡ partial → rest_of p partial [] ≡ due p (line ∷ [])
 rest_of-alone p [] line h some is = absurd (some refl)
-rest_of-alone p (b ∷ kept) line h some is = ap (rest_of p []) (append-nil (b ∷ kept)) ∙ ap (due p) (lines-alone b kept h) ∙ ap (λ l. due p (l ∷ [])) (sym is)
+rest_of-alone p (b ∷ partial) line h some is = ap (rest_of p []) (append-nil (b ∷ partial)) ∙ ap (due p) (lines-alone b partial h)
+    ∙ ap (λ l. due p (l ∷ [])) (sym is)
 
 -- nothing was read
 pub Consumes-none : (a b : Option (List ℕ)) (n : ℕ) (xs : List ℕ) → n ≡ 0 → Consumes a b (take n xs) → Consumes a b []
@@ -92,22 +93,22 @@ run_none (Some x) w out fault = ([], (out x).text, refl, Appends-nil w)
 
 -- a run that was aborted between two reads
 pub run_stops : (r0 r1 w0 w1 w2 : Option (List ℕ)) (before : List ℕ) (out : List ℕ → Output) (p : DryRunModel)
-    (kept : List ℕ) (fault : DryFault) → Consumes r0 r1 before
-    → Goes w0 w1 (λ more. out (before ++ more)) (λ more. rest_of p kept more) → Wrote w1 w2 p.text
+    (partial : List ℕ) (fault : DryFault) → Consumes r0 r1 before
+    → Goes w0 w1 (λ more. out (before ++ more)) (λ more. rest_of p partial more) → Wrote w1 w2 p.text
     → IfSome r0 (λ program. DryRunSpec w0 w2 (out program) (Err fault))
-run_stops r0 r1 w0 w1 w2 before out p kept fault read run wrote =
-    run_breaks r0 r1 r1 w0 w1 w2 before [] out (λ more. rest_of p kept more) fault read (Consumes-nil r1) run (record {
+run_stops r0 r1 w0 w1 w2 before out p partial fault read run wrote =
+    run_breaks r0 r1 r1 w0 w1 w2 before [] out (λ more. rest_of p partial more) fault read (Consumes-nil r1) run (record {
       text = wrote.0;
       appends = wrote.2;
       rest = λ more.
-          let o = outcome_by p.terms p.first p.setup p.number (lines (kept ++ more)) in
+          let o = outcome_by p.terms p.first p.setup p.number (lines (partial ++ more)) in
           (wrote.1 ++ o.text, ap (λ l. l ++ o.text) wrote.3 ∙ append_assoc wrote.0 wrote.1 o.text);
     })
 
 -- a run before the first read
-pub Goes-begun : (a : Option (List ℕ)) (terms : TermsModel) (setup : StateModel) (p : DryRunModel) (kept : List ℕ) → p ≡ begun terms setup → kept ≡ []
-    → Goes a a (λ more. output_from terms setup ([] ++ more)) (λ more. rest_of p kept more)
-Goes-begun a terms setup p kept e f = record {
+pub Goes-begun : (a : Option (List ℕ)) (terms : TermsModel) (setup : StateModel) (p : DryRunModel) (partial : List ℕ) → p ≡ begun terms setup → partial ≡ []
+    → Goes a a (λ more. output_from terms setup ([] ++ more)) (λ more. rest_of p partial more)
+Goes-begun a terms setup p partial e f = record {
   text = [];
   appends = Appends-nil a;
   rest = λ more. outcome_is terms [] setup (lines more) ∙ ap (λ q. onto [] (rest_of q [] more)) (sym e) ∙ ap (λ k. onto [] (rest_of p k more)) (sym f);

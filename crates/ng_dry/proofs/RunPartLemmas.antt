@@ -77,16 +77,16 @@ pub Breaks-finished : {X : Type 0} (a b : Option (List ℕ)) (f : X → Output) 
 Breaks-finished a b f o fault e h = record { text = h.0; appends = h.3; rest = λ more. (h.1, ap (λ (x : Output). x.text) (e more) ∙ h.2) }
 
 -- the end of a line
-pub LineStepSpec-line : (a b : Option (List ℕ)) (p q : DryRunModel) (kept line left stripped : List ℕ)
-    (r : Result (Option Ended) DryFault) → HasNoNewline (kept ++ line)
-    → stripped ≡ strip_carriage_return (kept ++ line) → left ≡ []
+pub LineStepSpec-line : (a b : Option (List ℕ)) (p q : DryRunModel) (partial line left stripped : List ℕ)
+    (r : Result (Option Ended) DryFault) → HasNoNewline (partial ++ line)
+    → stripped ≡ strip_carriage_return (partial ++ line) → left ≡ []
     → LineStepSpec a b (λ more. due p (stripped ∷ more)) (λ more. due q more) r
-    → LineStepSpec a b (λ more. rest_of p kept (line ++ (10 ∷ more))) (λ more. rest_of q left more) r
-LineStepSpec-line a b p q kept line left stripped r none is nothing h =
+    → LineStepSpec a b (λ more. rest_of p partial (line ++ (10 ∷ more))) (λ more. rest_of q left more) r
+LineStepSpec-line a b p q partial line left stripped r none is nothing h =
     LineStepSpec-onto a b _ (λ more. due q (lines more)) _ r (λ more. ap (λ l. rest_of q l more) (sym nothing))
     (LineStepSpec-from a b (λ more. due p (stripped ∷ lines more)) _ (λ more. due q (lines more)) r
-    (λ more. ap (λ l. due p (lines l)) (sym (append_assoc kept line (10 ∷ more)))
-    ∙ ap (due p) (lines-newline (kept ++ line) more none) ∙ ap (λ l. due p (l ∷ lines more)) (sym is))
+    (λ more. ap (λ l. due p (lines l)) (sym (append_assoc partial line (10 ∷ more)))
+    ∙ ap (due p) (lines-newline (partial ++ line) more none) ∙ ap (λ l. due p (l ∷ lines more)) (sym is))
     (LineStepSpec-at a b lines _ _ r h))
 
 -- a line that is too long
@@ -99,18 +99,18 @@ due-long p front more none long =
     (λ after. outcome_by p.terms (kind_before p.first (kind_of found.0)) after (p.number + 1) found.1)))
     (executed_after-long p.terms p.first p.setup found.0 found.3)
 
-pub rest_of-long : (p : DryRunModel) (kept bytes more : List ℕ) → HasNoNewline (kept ++ bytes)
-    → 257 < length (kept ++ bytes) → rest_of p kept (bytes ++ more) ≡ onto p.text (refused p.number LineTooLong)
-rest_of-long p kept bytes more none long = ap (λ l. due p (lines l)) (sym (append_assoc kept bytes more)) ∙ due-long p (kept ++ bytes) more none long
+pub rest_of-long : (p : DryRunModel) (partial bytes more : List ℕ) → HasNoNewline (partial ++ bytes)
+    → 257 < length (partial ++ bytes) → rest_of p partial (bytes ++ more) ≡ onto p.text (refused p.number LineTooLong)
+rest_of-long p partial bytes more none long = ap (λ l. due p (lines l)) (sym (append_assoc partial bytes more)) ∙ due-long p (partial ++ bytes) more none long
 
 -- the end of the next line of what is left
-pub LineStepSpec-next : (a b c : Option (List ℕ)) (p : DryRunModel) (kept left line after : List ℕ)
+pub LineStepSpec-next : (a b c : Option (List ℕ)) (p : DryRunModel) (partial left line after : List ℕ)
     (before g : List ℕ → Output) (r : Result (Option Ended) DryFault)
-    → Goes a b before (λ more. rest_of p kept (left ++ more)) → left ≡ line ++ (10 ∷ after)
-    → LineStepSpec b c (λ more. rest_of p kept (line ++ (10 ∷ more))) g r
+    → Goes a b before (λ more. rest_of p partial (left ++ more)) → left ≡ line ++ (10 ∷ after)
+    → LineStepSpec b c (λ more. rest_of p partial (line ++ (10 ∷ more))) g r
     → LineStepSpec a c before (λ more. g (after ++ more)) r
-LineStepSpec-next a b c p kept left line after before g r goes parts h =
-    LineStepSpec-after a b c before (λ more. rest_of p kept (left ++ more)) (λ more. g (after ++ more)) r goes
-    (LineStepSpec-from b c (λ more. rest_of p kept (line ++ (10 ∷ (after ++ more)))) _ _ r
-    (λ more. ap (λ l. rest_of p kept (l ++ more)) parts ∙ ap (rest_of p kept) (append_assoc line (10 ∷ after) more))
-    (LineStepSpec-at b c (λ more. after ++ more) (λ more. rest_of p kept (line ++ (10 ∷ more))) g r h))
+LineStepSpec-next a b c p partial left line after before g r goes parts h =
+    LineStepSpec-after a b c before (λ more. rest_of p partial (left ++ more)) (λ more. g (after ++ more)) r goes
+    (LineStepSpec-from b c (λ more. rest_of p partial (line ++ (10 ∷ (after ++ more)))) _ _ r
+    (λ more. ap (λ l. rest_of p partial (l ++ more)) parts ∙ ap (rest_of p partial) (append_assoc line (10 ∷ after) more))
+    (LineStepSpec-at b c (λ more. after ++ more) (λ more. rest_of p partial (line ++ (10 ∷ more))) g r h))

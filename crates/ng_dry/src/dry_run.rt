@@ -72,10 +72,10 @@ pub fn dry_from<R: Read, W: Write, A: Allocator + Copy + Drop>(
     };
     let mut splitter = LineSplitter {
         run,
-        kept: ArrayVec::new(),
+        partial: ArrayVec::new(),
     };
     let mut buffer = [0u8; BUFFER];
-    for turn in 0..READS {
+    for pass in 0..READS {
         match reader.read(&mut buffer) {
             Err(_) => return Err(splitter.run.break_off(writer, DryFault::Reader)),
             Ok(0) => return splitter.close(writer),

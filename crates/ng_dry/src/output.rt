@@ -37,10 +37,10 @@ pub(crate) fn write_out<W: Write>(writer: &mut W, bytes: &[u8]) -> Result<(), Dr
 /// The text that waits is written once it has this many bytes.
 const FULL: usize = 8192;
 
-/// Room for all text that ever waits: text that isn't long yet, followed by the text of one command or refusal. The
-/// longest of these is that of a comment, with fewer than 300 bytes. So a run with this room doesn't allocate for its
+/// The most bytes that ever wait: text that isn't long yet, followed by the text of one command or refusal. The
+/// longest of these is that of a comment, with fewer than 300 bytes. So a run with as many doesn't allocate for its
 /// text.
-pub(crate) const ROOM: usize = FULL + 512;
+pub(crate) const CAPACITY: usize = FULL + 512;
 
 /// Writes the text that waits. It isn't inlined, since few lines come here.
 #[inline(never)]

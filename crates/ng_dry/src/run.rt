@@ -6,7 +6,7 @@ ghost use Rattle.ng_dry.specs.Flush.{Wrote};
 ghost use Rattle.ng_dry.specs.Private.Parts.{due, begun, LineStepSpec};
 
 use crate::ending::{DryFault, Ended};
-use crate::output::{ROOM, break_off, flush, put_effect, put_refusal};
+use crate::output::{CAPACITY, break_off, flush, put_effect, put_refusal};
 use ng_block::{ProgramFlow, Scratch, Terms};
 use ng_num::Fault;
 use ng_state::{ModalState, State};
@@ -48,8 +48,8 @@ fn is_end(stop: ProgramFlow) -> bool
 }
 
 impl<'a, A: Allocator + Copy + Drop> DryRun<'a, A> {
-    /// A run from a state, before the first line, with room for the text that waits, so that no line allocates.
-    /// `AllocError` if there is no memory for that room.
+    /// A run from a state, before the first line, with capacity for the text that waits, so that no line allocates.
+    /// `AllocError` if there is no memory for it.
     pub fn new(alloc: A, terms: Terms<'a>, state: State<A>) -> Result<DryRun<'a, A>, AllocError>
         ensures { IfOk result (λ r. r ≡ begun terms.entry state) }
     {
@@ -58,7 +58,7 @@ impl<'a, A: Allocator + Copy + Drop> DryRun<'a, A> {
             first: LineKind::Blank,
             state,
             number: 1,
-            text: Vec::with_capacity(alloc, ROOM)?,
+            text: Vec::with_capacity(alloc, CAPACITY)?,
             places: Scratch::new(ModalState::fresh()),
         })
     }

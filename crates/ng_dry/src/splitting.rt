@@ -15,13 +15,13 @@ use std::alloc::Allocator;
 use std::io::Write;
 
 /// The most bytes that are kept of a line without its end: the longest line and a carriage return.
-pub(crate) const KEPT: usize = 257;
+pub(crate) const LONGEST_PARTIAL: usize = 257;
 
 /// Splits bytes into the lines of a run, and keeps the beginning of a line until its end comes.
 #[derive(Drop)]
 pub(crate) struct LineSplitter<'a, A: Allocator> {
     pub run: DryRun<'a, A>,
-    pub kept: ArrayVec<u8, KEPT>,
+    pub partial: ArrayVec<u8, LONGEST_PARTIAL>,
 }
 
 /// A line without the carriage return at its end.
@@ -37,25 +37,25 @@ fn without_return(line: &[u8]) -> &[u8]
 impl<'a, A: Allocator + Copy + Drop> LineSplitter<'a, A> {
     /// Takes the end of a line: the bytes before its newline.
     fn end_line<W: Write>(&mut self, writer: &mut W, line: &[u8]) -> Result<Option<Ended>, DryFault>
-        requires kept { HasNoNewline self.old.kept.items }
+        requires partial { HasNoNewline self.old.partial.items }
         requires line { HasNoNewline line.now }
-        requires room { self.old.run.number < 2 ^ 63 }
+        requires number { self.old.run.number < 2 ^ 63 }
         ensures step { LineStepSpec (W.contents writer.old) (W.contents writer.new)
-            (λ more. rest_of self.old.run self.old.kept.items (line.now ++ 10 ∷ more))
-            (λ more. rest_of self.new.run self.new.kept.items more) result }
-        ensures kept { HasNoNewline self.new.kept.items }
+            (λ more. rest_of self.old.run self.old.partial.items (line.now ++ 10 ∷ more))
+            (λ more. rest_of self.new.run self.new.partial.items more) result }
+        ensures partial { HasNoNewline self.new.partial.items }
         ensures number { self.new.run.number ≤ self.old.run.number + 1 }
     {
-        if self.kept.is_empty() {
+        if self.partial.is_empty() {
             return self.run.execute(writer, without_return(line));
         }
-        match self.kept.try_extend_from_slice(line) {
+        match self.partial.try_extend_from_slice(line) {
             Err(_) => self.refuse_long(writer),
             Ok(()) => {
                 let ended = self
                     .run
-                    .execute(writer, without_return(self.kept.as_slice()));
-                self.kept.clear();
+                    .execute(writer, without_return(self.partial.as_slice()));
+                self.partial.clear();
                 ended
             }
         }
@@ -66,8 +66,8 @@ impl<'a, A: Allocator + Copy + Drop> LineSplitter<'a, A> {
         ensures step { (f : List ℕ → Output) → ((more : List ℕ)
             → f more ≡ onto self.old.run.text (refused self.old.run.number LineTooLong))
             → LineStepSpec (W.contents writer.old) (W.contents writer.new) f
-            (λ more. rest_of self.new.run self.new.kept.items more) result }
-        ensures kept { self.new.kept ≡ self.old.kept }
+            (λ more. rest_of self.new.run self.new.partial.items more) result }
+        ensures partial { self.new.partial ≡ self.old.partial }
         ensures number { self.new.run.number ≡ self.old.run.number }
     {
         match self.run.refuse(writer, Fault::LineTooLong) {
@@ -78,15 +78,15 @@ impl<'a, A: Allocator + Copy + Drop> LineSplitter<'a, A> {
 
     /// Keeps the beginning of a line.
     fn keep<W: Write>(&mut self, writer: &mut W, bytes: &[u8]) -> Result<Option<Ended>, DryFault>
-        requires kept { HasNoNewline self.old.kept.items }
+        requires partial { HasNoNewline self.old.partial.items }
         requires bytes { HasNoNewline bytes.now }
         ensures step { LineStepSpec (W.contents writer.old) (W.contents writer.new)
-            (λ more. rest_of self.old.run self.old.kept.items (bytes.now ++ more))
-            (λ more. rest_of self.new.run self.new.kept.items more) result }
-        ensures kept { HasNoNewline self.new.kept.items }
+            (λ more. rest_of self.old.run self.old.partial.items (bytes.now ++ more))
+            (λ more. rest_of self.new.run self.new.partial.items more) result }
+        ensures partial { HasNoNewline self.new.partial.items }
         ensures number { self.new.run.number ≡ self.old.run.number }
     {
-        match self.kept.try_extend_from_slice(bytes) {
+        match self.partial.try_extend_from_slice(bytes) {
             Ok(()) => Ok(None),
             Err(_) => self.refuse_long(writer),
         }
@@ -98,12 +98,12 @@ impl<'a, A: Allocator + Copy + Drop> LineSplitter<'a, A> {
         writer: &mut W,
         bytes: &[u8],
     ) -> Result<Option<Ended>, DryFault>
-        requires kept { HasNoNewline self.old.kept.items }
-        requires room { self.old.run.number + length bytes.now < 2 ^ 63 }
+        requires partial { HasNoNewline self.old.partial.items }
+        requires number { self.old.run.number + length bytes.now < 2 ^ 63 }
         ensures step { LineStepSpec (W.contents writer.old) (W.contents writer.new)
-            (λ more. rest_of self.old.run self.old.kept.items (bytes.now ++ more))
-            (λ more. rest_of self.new.run self.new.kept.items more) result }
-        ensures kept { HasNoNewline self.new.kept.items }
+            (λ more. rest_of self.old.run self.old.partial.items (bytes.now ++ more))
+            (λ more. rest_of self.new.run self.new.partial.items more) result }
+        ensures partial { HasNoNewline self.new.partial.items }
         ensures number { self.new.run.number ≤ self.old.run.number + length bytes.now }
     {
         let mut left = bytes;
@@ -119,14 +119,14 @@ impl<'a, A: Allocator + Copy + Drop> LineSplitter<'a, A> {
 
     /// Takes the end of the program, and writes what it prints.
     pub fn close<W: Write>(&mut self, writer: &mut W) -> Result<Ended, DryFault>
-        requires kept { HasNoNewline self.old.kept.items }
-        requires room { self.old.run.number < 2 ^ 63 }
-        ensures { DryRunSpec (W.contents writer.old) (W.contents writer.new) (rest_of self.old.run self.old.kept.items []) result }
+        requires partial { HasNoNewline self.old.partial.items }
+        requires number { self.old.run.number < 2 ^ 63 }
+        ensures { DryRunSpec (W.contents writer.old) (W.contents writer.new) (rest_of self.old.run self.old.partial.items []) result }
     {
-        if self.kept.is_empty() {
+        if self.partial.is_empty() {
             return self.run.end_of_text(writer);
         }
-        match self.run.execute(writer, self.kept.as_slice()) {
+        match self.run.execute(writer, self.partial.as_slice()) {
             Ok(None) => self.run.end_of_text(writer),
             Ok(Some(ended)) => Ok(ended),
             Err(broken) => Err(broken),

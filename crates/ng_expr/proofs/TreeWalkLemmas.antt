@@ -3,10 +3,10 @@ use Rattle.std.proofs.Common.{ℕ, ◌+◌, ◌<◌, ◌≤◌, ◌≡◌, ℤ, 
 use Rattle.std.proofs.lemmas.List.{append-nil, drop_more, drop_all}
 use Rattle.ng_num.specs.declared.fault.Fault.{Fault}
 use Rattle.ng_words.specs.Grammar.{Tree, number, parameter, bracketed, applied, joined}
-use Rattle.ng_words.specs.Kept.{postfix, IsTree, tree_by}
+use Rattle.ng_words.specs.LineStorage.{postfix, IsTree, tree_by}
 use Rattle.ng_words.specs.declared.tree.Node.{Node}
 use Rattle.ng_words.specs.declared.tree.Node.TheVariants as node
-use Rattle.ng_words.proofs.KeptLineLemmas.{tree_by-postfix}
+use Rattle.ng_words.proofs.LineStorageLemmas.{tree_by-postfix}
 use Rattle.ng_num.specs.Results.{and_then}
 use Rattle.ng_expr.specs.Value.{written, parameter_value, apply, join, value}
 use Rattle.ng_expr.specs.Private.Walk.{onto, after_node, after_nodes}

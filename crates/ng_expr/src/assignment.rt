@@ -1,6 +1,6 @@
 //! The value of an assignment.
 ghost use Rattle.std.specs.Prelude.{◌≡◌};
-ghost use Rattle.ng_words.specs.Kept.{tree_by};
+ghost use Rattle.ng_words.specs.LineStorage.{tree_by};
 ghost use Rattle.ng_expr.specs.Settle.{change, index};
 
 use crate::stack::Stack;

@@ -1,7 +1,7 @@
 //! The values of a line: each expression evaluated, in order.
 ghost use Rattle.std.specs.Prelude.{◌≡◌, ◌<◌, ◌≤◌, ◌+◌, length, Ok, Err, MatchResult, OnErr};
 ghost use Rattle.ng_words.specs.Grammar.{assignment, word};
-ghost use Rattle.ng_words.specs.Kept.{pieces_by, tree_by};
+ghost use Rattle.ng_words.specs.LineStorage.{pieces_by, tree_by};
 ghost use Rattle.ng_words.specs.Line.{piece_of};
 ghost use Rattle.ng_expr.specs.Settle.{settled_pieces, settled_of};
 

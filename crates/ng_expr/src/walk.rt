@@ -1,6 +1,6 @@
 //! The value of a tree: one walk over its nodes with a stack of the values found so far.
 ghost use Rattle.std.specs.Prelude.{◌≡◌, ◌<◌, ◌≤◌, ◌+◌, [], ◌∷◌, length, Ok, Err, MatchResult, MatchOption};
-ghost use Rattle.ng_words.specs.Kept.{tree_by, IsTree};
+ghost use Rattle.ng_words.specs.LineStorage.{tree_by, IsTree};
 ghost use Rattle.ng_words.specs.declared.tree.Node.TheVariants as node;
 ghost use Rattle.ng_expr.specs.Value.{apply, join, named, parameter_value, value, written};
 ghost use Rattle.ng_expr.specs.Private.Walk.{after_node, of_one, of_two, onto};

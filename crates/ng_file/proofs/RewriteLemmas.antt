@@ -16,9 +16,9 @@ again place bytes held whole is =
     ∙ ap (λ rest. take place held ++ rest) (sym (drop_split held place (place + 512) (omega arith)))
     ∙ take-append-drop place held
 
--- so there is room for them
-room : (place : ℕ) (bytes held : List ℕ) → length bytes ≡ 512 → bytes ≡ slice_range held place (place + 512) → place + 512 ≤ length held
-room place bytes held whole is =
+-- so they fit
+fits : (place : ℕ) (bytes held : List ℕ) → length bytes ≡ 512 → bytes ≡ slice_range held place (place + 512) → place + 512 ≤ length held
+fits place bytes held whole is =
     let split : length held - place ≡ 512 + length (drop (place + 512) held) =
     sym (length-drop place held)
     ∙ ap length (drop_split held place (place + 512) (omega arith))
@@ -29,15 +29,15 @@ room place bytes held whole is =
 put-again : {T E : Type 0} (r : Result T E) (place : ℕ) (bytes held : List ℕ) (new : Option (List ℕ)) → length bytes ≡ 512
     → bytes ≡ slice_range held place (place + 512) → OnOk r (Put place bytes (Some held) new) → OnErr r (PutInPart place bytes (Some held) new)
     → new ≡ Some held
-put-again (Ok _) place bytes held new whole is put part = put (room place bytes held whole is) ∙ ap Some (again place bytes held whole is)
+put-again (Ok _) place bytes held new whole is put part = put (fits place bytes held whole is) ∙ ap Some (again place bytes held whole is)
 put-again (Err _) place bytes held new whole is put part =
-    elim (part (room place bytes held whole is)) [ inl same ↦ same | inr done ↦ done ∙ ap Some (again place bytes held whole is) ]
+    elim (part (fits place bytes held whole is)) [ inl same ↦ same | inr done ↦ done ∙ ap Some (again place bytes held whole is) ]
 
 -- a write of what was read changes nothing, also where it fails
-pub kept-again : {T E : Type 0} (r : Result T E) (place : ℕ) (bytes : List ℕ) (old between new : Option (List ℕ)) → length bytes ≡ 512
+pub stays-again : {T E : Type 0} (r : Result T E) (place : ℕ) (bytes : List ℕ) (old between new : Option (List ℕ)) → length bytes ≡ 512
     → IfSome old (λ held. bytes ≡ slice_range held place (place + 512)) → between ≡ old → OnOk r (Put place bytes between new)
     → OnErr r (PutInPart place bytes between new) → IfSome old (λ held. new ≡ Some held)
-kept-again r place bytes None between new whole is same put part = tt
-kept-again r place bytes (Some held) between new whole is same put part =
+stays-again r place bytes None between new whole is same put part = tt
+stays-again r place bytes (Some held) between new whole is same put part =
     put-again r place bytes held new whole is (subst (λ (b : Option (List ℕ)). OnOk r (Put place bytes b new)) same put)
     (subst (λ (b : Option (List ℕ)). OnErr r (PutInPart place bytes b new)) same part)

@@ -37,17 +37,17 @@ module _ {S : Type 0} (content : S → Option (List ℕ)) where
 
 other-before : (n m : ℕ) (bytes held : List ℕ) → length bytes ≡ 512 → 512 * n + 512 ≤ length held → m < n
     → sector_of m (with_bytes (512 * n) bytes held) ≡ sector_of m held
-other-before n m bytes held whole room before =
+other-before n m bytes held whole fits before =
     let a = 512 * m in
     let b = 512 * n in
     let rest = bytes ++ drop (b + length bytes) held in
     let few : a + 512 - a ≡ 512 = omega arith in
     ap (λ (xs : List ℕ). take (a + 512 - a) (drop a xs)) (append_assoc (take b held) bytes (drop (b + length bytes) held))
     ∙ ap (λ (w : ℕ). take w (drop a (take b held ++ rest))) few
-    ∙ ap (take 512) (drop-append-le a (take b held) rest (subst (λ (w : ℕ). a ≤ w) (sym (length-take-le b held (omega (arith, room)))) (omega (arith, before))))
+    ∙ ap (take 512) (drop-append-le a (take b held) rest (subst (λ (w : ℕ). a ≤ w) (sym (length-take-le b held (omega (arith, fits)))) (omega (arith, before))))
     ∙ take-append-le 512 (drop a (take b held)) rest
     (subst (λ (w : ℕ). 512 ≤ w)
-    (sym (length-drop a (take b held) ∙ ap (λ (w : ℕ). w - a) (length-take-le b held (omega (arith, room)))))
+    (sym (length-drop a (take b held) ∙ ap (λ (w : ℕ). w - a) (length-take-le b held (omega (arith, fits)))))
     (omega (arith, before)))
     ∙ ap (λ (w : ℕ). take 512 (drop a (take w held))) (sum b a (omega (arith, before)))
     ∙ ap (take 512) (drop-take a (b - a) held)
@@ -59,12 +59,12 @@ other-before n m bytes held whole room before =
 
 other-after : (n m : ℕ) (bytes held : List ℕ) → length bytes ≡ 512 → 512 * n + 512 ≤ length held → n < m
     → sector_of m (with_bytes (512 * n) bytes held) ≡ sector_of m held
-other-after n m bytes held whole room after =
+other-after n m bytes held whole fits after =
     let a = 512 * m in
     let b = 512 * n in
     let tail = drop (b + length bytes) held in
     let long : length (take b held ++ bytes) ≡ b + 512 =
-    length-append (take b held) bytes ∙ ap (λ (w : ℕ). w + length bytes) (length-take-le b held (omega (arith, room))) ∙ ap (λ (w : ℕ). b + w) whole in
+    length-append (take b held) bytes ∙ ap (λ (w : ℕ). w + length bytes) (length-take-le b held (omega (arith, fits))) ∙ ap (λ (w : ℕ). b + w) whole in
     let past : a ≡ length (take b held ++ bytes) + (a - (b + 512)) = omega (arith, long, after) in
     ap (λ (w : ℕ). take (a + 512 - a) (drop w ((take b held ++ bytes) ++ tail))) past
     ∙ ap (take (a + 512 - a)) (drop-append-add (take b held ++ bytes) tail (a - (b + 512)))
@@ -73,20 +73,20 @@ other-after n m bytes held whole room after =
 
 pub put-other : (n m : ℕ) (bytes held : List ℕ) → length bytes ≡ 512 → 512 * n + 512 ≤ length held → m ≢ n
     → sector_of m (with_bytes (512 * n) bytes held) ≡ sector_of m held
-put-other n m bytes held whole room other = elim (either m n other) [
-  | inl before ↦ other-before n m bytes held whole room before
-  | inr after ↦ other-after n m bytes held whole room after
+put-other n m bytes held whole fits other = elim (either m n other) [
+  | inl before ↦ other-before n m bytes held whole fits before
+  | inr after ↦ other-after n m bytes held whole fits after
 ]
   where
     either : (m n : ℕ) → m ≢ n → (m < n) ⊎ (n < m)
     either m n other = grind (arith, other)
 
 pub put-itself : (n : ℕ) (bytes held : List ℕ) → length bytes ≡ 512 → 512 * n + 512 ≤ length held → sector_of n (with_bytes (512 * n) bytes held) ≡ bytes
-put-itself n bytes held whole room =
+put-itself n bytes held whole fits =
     let b = 512 * n in
     let tail = drop (b + length bytes) held in
     let few : b + 512 - b ≡ 512 = omega arith in
-    let at : b ≡ length (take b held) = sym (length-take-le b held (omega (arith, room))) in
+    let at : b ≡ length (take b held) = sym (length-take-le b held (omega (arith, fits))) in
     ap (λ (w : ℕ). take w (drop b (take b held ++ bytes ++ tail))) few
     ∙ ap (λ (xs : List ℕ). take 512 (drop b xs)) (append_assoc (take b held) bytes tail)
     ∙ ap (λ (w : ℕ). take 512 (drop w (take b held ++ (bytes ++ tail)))) at
@@ -112,14 +112,14 @@ faithful-same {count} {old} {new} f same nothing =
     record {
       held = f.held;
       known = same ∙ f.known;
-      room = f.room;
+      fits = f.fits;
       reads_are = f.reads_are ∙ ap (image_of count) (sym same);
       stops = λ n c within may. f.stops n c within (nothing n c may);
     }
 
 pub faithful-hand : {count : ℕ} {bytes : Option (List ℕ)} {promise : Promise} {trace : Trace} (item : Item)
     → IsFaithful count bytes promise trace → IsFaithful count bytes promise (Handed item trace)
-faithful-hand item f = record { held = f.held; known = f.known; room = f.room; reads_are = λ i n. f.reads_are i n; stops = f.stops }
+faithful-hand item f = record { held = f.held; known = f.known; fits = f.fits; reads_are = λ i n. f.reads_are i n; stops = f.stops }
 
 pub faithful-sync : {count : ℕ} {old new : Option (List ℕ)} {before after : Promise} {trace : Trace}
     → IsFaithful count old before trace → new ≡ old → IsDurable new after
@@ -130,7 +130,7 @@ faithful-sync {count} {old} {new} {before} {after} {trace} f same durable =
     record {
       held = f.held;
       known = is;
-      room = f.room;
+      fits = f.fits;
       reads_are = λ i n. (f.reads_are ∙ ap (image_of count) (sym same)) i n;
       stops = λ n c within may. only n c may ∙ sym (reads-sector f n within);
     }
@@ -142,32 +142,32 @@ holds-told n bytes held true is = inl (refl, same_text bytes (sector_of n held) 
 holds-told n bytes held false is = inr (refl, other_text bytes (sector_of n held) is)
 
 length-with : (place : ℕ) (bytes held : List ℕ) → length bytes ≡ 512 → place + 512 ≤ length held → length (with_bytes place bytes held) ≡ length held
-length-with place bytes held whole room =
+length-with place bytes held whole fits =
     let tail = drop (place + length bytes) held in
-    let first : length (take place held) ≡ place = length-take-le place held (omega (arith, room)) in
+    let first : length (take place held) ≡ place = length-take-le place held (omega (arith, fits)) in
     let last : length tail ≡ length held - (place + length bytes) = length-drop (place + length bytes) held in
     let front : length (take place held ++ bytes) ≡ length (take place held) + length bytes = length-append (take place held) bytes in
     let all : length (take place held ++ bytes ++ tail) ≡ length (take place held ++ bytes) + length tail = length-append (take place held ++ bytes) tail in
-    omega (arith, first, last, front, all, whole, room)
+    omega (arith, first, last, front, all, whole, fits)
 
 -- what a write leaves of bytes that are known, whether it failed or not
 pub put-either : {T E : Type 0} (r : Result T E) (place : ℕ) (bytes held : List ℕ) (old new : Option (List ℕ)) → old ≡ Some held → place + 512 ≤ length held
     → OnOk r (Puts place bytes old new) → OnErr r (PutInPart place bytes old new) → (new ≡ Some held) ⊎ (new ≡ Some (with_bytes place bytes held))
-put-either (Ok _) place bytes held old new known room put part =
-    inr (subst (λ (b : Option (List ℕ)). Puts place bytes b new) known put room)
-put-either (Err _) place bytes held old new known room put part =
-    subst (λ (b : Option (List ℕ)). PutInPart place bytes b new) known part room
+put-either (Ok _) place bytes held old new known fits put part =
+    inr (subst (λ (b : Option (List ℕ)). Puts place bytes b new) known put fits)
+put-either (Err _) place bytes held old new known fits put part =
+    subst (λ (b : Option (List ℕ)). PutInPart place bytes b new) known part fits
 
 module _ {count : ℕ} {old : Option (List ℕ)} {before : Promise} {trace : Trace} (new : Option (List ℕ)) (after : Promise) (n : ℕ) (bytes : List ℕ)
     (f : IsFaithful count old before trace) (within : n < count) (besides : MayHoldBesides (512 * n) bytes before after) where
   -- a read returns what was put, and of the other sectors what it did
   wrote : (now : List ℕ) → new ≡ Some now → 512 * count ≤ length now → bytes ≡ sector_of n now → ((m : ℕ) → (m ≡ n → ⊥) → sector_of m now ≡ sector_of m f.held)
       → IsFaithful count new after (Wrote n bytes trace)
-  wrote now known room is others =
+  wrote now known fits is others =
       record {
         held = now;
         known = known;
-        room = room;
+        fits = fits;
         reads_are = λ i m. (each m ∙ ap (λ (b : Option (List ℕ)). image_of count b m) (sym known)) i;
         stops = λ m c inside may. elim (besides n refl m c may) [ inl put ↦ inl put | inr was ↦ inr (f.stops m c inside was) ];
       }
@@ -192,7 +192,7 @@ module _ {count : ℕ} {old : Option (List ℕ)} {before : Promise} {trace : Tra
       record {
         held = f.held;
         known = known;
-        room = f.room;
+        fits = f.fits;
         reads_are = λ i m. (f.reads_are ∙ ap (image_of count) (f.known ∙ sym known)) i m;
         stops = λ m c inside may. elim (besides n refl m c may) [ inl put ↦ inl put | inr was ↦ inr (f.stops m c inside was) ];
       }
@@ -207,8 +207,8 @@ module _ {count : ℕ} {old : Option (List ℕ)} {before : Promise} {trace : Tra
   perhaps-where is = ap (λ (b : Bool). if b then Wrote n bytes trace else Perhaps n bytes trace) is
 
   module _ (whole : length bytes ≡ 512) where
-    room : 512 * n + 512 ≤ length f.held
-    room = omega (arith, f.room, within)
+    fits : 512 * n + 512 ≤ length f.held
+    fits = omega (arith, f.fits, within)
 
     now_held : (now : List ℕ) → new ≡ Some now → (holds n bytes new ≡ holds n bytes (Some now))
     now_held now known = ap (holds n bytes) known
@@ -217,18 +217,18 @@ module _ {count : ℕ} {old : Option (List ℕ)} {before : Promise} {trace : Tra
     pub holds-put : new ≡ Some (with_bytes (512 * n) bytes f.held) → holds n bytes new ≡ true
     holds-put known = elim (holds-told n bytes (with_bytes (512 * n) bytes f.held) (holds n bytes new) (now_held (with_bytes (512 * n) bytes f.held) known)) [
       | inl told ↦ told.0
-      | inr told ↦ absurd (told.1 (sym (put-itself n bytes f.held whole room)))
+      | inr told ↦ absurd (told.1 (sym (put-itself n bytes f.held whole fits)))
     ]
 
     put : new ≡ Some (with_bytes (512 * n) bytes f.held) → IsFaithful count new after put_trace
     put known =
         subst (IsFaithful count new after) (sym (wrote-where (holds-put known)))
-        (wrote (with_bytes (512 * n) bytes f.held) known (subst (λ (k : ℕ). 512 * count ≤ k) (sym (length-with (512 * n) bytes f.held whole room)) f.room)
-        (sym (put-itself n bytes f.held whole room)) (λ m other. put-other n m bytes f.held whole room other))
+        (wrote (with_bytes (512 * n) bytes f.held) known (subst (λ (k : ℕ). 512 * count ≤ k) (sym (length-with (512 * n) bytes f.held whole fits)) f.fits)
+        (sym (put-itself n bytes f.held whole fits)) (λ m other. put-other n m bytes f.held whole fits other))
 
     stayed : new ≡ Some f.held → IsFaithful count new after put_trace
     stayed known = elim (holds-told n bytes f.held (holds n bytes new) (now_held f.held known)) [
-      | inl told ↦ subst (IsFaithful count new after) (sym (wrote-where told.0)) (wrote f.held known f.room told.1 (λ m other. refl))
+      | inl told ↦ subst (IsFaithful count new after) (sym (wrote-where told.0)) (wrote f.held known f.fits told.1 (λ m other. refl))
       | inr told ↦ subst (IsFaithful count new after) (sym (perhaps-where told.0)) (perhaps known)
     ]
 
@@ -244,7 +244,7 @@ module _ {count : ℕ} {old : Option (List ℕ)} {before : Promise} {trace : Tra
 
     -- what the trace says of the write
     pub spec-put : {T E : Type 0} (r : Result T E) → OnOk r (Puts (512 * n) bytes old new) → WriteSpec r n bytes trace put_trace
-    spec-put (Ok _) done = wrote-where (holds-put (subst (λ (b : Option (List ℕ)). Puts (512 * n) bytes b new) f.known done room))
+    spec-put (Ok _) done = wrote-where (holds-put (subst (λ (b : Option (List ℕ)). Puts (512 * n) bytes b new) f.known done fits))
     spec-put (Err _) done = elim (either_trace (holds n bytes new)) [ inl is ↦ inr (inl (is refl)) | inr is ↦ inr (inr is) ]
 
 -- a write of a sector, whether it failed or not
@@ -253,7 +253,7 @@ pub faithful-write : {T E : Type 0} {count : ℕ} {old new : Option (List ℕ)} 
     → OnOk r (Puts (512 * n) bytes old new) → OnErr r (PutInPart (512 * n) bytes old new)
     → IsFaithful count new after (if holds n bytes new then Wrote n bytes trace else Perhaps n bytes trace)
 faithful-write {count = count} {old} {new} {after = after} r n bytes f within besides whole put part =
-    faithful-put new after n bytes f within besides whole (put-either r (512 * n) bytes f.held old new f.known (omega (arith, f.room, within)) put part)
+    faithful-put new after n bytes f within besides whole (put-either r (512 * n) bytes f.held old new f.known (omega (arith, f.fits, within)) put part)
 
 -- ---- the same of sectors, as the calls leave them
 
@@ -351,16 +351,16 @@ module _ {S : Type 0} (content : S → Option (List ℕ)) (promise : S → Promi
 -- ---- what a device owes of its extent
 
 sector-whole : (count n : ℕ) (held : List ℕ) → 512 * count ≤ length held → n < count → 0 < length (sector_of n held)
-sector-whole count n held room within =
+sector-whole count n held fits within =
     let some : length (drop (512 * n) held) ≡ length held - 512 * n = length-drop (512 * n) held in
     let few : 512 * n + 512 - 512 * n ≡ 512 = omega arith in
     subst (λ (k : ℕ). 0 < length (take k (drop (512 * n) held))) (sym few)
-    (subst (λ (k : ℕ). 0 < k) (sym (length-take-le 512 (drop (512 * n) held) (omega (arith, some, room, within)))) (omega arith))
+    (subst (λ (k : ℕ). 0 < k) (sym (length-take-le 512 (drop (512 * n) held) (omega (arith, some, fits, within)))) (omega arith))
 
 pub extent : {count : ℕ} {bytes : Option (List ℕ)} {promise : Promise} {trace : Trace} → IsFaithful count bytes promise trace → HasExtent count (reads trace)
 extent {count} {bytes} {promise} {trace} f =
     record {
-      within = λ n lt. subst (λ (c : List ℕ). 0 < length c) (sym (reads-sector f n lt)) (sector-whole count n f.held f.room lt);
+      within = λ n lt. subst (λ (c : List ℕ). 0 < length c) (sym (reads-sector f n lt)) (sector-whole count n f.held f.fits lt);
       past = λ n le. ap (λ (image : ℕ → List ℕ). image n) (f.reads_are ∙ ap (image_of count) f.known) ∙ outside count n (sector_of n f.held) le;
     }
   where

@@ -56,7 +56,7 @@ begun s = get_or s.files 0 s.file
 pub record IsFaithful (count : ℕ) (bytes : Option (List ℕ)) (promise : Promise) (trace : Trace) : Type 0 where
   pub held : List ℕ
   pub known : bytes ≡ Some held
-  pub room : 512 * count ≤ length held
+  pub fits : 512 * count ≤ length held
   pub reads_are : reads trace ≡ image_of count bytes
   pub stops : (n : ℕ) (c : List ℕ) → n < count → promise.may_hold n c → MayHold trace n c
 

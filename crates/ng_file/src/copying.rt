@@ -77,7 +77,7 @@ fn copy_sector<S: Storage, A: Allocator + Copy + Drop>(
     sector: usize,
 ) -> io::Result<bool>
     requires within { sector < sector_count copy.old }
-    requires room { 512 * sector < 2 ^ 64 }
+    requires fits { 512 * sector < 2 ^ 64 }
     ensures same { OnOk result (IfSome (S.content file.old) (λ held.
         reads (trace_of copy.new) sector ≡ sector_of sector held)) }
     ensures others { (n : ℕ) → n ≢ sector → reads (trace_of copy.new) n ≡ reads (trace_of copy.old) n }

@@ -10,11 +10,11 @@ use std::io;
 /// Appends zeros to a file until it has this many bytes, and makes all of it durable (own). A file with as many bytes
 /// or more isn't changed.
 ///
-/// The zeros are written, so the disk has room for them. So is the last sector of a file that is long enough, again as
+/// The zeros are written, so the disk holds them. So is the last sector of a file that is long enough, again as
 /// it is read, since a sync of an earlier call may have failed (`rewrite`). After an error the file may have any number
 /// of the zeros that it lacked, and may not be durable.
 pub fn lengthen<S: Append>(file: &mut S, bytes: u64) -> io::Result<()>
-    ensures lasts { OnOk result (IfSome (S.lasting file.new) (λ kept. S.content file.new ≡ Some kept)) }
+    ensures lasts { OnOk result (IfSome (S.lasting file.new) (λ held. S.content file.new ≡ Some held)) }
     ensures whole { OnOk result (Lengthened bytes (S.content file.old) (S.content file.new)) }
     ensures part { OnErr result (LengthenedInPart bytes (S.content file.old) (S.content file.new)) }
 {

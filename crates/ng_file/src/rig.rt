@@ -9,7 +9,7 @@ use std::alloc::Allocator;
 use std::io;
 use std::io::Write;
 
-/// Room for the line of any item.
+/// The most bytes of the line of any item.
 const LINE: usize = 64;
 
 /// A device whose sectors are those of a file, and whose hand-outs are lines appended to a writer.
@@ -146,7 +146,7 @@ impl<S: Storage + Drop, W: Write + Drop, A: Allocator + Copy + Drop> Rig for Fil
 
     /// Fails if the file does. If it succeeds, everything in the file is durable.
     fn sync(&mut self) -> Result<(), Failed>
-        ensures lasts { OnOk result (IfSome (S.lasting (storage self.new)) (λ kept. S.content (storage self.new) ≡ Some kept)) }
+        ensures lasts { OnOk result (IfSome (S.lasting (storage self.new)) (λ held. S.content (storage self.new) ≡ Some held)) }
         ensures stays { (S.content (storage self.new) ≡ S.content (storage self.old)) × (outlet self.new ≡ outlet self.old) }
         ensures trace { IfHonest (device_of S.content S.promise self.old) (device_of S.content S.promise self.new)
             (SyncSpec result (trace_of S.content self.old.sectors) (trace_of S.content self.new.sectors)) }

@@ -126,7 +126,7 @@ impl<S: Storage + Drop> Sectors<S> {
 
     /// Makes what was written durable. Fails if the file does.
     pub(crate) fn sync(&mut self) -> io::Result<()>
-        ensures lasts { OnOk result (IfSome (S.lasting self.new.file) (λ kept. S.content self.new.file ≡ Some kept)) }
+        ensures lasts { OnOk result (IfSome (S.lasting self.new.file) (λ held. S.content self.new.file ≡ Some held)) }
         ensures bytes { S.content self.new.file ≡ S.content self.old.file }
         ensures trace { SyncSpec result (trace_of S.content self.old) (trace_of S.content self.new) }
         ensures count { self.new.count ≡ self.old.count }

@@ -42,7 +42,7 @@ pub trait Storage {
 
     /// Makes what was written durable. No call of this trait changes the length.
     fn sync(&mut self) -> io::Result<()>
-        ensures lasts { OnOk result (IfSome (lasting self.new) (λ kept. content self.new ≡ Some kept)) }
+        ensures lasts { OnOk result (IfSome (lasting self.new) (λ held. content self.new ≡ Some held)) }
         ensures bytes { content self.new ≡ content self.old }
         ensures promised { IfPromised (promise self.old) (promise self.new) (HoldsNothingNew (promise self.old) (promise self.new)) }
         ensures durable { (promise self.old).honest → OnOk result (IsDurable (content self.new) (promise self.new)) };
@@ -57,6 +57,6 @@ pub trait Append: Storage {
 
     /// Makes everything durable, the length too.
     fn sync_all(&mut self) -> io::Result<()>
-        ensures lasts { OnOk result (IfSome (Self.lasting self.new) (λ kept. Self.content self.new ≡ Some kept)) }
+        ensures lasts { OnOk result (IfSome (Self.lasting self.new) (λ held. Self.content self.new ≡ Some held)) }
         ensures bytes { Self.content self.new ≡ Self.content self.old };
 }

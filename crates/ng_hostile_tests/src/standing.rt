@@ -113,7 +113,7 @@ fn copy_of(stored: &Stored<Global>) -> Result<Stored<Global>, AllocError> {
         state,
         place: stored.place,
         length: stored.length,
-        room: stored.room,
+        program_limit: stored.program_limit,
         half: None,
         tools: stored.tools.copy(),
     })
@@ -127,9 +127,9 @@ impl Standing {
 
     /// What a formatted device with this many sectors stands for.
     pub fn fresh_on(alloc: Global, sectors: usize) -> Result<Standing, AllocError> {
-        let room = if sectors >= 5_806 { 1_048_576 } else { 131_072 };
+        let program_limit = if sectors >= 5_806 { 1_048_576 } else { 131_072 };
         Ok(Standing {
-            stored: Stored::fresh(alloc, room)?,
+            stored: Stored::fresh(alloc, program_limit)?,
             half: None,
             program: Program { text: "", times: 1 },
             items: Vec::new(alloc),
@@ -166,9 +166,9 @@ impl Standing {
         self.stored.tools = Settings::standard().tools;
     }
 
-    /// The device becomes a large one, with more room for a program.
+    /// The device becomes a large one, with a greater program limit.
     pub fn grow(&mut self) {
-        self.stored.room = 1_048_576;
+        self.stored.program_limit = 1_048_576;
     }
 
     /// A device that hasn't handed out anything is powered on.
@@ -305,7 +305,7 @@ impl Standing {
         stored.entries == self.stored.entries
             && stored.place == self.stored.place
             && stored.length == self.stored.length
-            && stored.room == self.stored.room
+            && stored.program_limit == self.stored.program_limit
             && stored.state.modal == self.stored.state.modal
     }
 

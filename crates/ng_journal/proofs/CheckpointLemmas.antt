@@ -15,7 +15,7 @@ use Rattle.ng_rig.proofs.WritesOnlyLemmas.{reads_blend, only_sync, only_wider}
 use Rattle.ng_layout.specs.declared.header.Format.TheVariants.{One, Two}
 use Rattle.ng_layout.specs.declared.header.Header.{Header}
 use Rattle.ng_layout.specs.Fields.{number_at}
-use Rattle.ng_layout.specs.Header.{header_in, program_room, IsValidHeader}
+use Rattle.ng_layout.specs.Header.{header_in, program_limit_of, IsValidHeader}
 use Rattle.ng_layout.specs.Sectors.{program_text}
 use Rattle.ng_layout.specs.Snapshot.{HoldsPart, HoldsToolPart}
 use Rattle.ng_layout.specs.Spare.{IsAmong}
@@ -198,7 +198,7 @@ new_image old mid header new saved bytes r image there others =
           (stretch (tools_first new.epoch) tools_size image)) ∙ snap;
       program = λ i. program_text (r.long i) (text i);
       long = sym r.long;
-      room = r.fits.limit ∙ ap program_room (sym (same_now ∙ same_mid));
+      program_limit = r.fits.program_limit ∙ ap program_limit_of (sym (same_now ∙ same_mid));
     }
 
 -- a stop with the header unsynced

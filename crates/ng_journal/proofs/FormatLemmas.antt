@@ -15,7 +15,7 @@ use Rattle.ng_layout.specs.Tools.{tools_in, lengths_in}
 use Rattle.ng_layout.specs.declared.header.Format.{Format}
 use Rattle.ng_layout.specs.declared.header.Format.TheVariants.{Two}
 use Rattle.ng_layout.specs.declared.header.Header.{Header}
-use Rattle.ng_layout.specs.Header.{HoldsHeader, IsValidHeader, header_at, is_marked, is_valid_header, header_by, header_in, program_room}
+use Rattle.ng_layout.specs.Header.{HoldsHeader, IsValidHeader, header_at, is_marked, is_valid_header, header_by, header_in, program_limit_of}
 use Rattle.ng_layout.specs.Areas.{shortest_log, snapshot_first, snapshot_size, tools_first, tools_size, program_first, program_size, log_first}
 use Rattle.ng_layout.specs.Sectors.{program_text}
 use Rattle.ng_layout.specs.Snapshot.{HoldsPart}
@@ -73,9 +73,9 @@ made_written image saved m = record { past = λ n lt. let e = m.log n lt in omeg
 
 -- it stands for what was written, and its log is empty
 made_ends : (image : Image) (saved : StoredModel) → IsMade image saved → saved.length ≡ 0 → saved.tools ≡ []
-    → length saved.setup.params ≡ 5399 → saved.room ≡ program_room (is_large image)
+    → length saved.setup.params ≡ 5399 → saved.program_limit ≡ program_limit_of (is_large image)
     → EndsIn image first_header (record { saved = saved; program = [] }) no_records
-made_ends image saved m long none table limit =
+made_ends image saved m long none table program_limit =
     let row = stretch (snapshot_first 1) snapshot_size image in
     let parts : (j : ℕ) → j < snapshot_size → HoldsPart saved j (row j) = λ j lt.
     subst (HoldsPart saved j) (sym (stretch-at (snapshot_first 1) snapshot_size image j lt)) (m.parts j lt) in
@@ -95,7 +95,7 @@ made_ends image saved m long none table limit =
       };
       program = no_text (stretch (program_first 0) (program_size 0) image);
       long = long;
-      room = limit;
+      program_limit = program_limit;
     }
 
 -- The four stretches, written one after another.
@@ -176,11 +176,11 @@ pub record Begins {T E : Type 0} (result : Result T E) (saved : StoredModel) (ol
 -- and after the last sync
 pub finished : {T E : Type 0} (result : Result T E) (saved : StoredModel) (old a b x c synced wrote last : Trace)
     (bytes : List ℕ) → Steps saved old a b x c → saved.length ≡ 0 → saved.tools ≡ []
-    → length saved.setup.params ≡ 5399 → saved.room ≡ program_room (is_large (reads old))
+    → length saved.setup.params ≡ 5399 → saved.program_limit ≡ program_limit_of (is_large (reads old))
     → ((large : Bool) → IsValidHeader large first_header → header_in large 1 bytes ≡ Some first_header)
     → HoldsHeader first_header bytes → synced ≡ Synced c → wrote ≡ Wrote 1 bytes synced → SyncSpec result wrote last
     → Begins result saved old last
-finished {T = T} {E = E} result saved old a b x c synced wrote last bytes s long none table limit header holds is
+finished {T = T} {E = E} result saved old a b x c synced wrote last bytes s long none table program_limit header holds is
     is_written done = go result (subst (λ (l : Trace). SyncSpec result l last) whole done)
   where
     whole : wrote ≡ Wrote 1 bytes (Synced c)
@@ -201,7 +201,7 @@ finished {T = T} {E = E} result saved old a b x c synced wrote last bytes s long
           writes = first_sync ok saved old (Wrote 1 bytes (Synced c)) last upto same;
           at = subst (λ (l : Trace). IsAtEnd l first_header (record { saved = saved; program = [] }) no_records) (sym same) (record {
             synced = is_synced (Wrote 1 bytes (Synced c));
-            image = made_ends image saved m long none table (limit ∙ ap program_room (sym (as_large saved old a b x c bytes s)));
+            image = made_ends image saved m long none table (program_limit ∙ ap program_limit_of (sym (as_large saved old a b x c bytes s)));
           });
           laid = subst (λ (l : Trace). IsLaidOut first_header saved (reads l)) (sym same)
               (laid_out first_header saved bytes c s.parts

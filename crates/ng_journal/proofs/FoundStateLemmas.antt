@@ -9,7 +9,7 @@ use Rattle.ng_layout.proofs.ImageLemmas.{under}
 use Rattle.ng_layout.specs.Log.{LogPosition, after_step, next, run, with_record}
 use Rattle.ng_layout.specs.Decoding.{and_then}
 use Rattle.ng_layout.specs.Sectors.{program_text}
-use Rattle.ng_layout.specs.Header.{program_room}
+use Rattle.ng_layout.specs.Header.{program_limit_of}
 use Rattle.ng_layout.specs.Stands.{is_large, by_header, in_force, snapshot, standing, durable_state_under, stands, stretch}
 use Rattle.ng_layout.specs.Stored.{StoredModel}
 use Rattle.ng_log.specs.declared.log_end.LogEnd.{LogEnd}
@@ -25,7 +25,7 @@ pub none_found : (image : Image) (h : Option Header) → h ≡ in_force image �
 unfolding stands
 none_found image h is none =
     let e : in_force image ≡ None = sym is ∙ none in
-    λ i. by_header (e i) (λ x. durable_state_under (program_room (is_large image)) x
+    λ i. by_header (e i) (λ x. durable_state_under (program_limit_of (is_large image)) x
     (stretch (snapshot_first x.epoch) snapshot_size image) (stretch (tools_first x.epoch) tools_size image)
     (stretch (program_first x.area) (program_size x.area) image) (stretch log_first (log_size_of x) image))
 
@@ -59,10 +59,10 @@ damage_found image h header whole saved is some read broken =
     let log = stretch log_first (log_size_of header) image in
     let text = program_text header.length (stretch (program_first header.area) (program_size header.area) image) in
     under image header force
-    ∙ (λ i. standing (program_room (is_large image))
+    ∙ (λ i. standing (program_limit_of (is_large image))
     (run (log_size_of header) header.format header.length log header.epoch
     (record { at = 0; number = 0; found = damaged i })).found text header.length)
-    ∙ (λ i. standing (program_room (is_large image))
+    ∙ (λ i. standing (program_limit_of (is_large image))
     (run_none (log_size_of header) header.format header.length log header.epoch
     (record { at = 0; number = 0; found = None }) refl i) text header.length)
 
@@ -88,14 +88,14 @@ log_damaged image header snap saved found s none r = run-damaged image header sn
 -- everything is found
 pub all_found : (image : Image) (header : Header) (snap saved : StoredModel) (found : Option LogEnd) (end : LogEnd)
     → Snapped image header snap → found ≡ Some end → end.sector ≤ log_size_of header
-    → IsRunOf header snap saved image found → saved.room ≡ program_room (is_large image)
+    → IsRunOf header snap saved image found → saved.program_limit ≡ program_limit_of (is_large image)
     → StandsUnder header saved image
-all_found image header snap saved found end s some room r limit =
+all_found image header snap saved found end s some room r program_limit =
     let run : IsRunOf header snap saved image (Some end) = subst (λ (o : Option LogEnd). IsRunOf header snap saved image o) some r in
     record {
       force = s.force;
-      state = run-stands image header snap saved end s.force s.is.0 room run limit
+      state = run-stands image header snap saved end s.force s.is.0 room run program_limit
           ∙ (λ i. Ok (record { saved = saved; program = program_text (sym run.1 i) (stretch (program_first header.area) (program_size header.area) image) }));
       long = run.1;
-      room = limit;
+      program_limit = program_limit;
     }

@@ -3,7 +3,7 @@ pub mod SnapshotAloneLemmas
 pub mod FoundStateLemmas
 pub mod FirstKindReadLemmas
 pub mod WrittenSectorLemmas
-pub mod ProgramRoomLemmas
+pub mod ProgramLimitLemmas
 pub mod LineReadLemmas
 pub mod MigrationLemmas
 pub mod StoredChangeLemmas

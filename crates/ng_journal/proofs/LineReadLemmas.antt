@@ -24,16 +24,16 @@ use Rattle.ng_text.specs.Programs.{ProgramLineModel, span, next_line_start, firs
 use Rattle.ng_text.proofs.PlaceLemmas.{span-newline, span-alone}
 use Rattle.ng_journal.specs.Private.LineParts.{IsPart, KeepsLineFront, IsEnd, TakesPart}
 
-take_over : (xs ys : List ℕ) (room n : ℕ) → length xs + room ≡ n → take n (xs ++ ys) ≡ xs ++ take room ys
-take_over [] ys room n is = let e : n ≡ room = omega arith in ap (λ (k : ℕ). take k ys) e
-take_over (x ∷ xs) ys room zero is = absurd (omega arith)
-take_over (x ∷ xs) ys room (suc n) is = ap (λ (l : List ℕ). x ∷ l) (take_over xs ys room n (omega arith))
+take_over : (xs ys : List ℕ) (capacity n : ℕ) → length xs + capacity ≡ n → take n (xs ++ ys) ≡ xs ++ take capacity ys
+take_over [] ys capacity n is = let e : n ≡ capacity = omega arith in ap (λ (k : ℕ). take k ys) e
+take_over (x ∷ xs) ys capacity zero is = absurd (omega arith)
+take_over (x ∷ xs) ys capacity (suc n) is = ap (λ (l : List ℕ). x ∷ l) (take_over xs ys capacity n (omega arith))
 
-pub take_min : (ys : List ℕ) (room : ℕ) → take (min (length ys) room) ys ≡ take room ys
-take_min ys room = elim (le_cases (length ys) room) [
-  | inl short ↦ let e : min (length ys) room ≡ length ys = omega arith in ap (λ (k : ℕ). take k ys) e
-      ∙ take_all (length ys) ys (omega arith) ∙ sym (take_all room ys short)
-  | inr long ↦ let e : min (length ys) room ≡ room = omega arith in ap (λ (k : ℕ). take k ys) e
+pub take_min : (ys : List ℕ) (capacity : ℕ) → take (min (length ys) capacity) ys ≡ take capacity ys
+take_min ys capacity = elim (le_cases (length ys) capacity) [
+  | inl short ↦ let e : min (length ys) capacity ≡ length ys = omega arith in ap (λ (k : ℕ). take k ys) e
+      ∙ take_all (length ys) ys (omega arith) ∙ sym (take_all capacity ys short)
+  | inr long ↦ let e : min (length ys) capacity ≡ capacity = omega arith in ap (λ (k : ℕ). take k ys) e
 ]
   where
     le_cases : (m n : ℕ) → (m ≤ n) ⊎ (n ≤ m)
@@ -43,14 +43,14 @@ on_ok : {T E P : Type 0} (r : Result T E) → IsOk r → OnOk r P → P
 on_ok (Ok v) ok p = p
 on_ok (Err e) ok p = absurd (cc)
 
--- bytes kept as far as there is room
-pub kept_more : {T E : Type 0} (r : Result T E) (xs ys new : List ℕ) (room m : ℕ) → room + length xs ≡ 257
-    → m ≡ min (length ys) room → (IsOk r ↔ (length xs + length (take m ys) ≤ 257)) → OnOk r (new ≡ xs ++ take m ys)
+-- bytes taken as far as they fit
+pub head_more : {T E : Type 0} (r : Result T E) (xs ys new : List ℕ) (capacity m : ℕ) → capacity + length xs ≡ 257
+    → m ≡ min (length ys) capacity → (IsOk r ↔ (length xs + length (take m ys) ≤ 257)) → OnOk r (new ≡ xs ++ take m ys)
     → new ≡ take 257 (xs ++ ys)
-kept_more r xs ys new room m is m_is fits ok =
+head_more r xs ys new capacity m is m_is fits ok =
     let short : length (take m ys) ≡ m = length-take-le m ys (omega arith) in
     let e = on_ok r (fits.1 (omega arith)) ok in
-    e ∙ ap (λ (k : ℕ). xs ++ take k ys) m_is ∙ ap (λ (l : List ℕ). xs ++ l) (take_min ys room) ∙ sym (take_over xs ys room 257 (omega arith))
+    e ∙ ap (λ (k : ℕ). xs ++ take k ys) m_is ∙ ap (λ (l : List ℕ). xs ++ l) (take_min ys capacity) ∙ sym (take_over xs ys capacity 257 (omega arith))
 
 pub same_lists : (n : ℕ) (xs ys : List ℕ) → length xs ≡ n → length ys ≡ n → ((k : ℕ) → k < n → get_or xs k 0 ≡ get_or ys k 0) → xs ≡ ys
 same_lists n xs ys long_xs long_ys each = fill_by_all (λ k. get_or ys k 0) xs n 0 long_xs each
@@ -115,12 +115,12 @@ newline_at (b ∷ front) rest = newline_at front rest
 -- a part that goes on after its first line
 pub line_taken : (old new front rest : List ℕ) → HasNoNewline front → new ≡ take 257 (old ++ front)
     → TakesPart old new (front ++ 10 ∷ rest) (Some (length front))
-line_taken old new front rest plain kept =
+line_taken old new front rest plain head =
     let same = take-append_seam front (10 ∷ rest) in (
       subst HasNoNewline (sym same) plain,
       omega (arith, length-append front (10 ∷ rest)),
       newline_at front rest,
-      kept ∙ ap (λ l. take 257 (old ++ l)) (sym same),
+      head ∙ ap (λ l. take 257 (old ++ l)) (sym same),
     )
 
 -- Parts taken one after another.
@@ -134,8 +134,8 @@ take_sum m k xs within =
     ap (λ (l : List ℕ). take (m + k) l) (sym (take-append-drop m xs))
     ∙ take_over (take m xs) (drop m xs) k (m + k) (omega (arith, length-take-le m xs within))
 
-pub none_kept : (rest kept : List ℕ) (n : ℕ) → n ≡ 0 → kept ≡ [] → KeepsLineFront rest n kept
-none_kept rest kept n is none = subst (λ (k : ℕ). KeepsLineFront rest k kept) (sym is) (record { plain = tt; kept_is = none })
+pub none_in_head : (rest head : List ℕ) (n : ℕ) → n ≡ 0 → head ≡ [] → KeepsLineFront rest n head
+none_in_head rest head n is none = subst (λ (k : ℕ). KeepsLineFront rest k head) (sym is) (record { plain = tt; head_is = none })
 
 -- the text from a place on
 abbrev rest_of : List ℕ → ℕ → List ℕ
@@ -152,31 +152,31 @@ front text place start n part p le =
     take_sum m n rest (omega (arith, within_rest text place start part p))
     ∙ ap (λ (l : List ℕ). take m rest ++ l) (sym (take-take n (length part) (drop m rest) le) ∙ ap (λ (l : List ℕ). take n l) (sym p.is))
 
-kept_front : (text old new : List ℕ) (place start n : ℕ) (part : List ℕ) → IsPart text place start part
+head_front : (text old new : List ℕ) (place start n : ℕ) (part : List ℕ) → IsPart text place start part
     → n ≤ length part → KeepsLineFront (rest_of text place) (start - place) old → HasNoNewline (take n part)
     → new ≡ take 257 (old ++ take n part) → KeepsLineFront (rest_of text place) (start - place + n) new
-kept_front text old new place start n part p le so_far plain is =
+head_front text old new place start n part p le so_far plain is =
     let m = start - place in
     let rest = rest_of text place in
     let joined = front text place start n part p le in
     record {
       plain = subst HasNoNewline (sym joined) (HasNoNewline-append (take m rest) (take n part) so_far.plain plain);
-      kept_is = is ∙ ap (λ (l : List ℕ). take 257 (l ++ take n part)) so_far.kept_is
+      head_is = is ∙ ap (λ (l : List ℕ). take 257 (l ++ take n part)) so_far.head_is
           ∙ keep_keep 257 (take m rest) (take n part) ∙ ap (λ (l : List ℕ). take 257 l) (sym joined);
     }
 
-pub part_kept : (text old new : List ℕ) (place n : ℕ) (part : List ℕ) → IsPart text place (512 * n) part
+pub part_in_head : (text old new : List ℕ) (place n : ℕ) (part : List ℕ) → IsPart text place (512 * n) part
     → KeepsLineFront (drop place text) (512 * n - place) old → TakesPart old new part None
     → KeepsLineFront (drop place text) (512 * (n + 1) - place) new
-part_kept text old new place n part p so_far taken =
+part_in_head text old new place n part p so_far taken =
     let rest = rest_of text place in
     let all : take (length part) part ≡ part = take_all (length part) part (omega arith) in
-    let k = kept_front text old new place (512 * n) (length part) part p (omega arith) so_far
+    let k = head_front text old new place (512 * n) (length part) part p (omega arith) so_far
     (subst HasNoNewline (sym all) taken.0) (taken.1 ∙ ap (λ (l : List ℕ). take 257 (old ++ l)) (sym all)) in
     let sum : 512 * n - place + length part ≡ min (length rest) (512 * (n + 1) - place) = omega (arith, p.whole, length-drop place text) in
     let whole : take (512 * n - place + length part) rest ≡ take (512 * (n + 1) - place) rest =
     ap (λ (x : ℕ). take x rest) sum ∙ take_min rest (512 * (n + 1) - place) in
-    record { plain = subst HasNoNewline whole k.plain; kept_is = k.kept_is ∙ ap (λ (l : List ℕ). take 257 l) whole }
+    record { plain = subst HasNoNewline whole k.plain; head_is = k.head_is ∙ ap (λ (l : List ℕ). take 257 l) whole }
 
 pub end_found : (text old new : List ℕ) (place n i : ℕ) (part : List ℕ) → IsPart text place (512 * n) part
     → KeepsLineFront (drop place text) (512 * n - place) old → TakesPart old new part (Some i)
@@ -184,15 +184,15 @@ pub end_found : (text old new : List ℕ) (place n i : ℕ) (part : List ℕ) �
 end_found text old new place n i part p so_far taken =
     let m = 512 * n - place in
     let rest = rest_of text place in (
-      kept_front text old new place (512 * n) i part p (let lt = taken.1 in omega arith) so_far taken.0 taken.3,
+      head_front text old new place (512 * n) i part p (let lt = taken.1 in omega arith) so_far taken.0 taken.3,
       (let lt = taken.1 in omega (arith, within_rest text place (512 * n) part p)),
       sym (get_or-drop m rest i 0) ∙ sym (get_or-take (length part) (drop m rest) i 0 taken.1) ∙ ap (λ (l : List ℕ). get_or l i 0) (sym p.is) ∙ taken.2,
     )
 
-pub all_kept : (rest kept : List ℕ) (n : ℕ) → length rest ≤ n → KeepsLineFront rest n kept → IsEnd rest kept None
-all_kept rest kept n all k =
+pub all_in_head : (rest head : List ℕ) (n : ℕ) → length rest ≤ n → KeepsLineFront rest n head → IsEnd rest head None
+all_in_head rest head n all k =
     let whole : take n rest ≡ take (length rest) rest = take_all n rest all ∙ sym (take_all (length rest) rest (omega arith)) in
-    record { plain = subst HasNoNewline whole k.plain; kept_is = k.kept_is ∙ ap (λ (l : List ℕ). take 257 l) whole }
+    record { plain = subst HasNoNewline whole k.plain; head_is = k.head_is ∙ ap (λ (l : List ℕ). take 257 l) whole }
 
 strip_short : (l : List ℕ) → length l ≤ 257 → take 257 (strip_carriage_return l) ≡ strip_carriage_return l
 strip_short l short = go (slice_index l (length l - 1) == 13)
@@ -208,58 +208,58 @@ strip_long l long = go (slice_index l (length l - 1) == 13)
     go true = take-take 257 (length l - 1) l (omega arith)
     go false = refl
 
-whole_rest : (rest kept : List ℕ) (n : ℕ) → IsEnd rest kept (Some n) → rest ≡ take n rest ++ (10 ∷ drop (suc n) rest)
-whole_rest rest kept n e = parted rest n e.1 (let is = e.2 in grind (arith, nat_tests))
+whole_rest : (rest head : List ℕ) (n : ℕ) → IsEnd rest head (Some n) → rest ≡ take n rest ++ (10 ∷ drop (suc n) rest)
+whole_rest rest head n e = parted rest n e.1 (let is = e.2 in grind (arith, nat_tests))
 
-found_line : (program kept text : List ℕ) (place n : ℕ) → IsEnd (drop place program) kept (Some n)
+found_line : (program head text : List ℕ) (place n : ℕ) → IsEnd (drop place program) head (Some n)
     → take 257 (strip_carriage_return (take n (drop place program))) ≡ text
     → Some (record { text = text; next = place + n + 1 }) ≡ program_line_at program place
 unfolding program_line_at next_line_start
-found_line program kept text place n e is =
+found_line program head text place n e is =
     let rest = drop place program in
     let raw = take n rest in
     let more = drop (suc n) rest in
-    let whole = whole_rest rest kept n e in
+    let whole = whole_rest rest head n e in
     let long : length raw ≡ n = length-take-le n rest (let lt = e.1 in omega arith) in
     let lines_are : lines rest ≡ strip_carriage_return raw ∷ lines more = ap lines whole ∙ lines-newline raw more e.0.plain in
     let spanned : span rest ≡ n + 1 = ap span whole ∙ span-newline raw more e.0.plain ∙ omega (arith, long) in
     let next : place + span rest ≡ place + n + 1 = omega (arith, spanned) in
     sym ((λ i. first_line (lines_are i) (next i)) ∙ ap (λ (l : List ℕ). Some (record { text = l; next = place + n + 1 })) is)
 
-pub short_line : (program kept text : List ℕ) (place n : ℕ) → IsEnd (drop place program) kept (Some n) → n ≤ 257
-    → text ≡ strip_carriage_return kept → Some (record { text = text; next = place + n + 1 }) ≡ program_line_at
+pub short_line : (program head text : List ℕ) (place n : ℕ) → IsEnd (drop place program) head (Some n) → n ≤ 257
+    → text ≡ strip_carriage_return head → Some (record { text = text; next = place + n + 1 }) ≡ program_line_at
     program place
-short_line program kept text place n e short is =
+short_line program head text place n e short is =
     let raw = take n (drop place program) in
     let long : length raw ≡ n = length-take-le n (drop place program) (let lt = e.1 in omega arith) in
-    let kept_is : kept ≡ raw = e.0.kept_is ∙ take_all 257 raw (omega arith) in
-    found_line program kept text place n e (strip_short raw (omega arith) ∙ ap strip_carriage_return (sym kept_is) ∙ sym is)
+    let head_is : head ≡ raw = e.0.head_is ∙ take_all 257 raw (omega arith) in
+    found_line program head text place n e (strip_short raw (omega arith) ∙ ap strip_carriage_return (sym head_is) ∙ sym is)
 
-pub long_line : (program kept text : List ℕ) (place n : ℕ) → IsEnd (drop place program) kept (Some n) → 257 < n
-    → text ≡ kept → Some (record { text = text; next = place + n + 1 }) ≡ program_line_at program place
-long_line program kept text place n e long is =
+pub long_line : (program head text : List ℕ) (place n : ℕ) → IsEnd (drop place program) head (Some n) → 257 < n
+    → text ≡ head → Some (record { text = text; next = place + n + 1 }) ≡ program_line_at program place
+long_line program head text place n e long is =
     let raw = take n (drop place program) in
     let size : length raw ≡ n = length-take-le n (drop place program) (let lt = e.1 in omega arith) in
-    found_line program kept text place n e (strip_long raw (omega arith) ∙ sym e.0.kept_is ∙ sym is)
+    found_line program head text place n e (strip_long raw (omega arith) ∙ sym e.0.head_is ∙ sym is)
 
-alone : (rest kept : List ℕ) (next : ℕ) → 0 < length rest → KeepsLineFront rest (length rest) kept
-    → first_line (lines rest) next ≡ Some (record { text = kept; next = next })
-alone [] kept next some k = absurd (omega arith)
-alone (b ∷ rest) kept next some k =
+alone : (rest head : List ℕ) (next : ℕ) → 0 < length rest → KeepsLineFront rest (length rest) head
+    → first_line (lines rest) next ≡ Some (record { text = head; next = next })
+alone [] head next some k = absurd (omega arith)
+alone (b ∷ rest) head next some k =
     let all : take (length (b ∷ rest)) (b ∷ rest) ≡ b ∷ rest = take_all (length (b ∷ rest)) (b ∷ rest) (omega arith) in
     ap (λ (l : List (List ℕ)). first_line l next) (lines-alone b rest (subst HasNoNewline all k.plain))
-    ∙ ap (λ (l : List ℕ). Some (record { text = l; next = next })) (sym (k.kept_is ∙ ap (λ (l : List ℕ). take 257 l) all))
+    ∙ ap (λ (l : List ℕ). Some (record { text = l; next = next })) (sym (k.head_is ∙ ap (λ (l : List ℕ). take 257 l) all))
 
-pub last_line : (program kept : List ℕ) (place size : ℕ) → length program ≡ size → place < size
-    → IsEnd (drop place program) kept None → Some (record { text = kept; next = size }) ≡ program_line_at program
+pub last_line : (program head : List ℕ) (place size : ℕ) → length program ≡ size → place < size
+    → IsEnd (drop place program) head None → Some (record { text = head; next = size }) ≡ program_line_at program
     place
 unfolding program_line_at next_line_start
-last_line program kept place size long lt k =
+last_line program head place size long lt k =
     let rest = drop place program in
     let all : take (length rest) rest ≡ rest = take_all (length rest) rest (omega arith) in
     let spanned = span-alone rest (subst HasNoNewline all k.plain) in
     let next : place + span rest ≡ size = omega (arith, spanned, length-drop place program) in
-    sym (ap (λ (n : ℕ). first_line (lines rest) n) next ∙ alone rest kept size (omega (arith, length-drop place program)) k)
+    sym (ap (λ (n : ℕ). first_line (lines rest) n) next ∙ alone rest head size (omega (arith, length-drop place program)) k)
 
 empty : (l : List ℕ) → length l ≡ 0 → l ≡ []
 empty [] none = refl
@@ -278,11 +278,11 @@ pub sector_at : (area first n : ℕ) (begun now : Trace) (sector : List ℕ) →
 sector_at area first n begun now sector at lt same is = is ∙ (λ i. reads (same i) (at i + n))
     ∙ sym (stretch-at (program_first area) (program_size area) (reads begun) n lt)
 
-pub end_some : (rest kept : List ℕ) (o : Option ℕ) (n : ℕ) → o ≡ Some n → IsEnd rest kept o → IsEnd rest kept (Some n)
-end_some rest kept o n is e = subst (IsEnd rest kept) is e
+pub end_some : (rest head : List ℕ) (o : Option ℕ) (n : ℕ) → o ≡ Some n → IsEnd rest head o → IsEnd rest head (Some n)
+end_some rest head o n is e = subst (IsEnd rest head) is e
 
-pub end_none : (rest kept : List ℕ) (o : Option ℕ) → o ≡ None → IsEnd rest kept o → IsEnd rest kept None
-end_none rest kept o is e = subst (IsEnd rest kept) is e
+pub end_none : (rest head : List ℕ) (o : Option ℕ) → o ≡ None → IsEnd rest head o → IsEnd rest head None
+end_none rest head o is e = subst (IsEnd rest head) is e
 
 -- The program of the durable state is that of the area in force.
 pub line_in_force : {end : LogEnd} (old : Trace) (header : Header) (standing : DurableState) (place : ℕ)

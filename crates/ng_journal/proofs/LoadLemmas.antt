@@ -15,7 +15,7 @@ use Rattle.ng_layout.specs.Sectors.{program_text, HoldsText}
 use Rattle.ng_layout.specs.Spare.{IsAmong}
 use Rattle.ng_layout.proofs.SpareLemmas.{SameButSpare}
 use Rattle.ng_layout.specs.Areas.{greatest_area, program_first, program_size}
-use Rattle.ng_layout.specs.Header.{longest_in, program_room, IsValidHeader}
+use Rattle.ng_layout.specs.Header.{longest_in, program_limit_of, IsValidHeader}
 use Rattle.ng_layout.specs.Stands.{is_large, stretch, stands}
 use Rattle.ng_layout.specs.Stored.{StoredModel, DurableState}
 use Rattle.ng_layout.proofs.ImageLemmas.{area-most, stretch-at, force-frame, stands-frame, written-frame}
@@ -122,8 +122,8 @@ fits_again old mid synced area header next saved at free w is next_is fits =
     record {
       valid = subst (λ (b : Bool). IsValidHeader b next) (sym large)
           (subst (λ (h : Header). IsValidHeader (is_large (reads old)) h) (sym next_is) fits.valid);
-      limit =
-          fits.limit ∙ ap program_room (sym large);
+      program_limit =
+          fits.program_limit ∙ ap program_limit_of (sym large);
     }
 
 -- the text is in that area

@@ -122,7 +122,7 @@ module _ (tools : List ℤ) (header last : Header) (saved with : StoredModel) (s
       record {
         valid = subst (λ (h : Header). IsValidHeader (is_large (reads old)) h) (sym last_is)
             (record { counted = omega arith; few = omega arith; area = w.area; length = w.length });
-        limit = ap (λ (s : StoredModel). s.room) with_is ∙ sym (ap (λ (s : StoredModel). s.room) saved_is) ∙ b.image.room;
+        program_limit = ap (λ (s : StoredModel). s.program_limit) with_is ∙ sym (ap (λ (s : StoredModel). s.program_limit) saved_is) ∙ b.image.program_limit;
       }
 
   spec : {T E : Type 0} (result : Result T E) → Promised result last with old new → CheckpointSpec result header last with old new

@@ -53,7 +53,7 @@ fits_next {trace = trace} {header = header} next saved at is next_is more =
     record {
       valid = subst (λ (h : Header). IsValidHeader (is_large (reads trace)) h) (sym next_is)
           (record { counted = omega arith; few = omega arith; area = w.area; length = w.length });
-      limit = sym (ap (λ (s : StoredModel). s.room) is) ∙ at.image.room;
+      program_limit = sym (ap (λ (s : StoredModel). s.program_limit) is) ∙ at.image.program_limit;
     }
 
 -- ---- what stops leave
@@ -354,10 +354,10 @@ update-leads was update slot settled is = record {
 pub as_taken : {E : Type 0} (result : Result Tip E) (tip : Tip) (was taken next : StoredModel) (changes : List Change)
     (slot : Option SlotChange) (old new : Trace) → taken ≡ next → LeadsTo was next changes slot
     → ((from : StoredModel) → LeadsTo from taken changes slot
-    → AppendsRecord result (ledger tip from) (record taken { room = from.room }) old new)
-    → AppendsRecord result (ledger tip was) (record next { room = was.room }) old new
+    → AppendsRecord result (ledger tip from) (record taken { program_limit = from.program_limit }) old new)
+    → AppendsRecord result (ledger tip was) (record next { program_limit = was.program_limit }) old new
 as_taken result tip was taken next changes slot old new is leads appends =
-    subst (λ (s : StoredModel). AppendsRecord result (ledger tip was) (record s { room = was.room }) old new) is
+    subst (λ (s : StoredModel). AppendsRecord result (ledger tip was) (record s { program_limit = was.program_limit }) old new) is
     (appends was (subst (λ (s : StoredModel). LeadsTo was s changes slot) (sym is) leads))
 
 -- the tip that a record leaves

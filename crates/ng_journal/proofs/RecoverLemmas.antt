@@ -36,8 +36,8 @@ recovered_all tools journal header saved old new same held r = record {
   renews = r.renews;
   laid = subst (λ (t : Tip). IsLaidOut t.header saved (reads new)) (sym same) r.laid;
   synced = r.synced;
-  kept = λ written.
-      let k = r.kept written in
+  keeps = λ written.
+      let k = r.keeps written in
       record { stops = k.stops; ready = ready-rests tools journal header saved old new same held k.ready };
 }
 
@@ -49,7 +49,7 @@ recovered_nothing tools rig trace = record {
   renews = none_renews tools trace;
   laid = tt;
   synced = tt;
-  kept = λ written. record { stops = stays trace _; ready = tt };
+  keeps = λ written. record { stops = stays trace _; ready = tt };
 }
 
 -- why nothing was recovered
@@ -62,8 +62,8 @@ recovered_failed tools rig e saved old new r =
       renews = r.renews;
       laid = tt;
       synced = tt;
-      kept = λ written.
-          record { stops = (r.kept written).stops; ready = tt };
+      keeps = λ written.
+          record { stops = (r.keeps written).stops; ready = tt };
     }
 
 pub recovered_refused : {R E : Type 0} (tools : List ℤ) (rig : R) (fault : Fault) (saved : StoredModel)
@@ -77,8 +77,8 @@ recovered_refused {R} {E} tools rig fault saved old new refusal = elim refusal [
         renews = r.renews;
         laid = tt;
         synced = tt;
-        kept =
-            λ written. record { stops = (r.kept written).stops; ready = tt };
+        keeps =
+            λ written. record { stops = (r.keeps written).stops; ready = tt };
       })
   | inr (inl is) ↦ subst P (sym is)
       (λ r. record {
@@ -87,8 +87,8 @@ recovered_refused {R} {E} tools rig fault saved old new refusal = elim refusal [
         renews = r.renews;
         laid = tt;
         synced = tt;
-        kept =
-            λ written. record { stops = (r.kept written).stops; ready = tt };
+        keeps =
+            λ written. record { stops = (r.keeps written).stops; ready = tt };
       })
   | inr (inr is) ↦ subst P (sym is)
       (λ r. record {
@@ -97,8 +97,8 @@ recovered_refused {R} {E} tools rig fault saved old new refusal = elim refusal [
         renews = r.renews;
         laid = tt;
         synced = tt;
-        kept =
-            λ written. record { stops = (r.kept written).stops; ready = tt };
+        keeps =
+            λ written. record { stops = (r.keeps written).stops; ready = tt };
       })
 ]
   where

@@ -70,7 +70,7 @@ module _ (tools : List ℤ) where
     renews = none_renews old;
     laid = tt;
     synced = tt;
-    kept = λ written. record { stops = stays old (Same old); ready = tt };
+    keeps = λ written. record { stops = stays old (Same old); ready = tt };
   }
 
   pub exit_unsynced : {E : Type 0} (e : E) (saved : StoredModel) (old new : Trace) → new ≡ old → RestoreSpec tools (Err e) saved old new
@@ -84,7 +84,7 @@ module _ (tools : List ℤ) where
     renews = sync_renews old new is;
     laid = tt;
     synced = tt;
-    kept = λ written. record { stops = subst (λ (l : Trace). IsContinuation old l (Same old)) (sym is) (synced_stops old written); ready = tt };
+    keeps = λ written. record { stops = subst (λ (l : Trace). IsContinuation old l (Same old)) (sym is) (synced_stops old written); ready = tt };
   }
 
   -- or there is a reason why nothing is recovered
@@ -96,7 +96,7 @@ module _ (tools : List ℤ) where
     renews = sync_renews old new is;
     laid = tt;
     synced = tt;
-    kept = λ written. record { stops = subst (λ (l : Trace). IsContinuation old l (Same old)) (sym is) (synced_stops old written); ready = tt };
+    keeps = λ written. record { stops = subst (λ (l : Trace). IsContinuation old l (Same old)) (sym is) (synced_stops old written); ready = tt };
   }
 
   pub exit_found : {E : Type 0} (answer : Result Header Fault) (fault : Fault) (saved : StoredModel)
@@ -210,7 +210,7 @@ module _ (tools : List ℤ) (header : Header) (found saved : StoredModel) (old n
           length =
               omega (arith, long, w.length);
         };
-        limit = ap (λ (s : StoredModel). s.room) closed_is ∙ u.room;
+        program_limit = ap (λ (s : StoredModel). s.program_limit) closed_is ∙ u.program_limit;
       }
 
   done_by : {T E : Type 0} (result : Result T E) (next : Header) (new : Trace) → next ≡ Next header saved
@@ -275,16 +275,16 @@ module _ (tools : List ℤ) (header : Header) (found saved : StoredModel) (old n
         });
       }
 
-  pub within : {T E F : Type 0} (e : E) (result : Result T F) (next : Header) (kept : StoredModel) (new : Trace)
+  pub within : {T E F : Type 0} (e : E) (result : Result T F) (next : Header) (end_state : StoredModel) (new : Trace)
       → next ≡ Next header saved → WritesState next saved now new → Promised result next saved now new
-      → RestoreSpec tools (Err e) kept old new
-  within e result next kept new is_next writes c = record {
+      → RestoreSpec tools (Err e) end_state old new
+  within e result next end_state new is_next writes c = record {
     outcome = tt;
     refused = tt;
     renews = renewed next new is_next writes;
     laid = tt;
     synced = tt;
-    kept = λ written. record { stops = through result new written (done_by result next new is_next written c); ready = tt };
+    keeps = λ written. record { stops = through result new written (done_by result next new is_next written c); ready = tt };
   }
 
   -- what is then made of it in format 2
@@ -318,28 +318,29 @@ module _ (tools : List ℤ) (header : Header) (found saved : StoredModel) (old n
           subst (λ (h : Header). ModernizeSpec tools result h standing mid new) is_next
           (m standing (subst (λ (h : Header). IsBegun mid h standing) (sym is_next) (first written).at) refl)
 
-      pub exit_modern : {G E : Type 0} (e : E) (result : Result Header G) (kept : StoredModel)
-          → StoresModern tools result next saved mid new → Modern result → RestoreSpec tools (Err e) kept old new
-      exit_modern e result kept modern m = record {
+      pub exit_modern : {G E : Type 0} (e : E) (result : Result Header G) (end_state : StoredModel)
+          → StoresModern tools result next saved mid new → Modern result → RestoreSpec tools (Err e) end_state old new
+      exit_modern e result end_state modern m = record {
         outcome = tt;
         refused = tt;
         renews = renewed_again {E = F} v next mid new is_next stores modern.writes;
         laid = tt;
         synced = tt;
-        kept = λ written. record { stops = again result written (made result written m); ready = tt };
+        keeps = λ written. record { stops = again result written (made result written m); ready = tt };
       }
 
-      pub exit_restored : {G E : Type 0} (last : Header) (kept : StoredModel)
+      pub exit_restored : {G E : Type 0} (last : Header) (end_state : StoredModel)
           → StoresModern {E = G} tools (Ok last) next saved mid new → Modern {G = G} (Ok last)
-          → last ≡ modern_by next.format next → kept ≡ saved_beside tools next.format saved
-          → RestoreSpec {E = E} tools (Ok (Ok last)) kept old new
-      exit_restored {G = G} last kept modern m last_is kept_is =
-          let is_kept : kept ≡ saved_beside tools header.format saved = kept_is ∙ ap (λ (h : Header). saved_beside tools h.format saved) is_next in
+          → last ≡ modern_by next.format next → end_state ≡ saved_beside tools next.format saved
+          → RestoreSpec {E = E} tools (Ok (Ok last)) end_state old new
+      exit_restored {G = G} last end_state modern m last_is end_state_is =
+          let is_end_state : end_state ≡ saved_beside tools header.format saved = end_state_is
+          ∙ ap (λ (h : Header). saved_beside tools h.format saved) is_next in
           let is_last : last ≡ modern_by header.format (Next header saved) = last_is ∙ ap (λ (h : Header). modern_by h.format h) is_next in
           let told : Result Header G = Ok last in
           record {
             outcome = (
-              record { program = standing.program; is = target_is ∙ (λ i. Ok (record { saved = sym is_kept i; program = standing.program })) },
+              record { program = standing.program; is = target_is ∙ (λ i. Ok (record { saved = sym is_end_state i; program = standing.program })) },
               record {
                 before = header;
                 force = was;
@@ -349,13 +350,13 @@ module _ (tools : List ℤ) (header : Header) (found saved : StoredModel) (old n
             );
             refused = tt;
             renews = renewed_again {E = F} v next mid new is_next stores modern.writes;
-            laid = subst (λ (s : StoredModel). IsLaidOut last s (reads new)) (sym kept_is) (modern.laid stores.laid);
+            laid = subst (λ (s : StoredModel). IsLaidOut last s (reads new)) (sym end_state_is) (modern.laid stores.laid);
             synced = modern.synced stores.synced;
-            kept = λ written.
+            keeps = λ written.
                 let d = made told written m in
                 record {
                   stops = again told written d;
-                  ready = record { standing = beside_format tools header.format standing; at = d.at; is = target_is; saved_is = is_kept };
+                  ready = record { standing = beside_format tools header.format standing; at = d.at; is = target_is; saved_is = is_end_state };
                 };
           }
         where

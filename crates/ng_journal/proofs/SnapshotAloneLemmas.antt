@@ -18,7 +18,7 @@ begins-empty image header at b is = b.clean 0 (omega arith) is
 pub begins-stand : (image : Image) (header : Header) (at : DurableState) → BeginsIn image header at → stands image ≡ Ok at
 begins-stand image header at b =
     stands-snapshot image header b.force (begins-empty image header at b)
-    ∙ (λ i. standing (sym b.room i) (b.snapshot_is i) (b.program i) (sym b.long i))
+    ∙ (λ i. standing (sym b.program_limit i) (b.snapshot_is i) (b.program i) (sym b.long i))
 
 pub begins-end : (image : Image) (header : Header) (at : DurableState) → header.format ≡ Two → BeginsIn image header at → EndsIn image header at no_records
 begins-end image header at two b =
@@ -39,7 +39,7 @@ begins-end image header at two b =
       };
       program = b.program;
       long = b.long;
-      room = b.room;
+      program_limit = b.program_limit;
     }
 
 pub begun-end : (trace : Trace) (header : Header) (at : DurableState) → header.format ≡ Two → IsBegun trace header at → IsAtEnd trace header at no_records

@@ -18,13 +18,13 @@ use Rattle.ng_journal.specs.Private.SnapshotRead.{IsTableOf, IsToolsOf, IsSnapsh
 
 -- the parameters read, with what the state field says
 abbrev pub taken : List ℤ → List ℤ → DecodedStateModel → ℕ → ℕ → StoredModel
-taken table tools r length room = record {
+taken table tools r length most = record {
   entries = r.entries;
   setup = record { params = table; modal = r.modal };
   tools = tools;
   place = r.place;
   length = length;
-  room = room;
+  program_limit = most;
   half = r.half;
 }
 
@@ -77,10 +77,10 @@ module _ (header : Header) (image : Image) (bytes : List ℕ) (o : Option Decode
           and_then (counted i) (λ params.
           and_then (n i) (λ tools. Some (record { decoded = decoded; params = params; tools = tools }))))
 
-      pub whole_snapshot : (new : StoredModel) (room : ℕ) → IsToolsOf header bytes tools image true
-          → new ≡ taken table tools r header.length room → IsSnapshotOf header new image true
+      pub whole_snapshot : (new : StoredModel) (most : ℕ) → IsToolsOf header bytes tools image true
+          → new ≡ taken table tools r header.length most → IsSnapshotOf header new image true
       unfolding snapshot
-      whole_snapshot new room found after =
+      whole_snapshot new most found after =
           let e = decoded-at (Some r) some in
           let t = tools-at (Some tools) found in
           let made : snapshot header.format header.length row area ≡ Some

@@ -18,10 +18,10 @@ row-at first n image bytes lt is =
     is ∙ ap image place ∙ sym (stretch-at first snapshot_size image (1 + n) (omega arith))
 
 -- one more sector
-pub turn : (first n : ℕ) (begun now after : Trace) (old new : List ℤ) (bytes : List ℕ) → n < 85 → (now ≡ begun)
+pub pass : (first n : ℕ) (begun now after : Trace) (old new : List ℤ) (bytes : List ℕ) → n < 85 → (now ≡ begun)
     × TableTo old n (row_of first (reads begun)) → (after ≡ now) × (bytes ≡ reads now (first + 1 + n))
     → TakesValues old new (64 * n) bytes → (after ≡ begun) × TableTo new (n + 1) (row_of first (reads begun))
-turn first n begun now after old new bytes lt so_far read taken =
+pass first n begun now after old new bytes lt so_far read taken =
     let is : bytes ≡ row_of first (reads begun) (1 + n) = row-at first n (reads begun) bytes lt
     (read.1 ∙ ap (λ (l : Trace). reads l (first + 1 + n)) so_far.0) in (
       read.0 ∙ so_far.0,

@@ -6,7 +6,7 @@ use Rattle.ng_rig.specs.Rig.{Device}
 use Rattle.ng_rig.specs.Trace.{Image, Trace, reads, items}
 use Rattle.ng_rig.specs.Continuation.{IsContinuation, IsSynced}
 use Rattle.ng_layout.specs.declared.header.Header.{Header}
-use Rattle.ng_layout.specs.Header.{program_room, IsValidHeader}
+use Rattle.ng_layout.specs.Header.{program_limit_of, IsValidHeader}
 use Rattle.ng_layout.specs.declared.header.Format.TheVariants.{Two}
 use Rattle.ng_layout.specs.Limits.{greatest_count}
 use Rattle.ng_layout.specs.Areas.{is_large_size, log_size_of, least_size}
@@ -26,9 +26,9 @@ pub record JournalModel (R : Type 0) : Type 0 where
   pub saved : StoredModel
   pub broken : Bool
 
--- What a journal keeps of a state: all but the room for a program, which is that of its device.
-abbrev pub kept_by : {R : Type 0} → JournalModel R → StoredModel → StoredModel
-kept_by journal stored = record stored { room = journal.saved.room }
+-- What a journal keeps of a state: all but the program limit, which is that of its device.
+abbrev pub with_own_limit : {R : Type 0} → JournalModel R → StoredModel → StoredModel
+with_own_limit journal stored = record stored { program_limit = journal.saved.program_limit }
 
 -- The header is of format 2 and names a program of this length. Its log ends here, within its sectors; each record
 -- takes at least one sector.
@@ -39,11 +39,11 @@ pub record IsTip (length : ℕ) (header : Header) (end : LogEnd) : Type 0 where
   pub number : end.number ≤ end.sector
 
 -- What holds of every journal, whatever its device does: its header is valid on a device with this many sectors, and
--- its room is that of such a device.
+-- its program limit is that of such a device.
 pub record IsSteady (sectors : ℕ) (header : Header) (end : LogEnd) (saved : StoredModel) : Type 0 where
-  pub room : least_size ≤ sectors
+  pub least : least_size ≤ sectors
   pub valid : IsValidHeader (is_large_size sectors) header
-  pub limit : saved.room ≡ program_room (is_large_size sectors)
+  pub program_limit : saved.program_limit ≡ program_limit_of (is_large_size sectors)
   pub tip : IsTip saved.length header end
   pub storable : IsStorable saved
   pub count : saved.entries ≤ greatest_count

@@ -60,7 +60,7 @@ pub record RecoverSpec {R : Type 0} (tools : List ℤ) (result : RecoverResult R
   pub renews : Renews tools old new
   pub laid : IfOk result (λ x. IsLaidOut x.0.header x.1 (reads new))
   pub synced : OnOk result (IsSynced new)
-  pub kept : IsWritten (reads old) → JournalKeepsAll tools result old new
+  pub keeps : IsWritten (reads old) → JournalKeepsAll tools result old new
 
 abbrev pub recover_fault : {R : Type 0} → RecoverResult R → Result ℕ Fault
 recover_fault (Ok x) = Ok 0

@@ -118,17 +118,17 @@ pub(crate) fn checkpoint<R: Rig, A: Allocator + Copy + Drop>(
     next: Header,
     stored: &Stored<A>,
 ) -> Result<(), Failed>
-    requires room { least_size ≤ (R.seen rig.old).sectors }
+    requires least { least_size ≤ (R.seen rig.old).sectors }
     requires long { stored.now.length ≡ next.length }
     requires count { stored.now.entries ≤ greatest_count }
     requires storable { IsStorable stored.now }
     requires tools { next.format ≡ One → stored.now.tools ≡ [] }
-    // For any room for a program, since none is written.
+    // For any program limit, since none is written.
     ensures stops { IfHonest (R.seen rig.old) (R.seen rig.new)
-        ((room : ℕ) (header : Header) → IsOwnImage (R.seen rig.old).trace header → next.epoch ≡ header.epoch + 1
+        ((most : ℕ) (header : Header) → IsOwnImage (R.seen rig.old).trace header → next.epoch ≡ header.epoch + 1
         → MayFollow next header (reads (R.seen rig.old).trace)
-        → FitsDevice (reads (R.seen rig.old).trace) next (record stored.now { room = room })
-        → CheckpointSpec result header next (record stored.now { room = room }) (R.seen rig.old).trace (R.seen rig.new).trace) }
+        → FitsDevice (reads (R.seen rig.old).trace) next (record stored.now { program_limit = most })
+        → CheckpointSpec result header next (record stored.now { program_limit = most }) (R.seen rig.old).trace (R.seen rig.new).trace) }
     ensures stores { IfHonest (R.seen rig.old) (R.seen rig.new)
         (StoresState result next stored.now (R.seen rig.old).trace (R.seen rig.new).trace) }
     ensures call { IsCall result (R.seen rig.old) (R.seen rig.new) }

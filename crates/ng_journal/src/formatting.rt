@@ -3,7 +3,7 @@ ghost use Rattle.std.specs.Prelude.{ℕ, ◌≡◌, ◌≤◌, ◌<◌, ◌+◌,
 ghost use Rattle.ng_num.specs.declared.fault.Fault.TheVariants.{DeviceFailed, NotFormatted};
 ghost use Rattle.ng_rig.specs.Calls.{IfHonest, IsCall};
 ghost use Rattle.ng_rig.specs.Trace.{reads};
-ghost use Rattle.ng_layout.specs.Header.{program_room};
+ghost use Rattle.ng_layout.specs.Header.{program_limit_of};
 ghost use Rattle.ng_layout.specs.Stands.{is_large};
 ghost use Rattle.ng_layout.specs.Areas.{is_large_size, header_count, shortest_log, log_first, snapshot_first, snapshot_size, tools_size, least_size};
 ghost use Rattle.ng_layout.specs.Limits.{sector_size};
@@ -59,8 +59,8 @@ fn clear_log<R: Rig>(rig: &mut R) -> Result<(), Failed>
 fn write_fresh_snapshot<R: Rig>(rig: &mut R, first: usize) -> Result<(), Failed>
     requires sectors { least_size ≤ (R.seen rig.old).sectors }
     requires within { first + snapshot_size ≤ least_size }
-    ensures writes { (room : ℕ) → IfHonest (R.seen rig.old) (R.seen rig.new)
-        (Overwrites result first snapshot_size (HoldsPart (fresh_stored room)) (R.seen rig.old).trace (R.seen rig.new).trace) }
+    ensures writes { (most : ℕ) → IfHonest (R.seen rig.old) (R.seen rig.new)
+        (Overwrites result first snapshot_size (HoldsPart (fresh_stored most)) (R.seen rig.old).trace (R.seen rig.new).trace) }
     ensures call { IsCall result (R.seen rig.old) (R.seen rig.new) }
 {
     for part in 0..SNAPSHOT_SIZE {
@@ -87,7 +87,7 @@ fn clear_tools<R: Rig>(rig: &mut R, first: usize) -> Result<(), Failed>
 fn make_fresh<R: Rig>(rig: &mut R) -> Result<(), Failed>
     requires { least_size ≤ (R.seen rig.old).sectors }
     ensures formats { IfHonest (R.seen rig.old) (R.seen rig.new)
-        (FormatSpec result (program_room (is_large (reads (R.seen rig.old).trace))) (R.seen rig.old).trace (R.seen rig.new).trace) }
+        (FormatSpec result (program_limit_of (is_large (reads (R.seen rig.old).trace))) (R.seen rig.old).trace (R.seen rig.new).trace) }
     ensures call { IsCall result (R.seen rig.old) (R.seen rig.new) }
 {
     let header = Header {
@@ -112,8 +112,8 @@ fn make_fresh<R: Rig>(rig: &mut R) -> Result<(), Failed>
 /// it stands for, nor of a stop before Ok, and it has to be formatted again. Only the sectors of the headers, of the
 /// log and of the first epoch's snapshot are written. Nothing is handed out, and nothing is allocated.
 pub fn format<R: Rig>(rig: &mut R) -> Result<(), Fault>
-    ensures formats { let room = program_room (is_large_size (R.seen rig.old).sectors) in least_size ≤ (R.seen rig.old).sectors
-        → IfHonest (R.seen rig.old) (R.seen rig.new) (FormatSpec result room (R.seen rig.old).trace (R.seen rig.new).trace) }
+    ensures formats { let most = program_limit_of (is_large_size (R.seen rig.old).sectors) in least_size ≤ (R.seen rig.old).sectors
+        → IfHonest (R.seen rig.old) (R.seen rig.new) (FormatSpec result most (R.seen rig.old).trace (R.seen rig.new).trace) }
     ensures small { IsErrOf result NotFormatted ↔ ((R.seen rig.old).sectors < least_size) }
     ensures unchanged { IsErrOf result NotFormatted → rig.new ≡ rig.old }
     ensures size { (R.seen rig.new).sectors ≡ (R.seen rig.old).sectors }

@@ -24,7 +24,7 @@ use crate::recovery::restore;
 use crate::storing::{Tip, count_between, store, store_update, take_state};
 use ng_canon::Item;
 use ng_layout::{
-    GREATEST_COUNT, Half, LARGE_SIZE, LEAST_SIZE, Stored, Update, program_room, spare_area,
+    GREATEST_COUNT, Half, LARGE_SIZE, LEAST_SIZE, Stored, Update, program_limit_of, spare_area,
 };
 use ng_num::Fault;
 use ng_offsets::Tools;
@@ -84,7 +84,7 @@ pub fn recover<R: Rig, A: Allocator + Copy + Drop>(
         return Err((Fault::NotFormatted, rig));
     }
     let large = rig.size() >= LARGE_SIZE;
-    let (mut stored, mut kept) = match two_fresh(alloc, program_room(large)) {
+    let (mut stored, mut copy) = match two_fresh(alloc, program_limit_of(large)) {
         Ok(both) => both,
         Err(_) => return Err((Fault::OutOfMemory, rig)),
     };
@@ -94,11 +94,11 @@ pub fn recover<R: Rig, A: Allocator + Copy + Drop>(
         Err(Failed) => Err((Fault::DeviceFailed, rig)),
         Ok(Err(fault)) => Err((fault, rig)),
         Ok(Ok(header)) => {
-            kept.take_over(&stored);
+            copy.take_over(&stored);
             let journal = Journal {
                 rig,
                 tip: Tip::beginning(header),
-                stored: kept,
+                stored: copy,
                 broken: false,
             };
             Ok((journal, stored))
@@ -106,19 +106,22 @@ pub fn recover<R: Rig, A: Allocator + Copy + Drop>(
     }
 }
 
-/// The stored state of a fresh controller on a device with this room, twice: for the journal and for its caller.
+/// The stored state of a fresh controller on a device with this limit, twice: for the journal and for its caller.
 fn two_fresh<A: Allocator + Copy + Drop>(
     alloc: A,
-    room: u64,
+    program_limit: u64,
 ) -> Result<(Stored<A>, Stored<A>), AllocError>
     ensures { IfOk result (λ x. (length x.0.setup.params ≡ parameter_count) × (length x.1.setup.params ≡ parameter_count)
-        × (x.0.tools ≡ []) × (x.0.room ≡ room)) }
+        × (x.0.tools ≡ []) × (x.0.program_limit ≡ program_limit)) }
 {
-    Ok((Stored::fresh(alloc, room)?, Stored::fresh(alloc, room)?))
+    Ok((
+        Stored::fresh(alloc, program_limit)?,
+        Stored::fresh(alloc, program_limit)?,
+    ))
 }
 
 impl<R: Rig, A: Allocator + Copy + Drop> Journal<R, A> {
-    ghost use Rattle.ng_journal.specs.Journal.{JournalModel, JournalCall, IsDurablyAt, JournalHandOutSpec, kept_by};
+    ghost use Rattle.ng_journal.specs.Journal.{JournalModel, JournalCall, IsDurablyAt, JournalHandOutSpec, with_own_limit};
 
     /// The device as it is, without a call to it.
     pub fn into_rig(self) -> R
@@ -142,7 +145,7 @@ impl<R: Rig, A: Allocator + Copy + Drop> Journal<R, A> {
 
     /// Stores an entry (own): the new state, with the same program. It is written as a record after the log's end, with
     /// one write for each part and one sync. If the log has no room for it, the old state is written under the next
-    /// epoch first. The room for a program stays that of the device, whatever the entry says (`kept_by`).
+    /// epoch first. The program limit stays that of the device, whatever the entry says (`with_own_limit`).
     ///
     /// J4 if the entry count would exceed its limit, or if the next epoch is needed and would exceed its limit: then
     /// nothing is changed. J1 if the device failed: then the journal is broken, and the device stands for the old state
@@ -154,9 +157,9 @@ impl<R: Rig, A: Allocator + Copy + Drop> Journal<R, A> {
         requires program { stored.now.length ≡ self.old.saved.length }
         requires tools { IsOneSlotFrom self.old.saved.tools stored.now.tools }
         ensures stores { IfHonest (R.seen self.old.rig) (R.seen self.new.rig)
-            (StoresEntry result (kept_by self.old stored.now) self.old self.new
+            (StoresEntry result (with_own_limit self.old stored.now) self.old self.new
             (R.seen self.old.rig).trace (R.seen self.new.rig).trace) }
-        ensures keeps { OnOk result (KeepsEntry (kept_by self.old stored.now) self.old self.new) }
+        ensures keeps { OnOk result (KeepsEntry (with_own_limit self.old stored.now) self.old self.new) }
         ensures fails { FailsToStore result (Commit stored.now) self.old self.new }
         ensures call { JournalCall R.seen result self.old self.new }
     {
@@ -233,30 +236,30 @@ impl<R: Rig, A: Allocator + Copy + Drop> Journal<R, A> {
     }
 
     /// Stores a program and the state that goes with it (own). The text replaces the program in force, and the log
-    /// begins again. The room for a program stays that of the device, as for `commit`.
+    /// begins again. The program limit stays that of the device, as for `commit`.
     ///
     /// The text is written to program area 1 if area 0 is in force, and else to 0. On a large device it is written to
     /// area 3 if 2 is in force, and else to 2.
     ///
-    /// J5 for more bytes than the device has room for: 131,072, or 1,048,576 on a large device. J4 if the entry count
+    /// J5 for more bytes than the device takes: 131,072, or 1,048,576 on a large device. J4 if the entry count
     /// or the epoch would exceed its limit. In both cases nothing is changed, and the device isn't called. J1 if the
     /// device failed: then the journal is broken, and the device stands for the old state or for the new one. Nothing
     /// is allocated.
     #[tactic(auto, unfolding(crate::specs::Storing::UsesUp))]
     pub fn load_program(&mut self, text: &[u8], stored: &Stored<A>) -> Result<(), Fault>
         requires whole { self.old.broken ≡ false }
-        requires storable { length text.now ≤ self.old.saved.room → IsStorable stored.now }
+        requires storable { length text.now ≤ self.old.saved.program_limit → IsStorable stored.now }
         requires long { stored.now.length ≡ length text.now }
         ensures stores { let area = spare_area (is_large_size (R.seen self.old.rig).sectors) self.old.header.area in
             IfHonest (R.seen self.old.rig) (R.seen self.new.rig)
-            (LoadsProgram result area (record { saved = kept_by self.old stored.now; program = text.now }) self.old self.new
+            (LoadsProgram result area (record { saved = with_own_limit self.old stored.now; program = text.now }) self.old self.new
             (R.seen self.old.rig).trace (R.seen self.new.rig).trace) }
         ensures keeps { let area = spare_area (is_large_size (R.seen self.old.rig).sectors) self.old.header.area in
-            OnOk result (KeepsLoad area (kept_by self.old stored.now) self.old self.new) }
+            OnOk result (KeepsLoad area (with_own_limit self.old stored.now) self.old self.new) }
         ensures fails { FailsToLoad result text.now stored.now self.old self.new }
         ensures call { JournalCall R.seen result self.old self.new }
     {
-        if text.len() as u64 > self.stored.room {
+        if text.len() as u64 > self.stored.program_limit {
             return Err(Fault::ProgramTooLong);
         }
         if self.is_used_up(stored.entries) {

@@ -18,14 +18,14 @@ use ng_rig::{Failed, Rig};
 use ng_text::split_line;
 use std::marker::Model;
 
-/// How many bytes of a line are kept: one more than a line may have.
-pub(crate) const KEPT_LINE: usize = 257;
+/// How many bytes the head of a line has: one more than a line may have.
+pub(crate) const LINE_HEAD: usize = 257;
 
 /// A line of a program (own). Contracts see a `ProgramLineModel`.
 #[derive(Debug, Drop)]
 pub struct ProgramLine {
-    /// Its bytes without the line's end, at most `KEPT_LINE` of them.
-    pub text: ArrayVec<u8, KEPT_LINE>,
+    /// Its bytes without the line's end, at most `LINE_HEAD` of them.
+    pub text: ArrayVec<u8, LINE_HEAD>,
     /// The byte of the program at which the next line begins.
     pub next: u64,
 }
@@ -38,17 +38,17 @@ impl Model for ProgramLine {
     ghost view = { λ l. record { text = l.text.items; next = l.next } };
 }
 
-/// Keeps as many of these bytes as there is room for.
-fn keep(text: &mut ArrayVec<u8, KEPT_LINE>, bytes: &[u8])
-    ensures { text.new.items ≡ take KEPT_LINE (text.old.items ++ bytes.now) }
+/// Keeps as many of these bytes as fit.
+fn keep(text: &mut ArrayVec<u8, LINE_HEAD>, bytes: &[u8])
+    ensures { text.new.items ≡ take LINE_HEAD (text.old.items ++ bytes.now) }
 {
-    let room = text.remaining_capacity();
-    // The result is Ok: there is room for that many bytes.
-    let _ = text.try_extend_from_slice(&bytes[..bytes.len().min(room)]);
+    let capacity = text.remaining_capacity();
+    // The result is Ok: that many bytes fit.
+    let _ = text.try_extend_from_slice(&bytes[..bytes.len().min(capacity)]);
 }
 
 /// Keeps the bytes before the first newline, and returns where that is. If there is none, keeps all bytes.
-fn take_part(text: &mut ArrayVec<u8, KEPT_LINE>, part: &[u8]) -> Option<usize>
+fn take_part(text: &mut ArrayVec<u8, LINE_HEAD>, part: &[u8]) -> Option<usize>
     ensures found { IfSome result (λ end. end < length part.now) }
     ensures taken { TakesPart text.old.items text.new.items part.now result }
 {
@@ -84,7 +84,7 @@ pub(crate) fn part_of(
 }
 
 /// Removes a carriage return at the end.
-fn drop_return(text: &mut ArrayVec<u8, KEPT_LINE>)
+fn drop_return(text: &mut ArrayVec<u8, LINE_HEAD>)
     ensures { text.new.items ≡ strip_carriage_return text.old.items }
 {
     if let Some(b'\r') = text.as_slice().last() {
@@ -99,7 +99,7 @@ fn find_end<R: Rig>(
     area: u64,
     place: usize,
     program_end: usize,
-    text: &mut ArrayVec<u8, KEPT_LINE>,
+    text: &mut ArrayVec<u8, LINE_HEAD>,
 ) -> Result<Option<usize>, Failed>
     requires area { area ≤ greatest_area true }
     requires sectors { program_first area + program_size area ≤ (R.seen rig.old).sectors }
@@ -148,7 +148,7 @@ pub(crate) fn read_line<R: Rig>(
     let mut text = ArrayVec::new();
     match find_end(rig, area, place, program_end, &mut text)? {
         Some(end) => {
-            if end <= KEPT_LINE {
+            if end <= LINE_HEAD {
                 drop_return(&mut text);
             }
             Ok(Some(ProgramLine {

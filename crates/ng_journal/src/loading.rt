@@ -41,7 +41,7 @@ pub(crate) fn load<R: Rig, A: Allocator + Copy + Drop>(
     text: &[u8],
     stored: &Stored<A>,
 ) -> Result<(), Failed>
-    requires room { least_size ≤ (R.seen rig.old).sectors }
+    requires least { least_size ≤ (R.seen rig.old).sectors }
     requires counted { header.epoch < greatest_count }
     requires area { area ≤ greatest_area true }
     requires apart { area ≢ header.area }
@@ -51,9 +51,9 @@ pub(crate) fn load<R: Rig, A: Allocator + Copy + Drop>(
     requires storable { IsStorable stored.now }
     requires long { stored.now.length ≡ length text.now }
     requires format { header.format ≡ Two }
-    // For any room for a program, since none is written.
+    // For any program limit, since none is written.
     ensures stops { IfHonest (R.seen rig.old) (R.seen rig.new)
-        ((room : ℕ) → IsOwnImage (R.seen rig.old).trace header → (let saved = record stored.now { room = room } in
+        ((most : ℕ) → IsOwnImage (R.seen rig.old).trace header → (let saved = record stored.now { program_limit = most } in
         FitsDevice (reads (R.seen rig.old).trace) (next_header header area saved.length) saved
         → LoadSpec result area header (record { saved = saved; program = text.now }) (R.seen rig.old).trace (R.seen rig.new).trace)) }
     ensures stores { IfHonest (R.seen rig.old) (R.seen rig.new)

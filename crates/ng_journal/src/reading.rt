@@ -27,7 +27,7 @@ use std::alloc::Allocator;
 
 /// The header in sector `k`, on a large device or on any other, if it is valid there.
 fn read_header<R: Rig>(rig: &mut R, large: bool, k: u64) -> Result<Option<Header>, Failed>
-    requires room { least_size ≤ (R.seen rig.old).sectors }
+    requires least { least_size ≤ (R.seen rig.old).sectors }
     requires header { k < 2 }
     ensures read { IfHonest (R.seen rig.old) (R.seen rig.new)
         (ReadSpec result (λ image header. header ≡ header_in large k (image k)) (R.seen rig.old).trace (R.seen rig.new).trace) }
@@ -82,7 +82,7 @@ fn read_tools<R: Rig>(
     first: &[u8; SECTOR_BYTES],
     tools: &mut Tools,
 ) -> Result<bool, Failed>
-    requires room { least_size ≤ (R.seen rig.old).sectors }
+    requires least { least_size ≤ (R.seen rig.old).sectors }
     requires none { tools.old ≡ [] }
     ensures read { IfHonest (R.seen rig.old) (R.seen rig.new)
         (ReadSpec result (IsToolsOf header first.now tools.new) (R.seen rig.old).trace (R.seen rig.new).trace) }
@@ -132,9 +132,9 @@ pub(crate) fn read_snapshot<R: Rig, A: Allocator + Copy + Drop>(
     header: Header,
     stored: &mut Stored<A>,
 ) -> Result<bool, Failed>
-    requires room { least_size ≤ (R.seen rig.old).sectors }
-    requires program { header.length ≤ stored.old.room }
-    requires most { stored.old.room ≤ longest_program }
+    requires least { least_size ≤ (R.seen rig.old).sectors }
+    requires program { header.length ≤ stored.old.program_limit }
+    requires most { stored.old.program_limit ≤ longest_program }
     requires long { length stored.old.setup.params ≡ parameter_count }
     requires none { stored.old.tools ≡ [] }
     ensures read { IfHonest (R.seen rig.old) (R.seen rig.new)
@@ -144,7 +144,7 @@ pub(crate) fn read_snapshot<R: Rig, A: Allocator + Copy + Drop>(
     ensures storable { IfOk result (λ is_whole. OnTrue is_whole (IsStorable stored.new)) }
     ensures count { IfOk result (λ is_whole. OnTrue is_whole (stored.new.entries ≤ greatest_count)) }
     ensures long { IfOk result (λ is_whole. OnTrue is_whole (stored.new.length ≡ header.length)) }
-    ensures limit { stored.new.room ≡ stored.old.room }
+    ensures program_limit { stored.new.program_limit ≡ stored.old.program_limit }
     ensures call { IsCall result (R.seen rig.old) (R.seen rig.new) }
 {
     let first = snapshot_first(header.epoch);

@@ -5,7 +5,7 @@ ghost use Rattle.ng_rig.specs.Calls.{IfHonest, IsCall};
 ghost use Rattle.ng_layout.specs.Limits.{greatest_count};
 ghost use Rattle.ng_params.specs.Numbers.{parameter_count};
 ghost use Rattle.ng_layout.specs.Areas.{least_size};
-ghost use Rattle.ng_layout.specs.Header.{program_room};
+ghost use Rattle.ng_layout.specs.Header.{program_limit_of};
 ghost use Rattle.ng_layout.specs.Storable.{IsStorable, IsStorableTools};
 ghost use Rattle.ng_log.specs.Reading.{ReadSpec};
 ghost use Rattle.ng_rig.specs.Trace.{reads};
@@ -29,9 +29,9 @@ fn found<R: Rig, A: Allocator + Copy + Drop>(
     large: bool,
     stored: &mut Stored<A>,
 ) -> Result<Result<Header, Fault>, Failed>
-    requires room { least_size ≤ (R.seen rig.old).sectors }
+    requires least { least_size ≤ (R.seen rig.old).sectors }
     requires large { (R.seen rig.old).honest → is_large (reads (R.seen rig.old).trace) ≡ large }
-    requires limit { stored.old.room ≡ program_room large }
+    requires program_limit { stored.old.program_limit ≡ program_limit_of large }
     requires long { length stored.old.setup.params ≡ parameter_count }
     requires none { stored.old.tools ≡ [] }
     ensures none { IfOk result (λ answer. IfOk answer (λ header. header.format ≡ One → stored.new.tools ≡ [])) }
@@ -39,7 +39,7 @@ fn found<R: Rig, A: Allocator + Copy + Drop>(
         (ReadSpec result (IsRead stored.new) (R.seen rig.old).trace (R.seen rig.new).trace) }
     // Also for a device that isn't honest.
     ensures whole { IfOk result (λ answer. IfOk answer (IsWholeUnder large stored.new)) }
-    ensures limit { stored.new.room ≡ stored.old.room }
+    ensures program_limit { stored.new.program_limit ≡ stored.old.program_limit }
     ensures faults { IfOk result (λ answer. IfErr answer IsRefusal) }
     ensures call { IsCall result (R.seen rig.old) (R.seen rig.new) }
 {
@@ -66,7 +66,7 @@ fn modernize<R: Rig, A: Allocator + Copy + Drop>(
     tools: &Tools,
     stored: &mut Stored<A>,
 ) -> Result<Header, Failed>
-    requires room { least_size ≤ (R.seen rig.old).sectors }
+    requires least { least_size ≤ (R.seen rig.old).sectors }
     requires epoch { header.format ≡ One → header.epoch < greatest_count }
     requires long { stored.old.length ≡ header.length }
     requires count { stored.old.entries ≤ greatest_count }
@@ -80,7 +80,7 @@ fn modernize<R: Rig, A: Allocator + Copy + Drop>(
         → OnOk result (stored.new ≡ saved_beside table header.format stored.old) }
     // Also for a device that isn't honest.
     ensures whole { (large : Bool) → IsWholeUnder large stored.old header → IfOk result (IsWholeUnder large stored.new) }
-    ensures limit { stored.new.room ≡ stored.old.room }
+    ensures program_limit { stored.new.program_limit ≡ stored.old.program_limit }
     ensures call { IsCall result (R.seen rig.old) (R.seen rig.new) }
 {
     match header.format {
@@ -114,19 +114,19 @@ pub(crate) fn restore<R: Rig, A: Allocator + Copy + Drop>(
     tools: &Tools,
     stored: &mut Stored<A>,
 ) -> Result<Result<Header, Fault>, Failed>
-    requires room { least_size ≤ (R.seen rig.old).sectors }
+    requires least { least_size ≤ (R.seen rig.old).sectors }
     requires long { length stored.old.setup.params ≡ parameter_count }
     requires none { stored.old.tools ≡ [] }
     requires tools { IsStorableTools tools.now }
     requires large { (R.seen rig.old).honest → is_large (reads (R.seen rig.old).trace) ≡ large }
-    requires limit { stored.old.room ≡ program_room large }
+    requires program_limit { stored.old.program_limit ≡ program_limit_of large }
     ensures format { IfOk result (λ answer. IfOk answer (λ header. header.format ≡ Two)) }
     ensures restores { IfHonest (R.seen rig.old) (R.seen rig.new)
         ((table : List ℤ) → IsTableOver tools.now table (reads (R.seen rig.old).trace)
         → RestoreSpec table result stored.new (R.seen rig.old).trace (R.seen rig.new).trace) }
     // Also for a device that isn't honest.
     ensures whole { IfOk result (λ answer. IfOk answer (IsWholeUnder large stored.new)) }
-    ensures limit { stored.new.room ≡ stored.old.room }
+    ensures program_limit { stored.new.program_limit ≡ stored.old.program_limit }
     ensures faults { IfOk result (λ answer. IfErr answer IsRefusal) }
     ensures call { IsCall result (R.seen rig.old) (R.seen rig.new) }
 {

@@ -94,15 +94,15 @@ fn slot_of<A: Allocator + Copy + Drop>(
     changed_slot(&stored.tools, update.slot)
 }
 
-/// Takes over all of another state but its room for a program, which stays that of the device. Nothing is allocated.
+/// Takes over all of another state but its program limit, which stays that of the device. Nothing is allocated.
 pub(crate) fn take_state<A: Allocator + Copy + Drop>(stored: &mut Stored<A>, other: &Stored<A>)
     requires own { length stored.old.setup.params ≡ parameter_count }
     requires other { length other.now.setup.params ≡ parameter_count }
-    ensures { stored.new ≡ record other.now { room = stored.old.room } }
+    ensures { stored.new ≡ record other.now { program_limit = stored.old.program_limit } }
 {
-    let room = stored.room;
+    let most = stored.program_limit;
     stored.take_over(other);
-    stored.room = room;
+    stored.program_limit = most;
 }
 
 /// Writes the old state under the next epoch, if the log has no room for a record of this many changes.
@@ -148,7 +148,7 @@ fn append_to<R: Rig, A: Allocator + Copy + Drop>(
     // The room for a program is that of the device.
     ensures appends { IfHonest (R.seen rig.old) (R.seen rig.new)
         ((was : StoredModel) → LeadsTo was stored.now changes.entry slot
-        → AppendsRecord result (ledger tip was) (record stored.now { room = was.room })
+        → AppendsRecord result (ledger tip was) (record stored.now { program_limit = was.program_limit })
         (R.seen rig.old).trace (R.seen rig.new).trace) }
     // Also for a device that isn't honest.
     ensures end { IfOk result (λ t. t ≡ record { header = tip.header; end = end_after tip.end (length changes.entry) }) }
@@ -179,10 +179,10 @@ pub(crate) fn store<'a, R: Rig, A: Allocator + Copy + Drop>(
     requires new { MayStand stored.now }
     requires long { stored.now.length ≡ old.now.length }
     ensures stores { IfHonest (R.seen rig.old) (R.seen rig.new)
-        (StoresNext result (ledger tip old.now) (record stored.now { room = old.now.room })
+        (StoresNext result (ledger tip old.now) (record stored.now { program_limit = old.now.program_limit })
         (R.seen rig.old).trace (R.seen rig.new).trace) }
     // Also for a device that isn't honest.
-    ensures tip { IfOk result (IsTipAfter (ledger tip old.now) (record stored.now { room = old.now.room })) }
+    ensures tip { IfOk result (IsTipAfter (ledger tip old.now) (record stored.now { program_limit = old.now.program_limit })) }
     ensures call { IsCall result (R.seen rig.old) (R.seen rig.new) }
 {
     let slot = slot_between(old, stored);

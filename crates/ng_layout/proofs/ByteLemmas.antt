@@ -9,10 +9,10 @@ use Rattle.std.specs.Int.{w64, cast_signed}
 use Rattle.ng_layout.specs.Fields.{number_at, signed_at, bytes_at, SameBelow, SameFrom, Puts}
 
 -- a number written to a part of a sequence that begins at a position
-module _ (w at x size : ℕ) (xs ys : List ℕ) (sized : length xs ≡ size) (room : at + w ≤ size)
+module _ (w at x size : ℕ) (xs ys : List ℕ) (sized : length xs ≡ size) (inside : at + w ≤ size)
     (is : ys ≡ little_bytes w x ++ drop w (mid_of at (size - at) xs)) where
   front : length (take at xs) ≡ at
-  front = length-take-le at xs (omega (arith, room, sized))
+  front = length-take-le at xs (omega (arith, inside, sized))
 
   put-number : x < 256 ^ w → number_at w at (put_mid at (size - at) xs ys) ≡ x
   unfolding number_at
@@ -27,7 +27,7 @@ module _ (w at x size : ℕ) (xs ys : List ℕ) (sized : length xs ≡ size) (ro
       let k = size - at in
       let mid = mid_of at k xs in
       let post = post_of at k xs in
-      let long : w ≤ length mid = simp (length-take, length-drop) (omega (arith, room, sized)) in
+      let long : w ≤ length mid = simp (length-take, length-drop) (omega (arith, inside, sized)) in
       let all : length (little_bytes w x) ≡ w = length-bytes_low_first 0 w x in
       let tail : drop w ys ≡ drop w mid = ap (λ (l : List ℕ). drop w l) is ∙ drop_at (little_bytes w x) (drop w mid) w all in
       let enough : w ≤ length ys = omega (arith, ap length is, length-append (little_bytes w x) (drop w mid), all) in
@@ -42,7 +42,7 @@ module _ (w at x size : ℕ) (xs ys : List ℕ) (sized : length xs ≡ size) (ro
   pub put : x < 256 ^ w → Puts (number_at w at) at (at + w) x xs (put_mid at (size - at) xs ys)
   put fits = record {
     written = put-number fits;
-    below = record { same = take_put at (size - at) xs ys (omega (arith, room, sized)) };
+    below = record { same = take_put at (size - at) xs ys (omega (arith, inside, sized)) };
     beyond = record { same = put-beyond };
   }
 
@@ -112,11 +112,11 @@ from-drop o at old new s =
 -- bytes copied to a part of a sequence
 pub put-bytes : (n at : ℕ) (xs ys : List ℕ) → at + n ≤ length xs → length ys ≡ n → Puts (bytes_at n at) at (at + n) ys xs (put_mid at (at + n - at) xs ys)
 unfolding bytes_at
-put-bytes n at xs ys room long =
+put-bytes n at xs ys inside long =
     let front : length (take at xs) ≡ at = length-take-le at xs (omega arith) in
     record {
       written = ap (λ (l : List ℕ). take n l) (drop_at (take at xs) (ys ++ post_of at (at + n - at) xs) at front)
           ∙ take_at ys (post_of at (at + n - at) xs) n long;
       below = record { same = take_put at (at + n - at) xs ys (omega arith) };
-      beyond = record { same = drop_put at (at + n) xs ys (omega arith) room (omega arith) };
+      beyond = record { same = drop_put at (at + n) xs ys (omega arith) inside (omega arith) };
     }

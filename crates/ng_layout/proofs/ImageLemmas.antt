@@ -10,7 +10,7 @@ use Rattle.ng_layout.specs.Codes.{format_of}
 use Rattle.ng_layout.specs.declared.header.Format.{Format}
 use Rattle.ng_layout.specs.declared.header.Format.TheVariants.{One, Two}
 use Rattle.ng_layout.specs.declared.header.Header.{Header}
-use Rattle.ng_layout.specs.Header.{header_at, is_marked, header_by, header_in, longest_in, program_room}
+use Rattle.ng_layout.specs.Header.{header_at, is_marked, header_by, header_in, longest_in, program_limit_of}
 use Rattle.ng_layout.specs.Areas.{log_size, log_size_of, shortest_log, tools_first, tools_size, log_first}
 use Rattle.ng_layout.specs.Areas.{snapshot_first, snapshot_size, program_first, program_size, greatest_area}
 use Rattle.ng_layout.specs.Log.{PartHeader, LogPosition, is_part, parts_stand, parts_for, with_record, next, after_step, run}
@@ -290,12 +290,12 @@ program-frame h image base area same m lt = same-at h image base same (program_f
 
 -- what the header in force determines
 pub under : (image : Image) (h : Header) → in_force image ≡ Some h
-    → stands image ≡ durable_state_under (program_room (is_large image)) h
+    → stands image ≡ durable_state_under (program_limit_of (is_large image)) h
     (stretch (snapshot_first h.epoch) snapshot_size image) (stretch (tools_first h.epoch) tools_size image)
     (stretch (program_first h.area) (program_size h.area) image) (stretch log_first (log_size_of h) image)
 unfolding stands
 under image h is = λ i.
-    by_header (is i) (λ x. durable_state_under (program_room (is_large image)) x
+    by_header (is i) (λ x. durable_state_under (program_limit_of (is_large image)) x
     (stretch (snapshot_first x.epoch) snapshot_size image) (stretch (tools_first x.epoch) tools_size image)
     (stretch (program_first x.area) (program_size x.area) image) (stretch log_first (log_size_of x) image))
 
@@ -312,7 +312,7 @@ stands-frame h image base is same =
     (program-frame h image base (omega (arith, within.area, area-most (is_large base))) same) in
     let log = stretch-same log_first (log_size_of h) image base (log-frame h image base same) in
     under image h force
-    ∙ (λ i. durable_state_under (program_room (same.large i)) h (area i) (tools i) (text i) (log i))
+    ∙ (λ i. durable_state_under (program_limit_of (same.large i)) h (area i) (tools i) (text i) (log i))
     ∙ sym (under base h is)
 
 pub written-frame : (h : Header) (image base : Image) → SameButSpare h image base → IsWritten base → IsWritten image
@@ -379,18 +379,18 @@ unfolding run
 one-run zero format length log epoch p none = refl
 one-run (suc n) format length log epoch p none = λ i. after_step (none i) (λ q. run n format length log epoch q) p
 
-pub standing-none : (room : ℕ) (h : Header) (area tools text log : Image) → number_at 8 0 (log 0) ≢ h.epoch
-    → durable_state_under room h area tools text log ≡ standing room (snapshot h.format h.length area tools)
+pub standing-none : (program_limit : ℕ) (h : Header) (area tools text log : Image) → number_at 8 0 (log 0) ≢ h.epoch
+    → durable_state_under program_limit h area tools text log ≡ standing program_limit (snapshot h.format h.length area tools)
     (program_text h.length text) h.length
 unfolding durable_state_under
-standing-none room h area tools text log other =
+standing-none program_limit h area tools text log other =
     let start : LogPosition = record { at = 0; number = 0; found = snapshot h.format h.length area tools } in
     let none = one-run (log_size_of h) h.format h.length log h.epoch start (no-next h.format h.length log h.epoch start refl other) in
-    λ i. standing room (none i).found (program_text h.length text) h.length
+    λ i. standing program_limit (none i).found (program_text h.length text) h.length
 
 -- An image under this header that has no record of its epoch.
 pub stands-snapshot : (image : Image) (h : Header) → in_force image ≡ Some h
-    → number_at 8 0 (image log_first) ≢ h.epoch → stands image ≡ standing (program_room (is_large image))
+    → number_at 8 0 (image log_first) ≢ h.epoch → stands image ≡ standing (program_limit_of (is_large image))
     (snapshot h.format h.length (stretch (snapshot_first h.epoch) snapshot_size image)
     (stretch (tools_first h.epoch) tools_size image))
     (program_text h.length (stretch (program_first h.area) (program_size h.area) image)) h.length
@@ -398,7 +398,7 @@ stands-snapshot image h is other =
     let first : stretch log_first (log_size_of h) image 0 ≡ image (log_first + 0) =
     stretch-at log_first (log_size_of h) image 0 (let short = log-short h.format in omega arith) in
     under image h is
-    ∙ standing-none (program_room (is_large image)) h (stretch (snapshot_first h.epoch) snapshot_size image)
+    ∙ standing-none (program_limit_of (is_large image)) h (stretch (snapshot_first h.epoch) snapshot_size image)
     (stretch (tools_first h.epoch) tools_size image)
     (stretch (program_first h.area) (program_size h.area) image) (stretch log_first (log_size_of h) image)
     (λ e. other (ap (number_at 8 0) (sym first) ∙ e))
@@ -459,10 +459,11 @@ module _ (h : Header) (image base : Image) (is : in_force base ≡ Some h) (same
       (stretch (tools_first h.epoch) tools_size image) (stretch (tools_first h.epoch) tools_size base) one in
       let first : image log_first ≡ base log_first = tail-log 0 (omega arith) in
       stands-snapshot image h tail-force (λ e. other (ap (number_at 8 0) (sym first) ∙ e))
-      ∙ (λ i. standing (program_room (same.large i))
+      ∙ (λ i. standing (program_limit_of (same.large i))
       (snapshot h.format h.length (area i) (stretch (tools_first h.epoch) tools_size image))
       (program_text h.length (text i)) h.length)
-      ∙ (λ i. standing (program_room (is_large base)) (tools i) (program_text h.length (stretch (program_first h.area) (program_size h.area) base)) h.length)
+      ∙ (λ i. standing (program_limit_of (is_large base)) (tools i) (program_text h.length (stretch (program_first h.area)
+      (program_size h.area) base)) h.length)
       ∙ sym (stands-snapshot base h is other)
 
 -- what an image stands for, whatever the table of the settings is

@@ -110,8 +110,8 @@ change_put at index value old mid new low high small p q =
 
 -- what was put from a place on to the end
 pub rest_put : (at k : ℕ) (xs ys : List ℕ) → at ≤ length xs → length xs ≤ at + k → drop at (put_mid at k xs ys) ≡ ys
-rest_put at k xs ys room all =
-    let front : length (take at xs) ≡ at = length-take-le at xs room in
+rest_put at k xs ys fits all =
+    let front : length (take at xs) ≡ at = length-take-le at xs fits in
     let none : post_of at k xs ≡ [] = drop-drop k at xs ∙ drop_all (at + k) xs all in
     drop_at (take at xs) (ys ++ post_of at k xs) at front ∙ ap (λ (l : List ℕ). ys ++ l) none ∙ append-nil ys
 
@@ -124,7 +124,7 @@ whole_put P at k xs ys long holds =
     (subst (P (take k (drop at xs))) (sym (rest_put at k xs ys (omega arith) (omega arith))) holds)
 
 pub front_put : (at k : ℕ) (xs ys : List ℕ) → at ≤ length xs → SameBelow at xs (put_mid at k xs ys)
-front_put at k xs ys room = record { same = take_put at k xs ys room }
+front_put at k xs ys fits = record { same = take_put at k xs ys fits }
 
 -- all changes of a part were put, followed by zeros
 pub holds_changes : (changes : List Change) (k : ℕ) (sector : List ℕ) → length changes ≤ k → k ≤ length changes

@@ -69,9 +69,9 @@ pub record AreTo (rows : List Row) (to k : ℕ) (old new : List ℕ) : Type 0 wh
   pub each : (j : ℕ) (d : Row) → j < k → j < length rows → IsAt (get_or rows j d).0 (get_or rows j d).1 new
   pub beyond : SameFrom (begin (drop k rows) to) old new
 
-pub row-room : (rows : List Row) (to k : ℕ) (d : Row) → follow rows to ≡ true → k < length rows
+pub row-fits : (rows : List Row) (to k : ℕ) (d : Row) → follow rows to ≡ true → k < length rows
     → ends (get_or rows k d) ≤ to
-row-room rows to k d joined lt = omega (arith, end-before rows to k (length rows) d joined lt lt, none-left rows)
+row-fits rows to k d joined lt = omega (arith, end-before rows to k (length rows) d joined lt lt, none-left rows)
   where
     none-left : (rows : List Row) → begin (drop (length rows) rows) to ≡ to
     none-left [] = refl

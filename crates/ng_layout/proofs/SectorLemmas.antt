@@ -32,7 +32,7 @@ signed-zeros at n = rw (number-zeros 8 at n) refl
 
 pub bytes-zeros : (n at size : ℕ) → at + n ≤ size → AreZero n at (replicate size 0)
 unfolding bytes_at
-bytes-zeros n at size room = ap (λ (l : List ℕ). take n l) (drop-replicate at size 0) ∙ take-replicate n (size - at) 0 (omega arith)
+bytes-zeros n at size fits = ap (λ (l : List ℕ). take n l) (drop-replicate at size 0) ∙ take-replicate n (size - at) 0 (omega arith)
 
 -- after this position the sector is like a sector of zeros
 pub zeros-from : (m at : ℕ) (sector : List ℕ) → SameFrom m (replicate 512 0) sector → m ≤ at → at ≤ 512 → AreZero (512 - at) at sector

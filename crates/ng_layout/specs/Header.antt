@@ -21,8 +21,8 @@ abbrev pub longest_in : ℕ → ℕ
 longest_in area = sector_size * program_size area
 
 -- the most bytes of a program on a large device, or on a small one
-abbrev pub program_room : Bool → ℕ
-program_room large = longest_in (greatest_area large)
+abbrev pub program_limit_of : Bool → ℕ
+program_limit_of large = longest_in (greatest_area large)
 
 abbrev pub is_valid_header : Bool → Header → Bool
 is_valid_header large h = nat_le 1 h.epoch && nat_le h.epoch greatest_count && nat_le h.area (greatest_area large) && nat_le h.length (longest_in h.area)

@@ -9,7 +9,7 @@ use Rattle.ng_num.specs.declared.fault.Fault.TheVariants.{NotFormatted, Damaged}
 use Rattle.ng_params.specs.Numbers.{parameter_count}
 use Rattle.ng_layout.specs.Fields.{number_at}
 use Rattle.ng_layout.specs.declared.header.Header.{Header}
-use Rattle.ng_layout.specs.Header.{header_in, program_room}
+use Rattle.ng_layout.specs.Header.{header_in, program_limit_of}
 use Rattle.ng_layout.specs.Decoding.{and_then, decoded_state_of}
 use Rattle.ng_layout.specs.Sectors.{values, program_text}
 use Rattle.ng_layout.specs.Areas.{large_size, snapshot_size, snapshot_first, tools_size, tools_first, program_size}
@@ -54,26 +54,26 @@ snapshot format length row area =
     (λ params. and_then (tools_in format (row 0) area) (λ tools.
     Some (record { decoded = decoded; params = params; tools = tools }))))
 
--- the state that was found, with the program and the room for one
+-- the state that was found, with the program and the limit of one
 abbrev pub standing : ℕ → Option ReplayState → List ℕ → ℕ → Result DurableState Fault
-standing room None program length = Err Damaged
-standing room (Some f) program length = Ok (record {
+standing program_limit None program length = Err Damaged
+standing program_limit (Some f) program length = Ok (record {
   saved = record {
     entries = f.decoded.entries;
     setup = record { params = f.params; modal = f.decoded.modal };
     tools = f.tools;
     place = f.decoded.place;
     length = length;
-    room = room;
+    program_limit = program_limit;
     half = f.decoded.half;
   };
   program = program;
 })
 
--- what a header, its snapshot, its tool area, its program and the log stand for on a device with this room
+-- what a header, its snapshot, its tool area, its program and the log stand for on a device with this program limit
 unfoldable pub durable_state_under : ℕ → Header → (ℕ → List ℕ) → (ℕ → List ℕ) → (ℕ → List ℕ) → (ℕ → List ℕ) → Result DurableState Fault
-durable_state_under room h area tools text log =
-    standing room (run (log_size_of h) h.format h.length log h.epoch
+durable_state_under program_limit h area tools text log =
+    standing program_limit (run (log_size_of h) h.format h.length log h.epoch
     (record { at = 0; number = 0; found = snapshot h.format h.length area tools })).found
     (program_text h.length text) h.length
 
@@ -84,7 +84,7 @@ by_header (Some h) f = f h
 -- what an image stands for by itself; a device of format 1 has no tool table
 unfoldable pub stands : (ℕ → List ℕ) → Result DurableState Fault
 stands image = by_header (in_force image)
-    (λ h. durable_state_under (program_room (is_large image)) h
+    (λ h. durable_state_under (program_limit_of (is_large image)) h
     (stretch (snapshot_first h.epoch) snapshot_size image) (stretch (tools_first h.epoch) tools_size image)
     (stretch (program_first h.area) (program_size h.area) image) (stretch log_first (log_size_of h) image))
 

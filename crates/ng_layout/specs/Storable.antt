@@ -35,5 +35,5 @@ pub record IsStorable (saved : StoredModel) : Type 0 where
   pub modal : IsStorableModalState saved.setup.modal
   pub half : IfSome saved.half IsStorableHalf
   pub place : saved.place ≤ saved.length
-  pub program : saved.length ≤ saved.room
-  pub room : saved.room ≤ longest_program
+  pub program : saved.length ≤ saved.program_limit
+  pub program_limit : saved.program_limit ≤ longest_program

@@ -29,15 +29,15 @@ pub record StoredModel : Type 0 where
   pub tools : List ℤ
   pub place : ℕ
   pub length : ℕ
-  -- the most bytes of a program that the device has room for
-  pub room : ℕ
+  -- the most bytes of a program that the device takes
+  pub program_limit : ℕ
   pub half : Option HalfModel
 
--- a fresh controller on a device with this room
+-- a fresh controller on a device with this program limit
 abbrev pub fresh_stored : ℕ → StoredModel
-fresh_stored room = record { entries = 0; setup = fresh_setup; tools = []; place = 0; length = 0; room = room; half = None }
+fresh_stored program_limit = record { entries = 0; setup = fresh_setup; tools = []; place = 0; length = 0; program_limit = program_limit; half = None }
 
--- what a state field says, with parameters, tools, the length of a program and the room for one
+-- what a state field says, with parameters, tools, the length of a program and the limit of one
 abbrev pub with_decoded_state : StoredModel → DecodedStateModel → ℕ → StoredModel
 with_decoded_state s r length =
     record {
@@ -46,7 +46,7 @@ with_decoded_state s r length =
       tools = s.tools;
       place = r.place;
       length = length;
-      room = s.room;
+      program_limit = s.program_limit;
       half = r.half;
     }
 

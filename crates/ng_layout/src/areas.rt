@@ -4,7 +4,7 @@
 ghost use Rattle.std.specs.Prelude.{true, false, ◌≡◌, ◌≢◌, ◌≤◌, ◌+◌};
 ghost use Rattle.ng_layout.specs.Areas.{least_size, large_size, snapshot_size, snapshot_first, greatest_area};
 ghost use Rattle.ng_layout.specs.Areas.{program_size, program_first, spare_area, tools_size, tools_first};
-ghost use Rattle.ng_layout.specs.Header.{longest_in, program_room};
+ghost use Rattle.ng_layout.specs.Header.{longest_in, program_limit_of};
 
 use crate::sectors::SECTOR_BYTES;
 
@@ -74,8 +74,8 @@ pub(crate) fn longest_in(area: u64) -> u64
 }
 
 /// The most bytes of a program on a large device, or on a small one (own).
-pub fn program_room(is_large: bool) -> u64
-    ensures { result ≡ program_room is_large }
+pub fn program_limit_of(is_large: bool) -> u64
+    ensures { result ≡ program_limit_of is_large }
 {
     longest_in(greatest_area(is_large))
 }
@@ -100,7 +100,7 @@ pub fn spare_area(is_large: bool, area: u64) -> u64
     ensures is { result ≡ spare_area is_large area }
     ensures most { result ≤ greatest_area is_large }
     ensures apart { result ≢ area }
-    ensures room { longest_in result ≡ program_room is_large }
+    ensures program_limit { longest_in result ≡ program_limit_of is_large }
 {
     if !is_large {
         1 - area

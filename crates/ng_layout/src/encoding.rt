@@ -234,7 +234,7 @@ pub(crate) fn encode(
     modal: &ModalState,
     half: Option<&Half>,
 )
-    requires room { field_size ≤ length bytes.old }
+    requires fits { field_size ≤ length bytes.old }
     requires count { entries ≤ greatest_count }
     requires modal { IsStorableModalState modal.now }
     requires half { IfSome half (λ h. IsStorableHalf h.now) }

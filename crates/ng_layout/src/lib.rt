@@ -23,7 +23,7 @@ mod update;
 
 pub use areas::{
     HEADERS, LARGE_SIZE, LEAST_SIZE, LOG_FIRST, LONGEST_LOG, SHORTEST_LOG, SNAPSHOT_SIZE,
-    TOOLS_SIZE, program_first, program_room, snapshot_first, spare_area, tools_first,
+    TOOLS_SIZE, program_first, program_limit_of, snapshot_first, spare_area, tools_first,
 };
 pub use decoding::{DecodedState, GREATEST_COUNT, decode};
 pub use half::{Half, LONGEST_TEXT, Opened, Source, text_from};

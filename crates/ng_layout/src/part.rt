@@ -26,7 +26,7 @@ use ng_offsets::SlotChange;
 use ng_params::{Change, Index, Params};
 use std::alloc::Allocator;
 
-/// How many changes a part has room for.
+/// The most changes of a part.
 pub const PART_CHANGES: usize = 48;
 
 /// The byte of a part at which its content begins.

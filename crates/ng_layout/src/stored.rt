@@ -33,8 +33,8 @@ pub struct Stored<A: Allocator> {
     pub place: u64,
     /// The number of bytes of the program.
     pub length: u64,
-    /// The most bytes of a program that the device has room for.
-    pub room: u64,
+    /// The most bytes of a program that the device takes.
+    pub program_limit: u64,
     pub half: Option<Half>,
 }
 
@@ -49,7 +49,7 @@ impl<A: Allocator> Model for Stored<A> {
       tools = s.tools;
       place = s.place;
       length = s.length;
-      room = s.room;
+      program_limit = s.program_limit;
       half = s.half;
     } };
 }
@@ -58,10 +58,10 @@ impl<A: Allocator + Copy + Drop> Stored<A> {
     ghost use Rattle.ng_layout.specs.Stored.{fresh_stored, with_decoded_state};
     ghost use Rattle.ng_layout.specs.Stands.{closed};
 
-    /// A fresh controller with no program, on a device with this room for one. `AllocError` if there is no memory for
+    /// A fresh controller with no program, on a device with this limit of one. `AllocError` if there is no memory for
     /// the table.
-    pub fn fresh(alloc: A, room: u64) -> Result<Stored<A>, AllocError>
-        ensures value { IfOk result (λ s. s ≡ fresh_stored room) }
+    pub fn fresh(alloc: A, program_limit: u64) -> Result<Stored<A>, AllocError>
+        ensures value { IfOk result (λ s. s ≡ fresh_stored program_limit) }
         ensures table { IfOk result (λ s. length s.setup.params ≡ parameter_count) }
     {
         Ok(Stored {
@@ -70,7 +70,7 @@ impl<A: Allocator + Copy + Drop> Stored<A> {
             tools: Tools::new(),
             place: 0,
             length: 0,
-            room,
+            program_limit,
             half: None,
         })
     }
@@ -87,7 +87,7 @@ impl<A: Allocator + Copy + Drop> Stored<A> {
         }
     }
 
-    /// Takes over what a state field says, for a program of this length. The parameters, the tools and the room stay.
+    /// Takes over what a state field says, for a program of this length. Parameters, tools and program limit stay.
     pub fn take_decoded_state(&mut self, decoded: DecodedState, length: u64)
         ensures { self.new ≡ with_decoded_state self.old decoded length }
     {
@@ -138,13 +138,13 @@ impl<A: Allocator + Copy + Drop> Stored<A> {
         self.entries = other.entries;
         self.place = other.place;
         self.length = other.length;
-        self.room = other.room;
+        self.program_limit = other.program_limit;
         self.half = copy_of(&other.half);
     }
 
     /// Writes the state field to the start of these bytes. All bytes after it stay.
     pub(crate) fn encode(&self, bytes: &mut [u8])
-        requires room { field_size ≤ length bytes.old }
+        requires fits { field_size ≤ length bytes.old }
         requires count { self.now.entries ≤ greatest_count }
         requires storable { IsStorable self.now }
         ensures holds { HoldsDecodedState self.now.length (decoded_state_in self.now) bytes.new }
@@ -193,7 +193,7 @@ impl<A: Allocator + Copy + Drop> Stored<A> {
 /// The sector of a fresh controller's snapshot that holds this part of it. It doesn't allocate.
 pub fn fresh_sector(part: usize) -> [u8; SECTOR_BYTES]
     requires { part < snapshot_size }
-    ensures { (room : ℕ) → HoldsPart (fresh_stored room) part result }
+    ensures { (program_limit : ℕ) → HoldsPart (fresh_stored program_limit) part result }
 {
     if part == 0 {
         fresh_first_sector()
@@ -203,7 +203,7 @@ pub fn fresh_sector(part: usize) -> [u8; SECTOR_BYTES]
 }
 
 fn fresh_first_sector() -> [u8; SECTOR_BYTES]
-    ensures { (room : ℕ) → HoldsPart (fresh_stored room) 0 result }
+    ensures { (program_limit : ℕ) → HoldsPart (fresh_stored program_limit) 0 result }
 {
     let mut sector = [0; SECTOR_BYTES];
     encode(&mut sector, 0, 0, &ModalState::fresh(), None);

@@ -64,7 +64,7 @@ pub(crate) fn lengths_sector(tools: &Tools, first: usize) -> [u8; SECTOR_BYTES]
 /// those before it were appended.
 fn take_lengths(tools: &mut Tools, part: usize, sector: &[u8; SECTOR_BYTES], count: usize) -> bool
     requires count { count ≤ sector_lengths }
-    requires room { sector_lengths * part + count ≤ SLOTS }
+    requires fits { sector_lengths * part + count ≤ SLOTS }
     requires before { length tools.old ≡ sector_lengths * part }
     ensures adds { (area : ℕ → List ℕ) → area part ≡ sector.now → lengths_in area (sector_lengths * part) ≡ Some tools.old
         → MatchBool result (lengths_in area (sector_lengths * part + count) ≡ Some tools.new)

@@ -4,7 +4,7 @@ use Rattle.std.proofs.Math.Seq.{take-append_seam}
 use Rattle.std.specs.Fmt.{decimal}
 use Rattle.ng_canon.specs.declared.item.Item.{Item}
 use Rattle.ng_canon.specs.declared.item.Item.TheVariants.{Pulse, Dwell, Switch}
-use Rattle.ng_lines.specs.Lines.{item_line, slots_text, step_text, turning_text}
+use Rattle.ng_lines.specs.Lines.{item_line, slots_text, step_text, spinning_text}
 
 abbrev EndsLine : List ℕ → Type 0
 EndsLine line = (front : List ℕ) × (line ≡ front ++ codes "\n")
@@ -13,7 +13,7 @@ EndsLine line = (front : List ℕ) × (line ≡ front ++ codes "\n")
 ends_line : (item : Item) → EndsLine (item_line item)
 ends_line (Pulse p) = (codes "P " ++ step_text p.x ++ codes " " ++ step_text p.y ++ codes " " ++ step_text p.z ++ codes " " ++ decimal p.period_us, refl)
 ends_line (Dwell us) = (codes "D " ++ decimal us, refl)
-ends_line (Switch o) = (codes "S " ++ turning_text o ++ slots_text o, refl)
+ends_line (Switch o) = (codes "S " ++ spinning_text o ++ slots_text o, refl)
 
 pub without_end : (item : Item) → (item_line item ≡ take (length (item_line item) - 1) (item_line item) ++ codes "\n") × (0 < length (item_line item))
 without_end item = go (item_line item) (ends_line item)

@@ -32,8 +32,8 @@ abbrev pub pulse_line : Stepping → List ℕ
 pulse_line p = codes "P " ++ step_text p.x ++ codes " " ++ step_text p.y ++ codes " " ++ step_text p.z ++ codes " " ++ decimal p.period_us ++ codes "\n"
 
 -- spindle, speed, mist, flood
-abbrev pub turning_text : Outputs → List ℕ
-turning_text o = spindle_text o.spindle ++ codes " " ++ number_text o.speed ++ (32 ∷ truth_digit o.mist ∷ []) ++ (32 ∷ truth_digit o.flood ∷ 32 ∷ [])
+abbrev pub spinning_text : Outputs → List ℕ
+spinning_text o = spindle_text o.spindle ++ codes " " ++ number_text o.speed ++ (32 ∷ truth_digit o.mist ∷ []) ++ (32 ∷ truth_digit o.flood ∷ 32 ∷ [])
 
 -- selected slot, slot in the spindle
 abbrev pub slots_text : Outputs → List ℕ
@@ -41,7 +41,7 @@ slots_text o = decimal o.selected_slot ++ codes " " ++ decimal o.spindle_slot
 
 -- S and all outputs
 abbrev pub switch_line : Outputs → List ℕ
-switch_line o = codes "S " ++ turning_text o ++ slots_text o ++ codes "\n"
+switch_line o = codes "S " ++ spinning_text o ++ slots_text o ++ codes "\n"
 
 abbrev pub item_line : Item → List ℕ
 item_line (Pulse p) = pulse_line p

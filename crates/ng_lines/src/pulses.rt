@@ -7,10 +7,10 @@ use itoa::write_digits;
 use ng_canon::{AxisStep, Pulse};
 use std::alloc::{AllocError, Allocator};
 
-/// The room for the line of a pulse.
+/// The most bytes of the line of a pulse.
 const LINE: usize = 40;
 
-/// The room for the line of a pulse behind a number and a blank.
+/// The most bytes of the line of a pulse behind a number and a blank.
 const NUMBERED_LINE: usize = 64;
 
 /// Stores a byte at a place.

@@ -1,7 +1,7 @@
 //! Writing the line of an item.
 ghost use Rattle.std.specs.Prelude.{◌≡◌, ◌++◌, ◌∷◌, OnOk};
 ghost use Rattle.std.specs.Fmt.{decimal};
-ghost use Rattle.ng_lines.specs.Lines.{item_line, slots_text, spindle_text, switch_line, truth_digit, turning_text};
+ghost use Rattle.ng_lines.specs.Lines.{item_line, slots_text, spindle_text, switch_line, truth_digit, spinning_text};
 
 use crate::pulses::{push_numbered_pulse, push_pulse};
 use ng_canon::{Item, Outputs, Spindle};
@@ -34,11 +34,11 @@ fn push_dwell<A: Allocator + Copy + Drop>(text: &mut Vec<u8, A>, us: u64) -> Res
 }
 
 /// Appends the spindle and the coolant, and the blank after them.
-fn push_turning<A: Allocator + Copy + Drop>(
+fn push_spinning<A: Allocator + Copy + Drop>(
     text: &mut Vec<u8, A>,
     outputs: &Outputs,
 ) -> Result<(), AllocError>
-    ensures { OnOk result (text.new.items ≡ text.old.items ++ turning_text outputs.now) }
+    ensures { OnOk result (text.new.items ≡ text.old.items ++ spinning_text outputs.now) }
 {
     text.extend_from_slice(spindle_text(outputs.spindle))?;
     text.extend_from_slice(b" ")?;
@@ -66,7 +66,7 @@ fn push_switch<A: Allocator + Copy + Drop>(
     ensures { OnOk result (text.new.items ≡ text.old.items ++ switch_line outputs) }
 {
     text.extend_from_slice(b"S ")?;
-    push_turning(text, &outputs)?;
+    push_spinning(text, &outputs)?;
     push_slots(text, &outputs)?;
     text.extend_from_slice(b"\n")
 }

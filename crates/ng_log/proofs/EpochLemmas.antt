@@ -10,7 +10,7 @@ use Rattle.ng_layout.specs.Areas.{snapshot_first, snapshot_size, tools_first, to
 use Rattle.ng_layout.specs.Log.{ReplayState, LogPosition, run}
 use Rattle.ng_layout.specs.Sectors.{program_text}
 use Rattle.ng_layout.proofs.SpareLemmas.{IsSpare, SameButSpare}
-use Rattle.ng_layout.specs.Header.{program_room}
+use Rattle.ng_layout.specs.Header.{program_limit_of}
 use Rattle.ng_layout.specs.Stands.{is_large, by_header, in_force, IsWritten, snapshot, standing, durable_state_under, stands, stretch}
 use Rattle.ng_layout.specs.Stored.{StoredModel, DurableState}
 use Rattle.ng_layout.proofs.ImageLemmas.{area-most, under, force-frame, force-within, log-frame, none-of-new}
@@ -30,9 +30,9 @@ pub ends-new : (image base : Image) (old new : Header) (saved : StoredModel) (pr
     → snapshot new.format new.length (stretch (snapshot_first new.epoch) snapshot_size image)
     (stretch (tools_first new.epoch) tools_size image) ≡ Some (replay_state_in saved)
     → program_text new.length (stretch (program_first new.area) (program_size new.area) image) ≡ program
-    → saved.length ≡ new.length → saved.room ≡ program_room (is_large image)
+    → saved.length ≡ new.length → saved.program_limit ≡ program_limit_of (is_large image)
     → new.format ≡ Two → EndsIn image new (record { saved = saved; program = program }) no_records
-ends-new image base old new saved program was written now later same snap text long room two = record {
+ends-new image base old new saved program was written now later same snap text long most two = record {
   force = now;
   format = two;
   written = written-new image base old new was now (omega arith) written same;
@@ -49,7 +49,7 @@ ends-new image base old new saved program was written now later same snap text l
   };
   program = text;
   long = long;
-  room = room;
+  program_limit = most;
 }
 
 -- what a run of complete records finds is what the image stands for
@@ -58,16 +58,16 @@ pub run-stands : (image : Image) (header : Header) (old new : StoredModel) (end 
     → snapshot header.format header.length (stretch (snapshot_first header.epoch) snapshot_size image)
     (stretch (tools_first header.epoch) tools_size image) ≡ Some (replay_state_in old)
     → end.sector ≤ log_size_of header → IsRunOf header old new image (Some end)
-    → new.room ≡ program_room (is_large image)
+    → new.program_limit ≡ program_limit_of (is_large image)
     → stands image ≡ Ok (record { saved = new; program = program_text header.length (stretch (program_first header.area) (program_size header.area) image) })
-run-stands image header old new end force snap room r limit =
+run-stands image header old new end force snap room r program_limit =
     let l : IsLongest header.format header.length (log_of header image) header.epoch (beginning image header)
     (position_of end new) =
     subst (λ (f : Option ReplayState). IsLongest header.format header.length (log_of header image) header.epoch
     (record { at = 0; number = 0; found = f }) (position_of end new)) (sym snap) r.0 in
     stands-longest image header (position_of end new) force l room
     ∙ (λ i. Ok (record {
-      saved = record new { length = sym r.1 i; room = sym limit i };
+      saved = record new { length = sym r.1 i; program_limit = sym program_limit i };
       program =
           program_text header.length (stretch (program_first header.area) (program_size header.area) image);
     }))
@@ -80,12 +80,12 @@ pub run-damaged : (image : Image) (header : Header) (old new : StoredModel) → 
 unfolding durable_state_under
 run-damaged image header old new force snap r =
     under image header force
-    ∙ (λ i. standing (program_room (is_large image))
+    ∙ (λ i. standing (program_limit_of (is_large image))
     (run (log_size_of header) header.format header.length (log_of header image) header.epoch
     (record { at = 0; number = 0; found = snap i })).found
     (program_text header.length (stretch (program_first header.area) (program_size header.area) image))
     header.length)
-    ∙ ap (λ (f : Option ReplayState). standing (program_room (is_large image)) f
+    ∙ ap (λ (f : Option ReplayState). standing (program_limit_of (is_large image)) f
     (program_text header.length (stretch (program_first header.area) (program_size header.area) image))
     header.length) r
 
@@ -118,5 +118,5 @@ ends-frame image base header standing end same e =
           })) e.ends);
       program = ap (program_text header.length) text ∙ e.program;
       long = e.long;
-      room = e.room ∙ ap program_room (sym same.large);
+      program_limit = e.program_limit ∙ ap program_limit_of (sym same.large);
     }

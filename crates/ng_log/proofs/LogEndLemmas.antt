@@ -11,7 +11,7 @@ use Rattle.ng_layout.specs.Areas.{shortest_log, log_size, log_size_of, log_first
 use Rattle.ng_layout.specs.Areas.{snapshot_first, snapshot_size, tools_first, tools_size}
 use Rattle.ng_layout.specs.Log.{LogPosition}
 use Rattle.ng_layout.specs.Sectors.{program_text}
-use Rattle.ng_layout.specs.Header.{program_room}
+use Rattle.ng_layout.specs.Header.{program_limit_of}
 use Rattle.ng_layout.specs.Stands.{is_large, by_header, epoch_in_force, in_force, IsWritten, snapshot, standing, durable_state_under, stands, stretch}
 use Rattle.ng_layout.specs.Stored.{StoredModel, DurableState}
 use Rattle.ng_layout.proofs.ImageLemmas.{area-where, area-most, under, force-same, force-within, stretch-at, stretch-same}
@@ -30,13 +30,13 @@ use Rattle.ng_log.proofs.RecordRunLemmas.{ends-longest, part-says, run-longest}
 pub stands-longest : (image : Image) (header : Header) (last : LogPosition) → in_force image ≡ Some header
     → IsLongest header.format header.length (log_of header image) header.epoch (beginning image header) last
     → last.at ≤ log_size_of header
-    → stands image ≡ standing (program_room (is_large image)) last.found
+    → stands image ≡ standing (program_limit_of (is_large image)) last.found
     (program_text header.length (stretch (program_first header.area) (program_size header.area) image))
     header.length
 unfolding durable_state_under
 stands-longest image header last force l room =
     under image header force
-    ∙ ap (λ (p : LogPosition). standing (program_room (is_large image)) p.found
+    ∙ ap (λ (p : LogPosition). standing (program_limit_of (is_large image)) p.found
     (program_text header.length (stretch (program_first header.area) (program_size header.area) image))
     header.length) (run-longest header.format header.length (log_of header image) header.epoch
     (beginning image header) last l room)
@@ -46,16 +46,16 @@ pub stands-saved : (image : Image) (header : Header) (saved : StoredModel) (prog
     → in_force image ≡ Some header → IsLongest header.format header.length (log_of header image) header.epoch
     (beginning image header) (position_of end saved) → end.sector ≤ log_size_of header
     → program_text header.length (stretch (program_first header.area) (program_size header.area) image) ≡ program
-    → saved.length ≡ header.length → saved.room ≡ program_room (is_large image)
+    → saved.length ≡ header.length → saved.program_limit ≡ program_limit_of (is_large image)
     → stands image ≡ Ok (record { saved = saved; program = program })
-stands-saved image header saved program end force l room text long limit =
+stands-saved image header saved program end force l room text long program_limit =
     stands-longest image header (position_of end saved) force l room
-    ∙ (λ i. Ok (record { saved = record saved { length = sym long i; room = sym limit i }; program = text i }))
+    ∙ (λ i. Ok (record { saved = record saved { length = sym long i; program_limit = sym program_limit i }; program = text i }))
 
 pub ends-stand : (image : Image) (header : Header) (standing : DurableState) (end : LogEnd) → EndsIn image header standing end → stands image ≡ Ok standing
 ends-stand image header standing end e = stands-saved image header standing.saved standing.program end e.force
     (ends-longest header.format header.length (log_of header image) header.epoch (beginning image header)
-    (position_of end standing.saved) e.ends) e.ends.room e.program e.long e.room
+    (position_of end standing.saved) e.ends) e.ends.room e.program e.long e.program_limit
 
 -- a device whose log ends somewhere is at rest, and stands only for that
 pub at-end : (trace : Trace) (header : Header) (standing : DurableState) (end : LogEnd)
@@ -76,7 +76,7 @@ pub record IsNext (base : Image) (header : Header) (before : DurableState) (end 
   pub slot_is : with_change slot before.saved.tools ≡ saved.tools
   pub room : end.sector + size_of (record_at header.epoch end saved changes slot) ≤ log_size_of header
   pub long : saved.length ≡ header.length
-  pub same_room : before.saved.room ≡ saved.room
+  pub same_limit : before.saved.program_limit ≡ saved.program_limit
   pub restored : with_changes before.saved.setup.params changes ≡ saved.setup.params
 
 module _ (base image : Image) (header : Header) (before : DurableState) (end : LogEnd) (saved : StoredModel)
@@ -97,11 +97,11 @@ module _ (base image : Image) (header : Header) (before : DurableState) (end : L
   pub blend-force : in_force image ≡ Some header
   blend-force = force-same image base same_size (outside 0 (inl (omega arith))) (outside 1 (inl (omega arith))) ∙ n.was.force
 
-  old_room : before.saved.room ≡ program_room (is_large image)
-  old_room = n.was.room ∙ ap program_room (sym same_size)
+  old_limit : before.saved.program_limit ≡ program_limit_of (is_large image)
+  old_limit = n.was.program_limit ∙ ap program_limit_of (sym same_size)
 
-  new_room : saved.room ≡ program_room (is_large image)
-  new_room = sym n.same_room ∙ old_room
+  new_limit : saved.program_limit ≡ program_limit_of (is_large image)
+  new_limit = sym n.same_limit ∙ old_limit
 
   start : beginning image header ≡ beginning base header
   start =
@@ -150,7 +150,7 @@ module _ (base image : Image) (header : Header) (before : DurableState) (end : L
       (position_of end before.saved)) n.long
       (subst (λ (p : LogPosition). IsLongest header.format saved.length (log_of header image) header.epoch p
       (position_of end before.saved)) (sym start) old))
-      n.was.ends.room text n.was.long old_room))
+      n.was.ends.room text n.was.long old_limit))
       (λ new. inr (stands-saved image header saved before.program (end_after end (length changes)) blend-force
       (subst (λ (k : ℕ). IsLongest header.format k (log_of header image) header.epoch (beginning image header)
       (position_of (end_after end (length changes)) saved)) n.long
@@ -158,7 +158,7 @@ module _ (base image : Image) (header : Header) (before : DurableState) (end : L
       (position_of (end_after end (length changes)) saved)) (sym start)
       (subst (IsLongest header.format saved.length (log_of header image) header.epoch (beginning base header))
       after_is new)))
-      n.room text n.long new_room))
+      n.room text n.long new_limit))
       (mixture-longest header.format (log_of header base) (log_of header image) (beginning base header) e (replay_state_in before.saved) mixture)
 
   -- and has no part of an epoch to come
@@ -192,5 +192,5 @@ module _ (base image : Image) (header : Header) (before : DurableState) (end : L
         after_is ends));
     program = text;
     long = n.long;
-    room = new_room;
+    program_limit = new_limit;
   }

@@ -95,13 +95,13 @@ damaged_part log at i count changes sector old mid before lt count_is there none
 
 -- the parameters that were read, with what the state field says
 abbrev pub taken : List ℤ → List ℤ → DecodedStateModel → ℕ → ℕ → StoredModel
-taken table tools r length room = record {
+taken table tools r length most = record {
   entries = r.entries;
   setup = record { params = table; modal = r.modal };
   tools = tools;
   place = r.place;
   length = length;
-  room = room;
+  program_limit = most;
   half = r.half;
 }
 
@@ -164,10 +164,10 @@ module _ (format : Format) (length at changes : ℕ) (old new : StoredModel) (im
               tools;
         }))))
 
-    all_taken : (table tools : List ℤ) (room : ℕ) → MakesAll (from_log image) at changes old.setup.params table
-        → tools_after format (from_log image at) old.tools ≡ Some tools → new ≡ taken table tools r length room
+    all_taken : (table tools : List ℤ) (most : ℕ) → MakesAll (from_log image) at changes old.setup.params table
+        → tools_after format (from_log image at) old.tools ≡ Some tools → new ≡ taken table tools r length most
         → FindsRecord format length at changes old new image true
-    all_taken table tools room m t after =
+    all_taken table tools most m t after =
         let e = decodes (Some r) some in
         let same : ◌≡◌ {A = ReplayState}
         (record { decoded = r; params = with_changes old.setup.params m.changes; tools = tools })
@@ -181,12 +181,12 @@ module _ (format : Format) (length at changes : ℕ) (old new : StoredModel) (im
           ap (λ (s : StoredModel). s.length) after,
         )
 
-    pub exit_all : (was table was_tools tools : List ℤ) (room : ℕ) (b s : Bool) → b ≡ true → s ≡ true
+    pub exit_all : (was table was_tools tools : List ℤ) (most : ℕ) (b s : Bool) → b ≡ true → s ≡ true
         → was ≡ old.setup.params → was_tools ≡ old.tools → MakesAllOrDamaged at changes was table image b
         → MatchBool s (tools_after format sector was_tools ≡ Some tools)
-        (tools_after format sector was_tools ≡ None) → new ≡ taken table tools r length room
+        (tools_after format sector was_tools ≡ None) → new ≡ taken table tools r length most
         → FindsRecord format length at changes old new image b
-    exit_all was table was_tools tools room b s whole slot params_are tools_are made slot_made after =
+    exit_all was table was_tools tools most b s whole slot params_are tools_are made slot_made after =
         let some_tools : tools_after format sector was_tools ≡ Some tools =
         subst (λ (x : Bool). MatchBool x (tools_after format sector was_tools ≡ Some tools)
         (tools_after format sector was_tools ≡ None)) slot slot_made in
@@ -194,7 +194,7 @@ module _ (format : Format) (length at changes : ℕ) (old new : StoredModel) (im
         let m : MakesAll (from_log image) at changes old.setup.params table =
         subst (λ (t : List ℤ). MakesAll (from_log image) at changes t table) params_are
         (subst (λ (x : Bool). MakesAllOrDamaged at changes was table image x) whole made) in
-        subst (λ (x : Bool). FindsRecord format length at changes old new image x) (sym whole) (all_taken table tools room m t after)
+        subst (λ (x : Bool). FindsRecord format length at changes old new image x) (sym whole) (all_taken table tools most m t after)
 
     pub exit_not_all : (was table : List ℤ) (b : Bool) → b ≡ false → MakesAllOrDamaged at changes was table image b
         → FindsRecord format length at changes old new image b

@@ -8,7 +8,7 @@ use Rattle.ng_layout.specs.declared.header.Header.{Header}
 use Rattle.ng_layout.specs.Areas.{log_size_of}
 use Rattle.ng_layout.specs.Log.{ReplayState, LogPosition, parts_for}
 use Rattle.ng_layout.specs.Snapshot.{decoded_state_in}
-use Rattle.ng_layout.specs.Header.{program_room}
+use Rattle.ng_layout.specs.Header.{program_limit_of}
 use Rattle.ng_layout.specs.Stands.{is_large, program_under, in_force, stands, IsModern, IsWritten}
 use Rattle.ng_layout.specs.declared.header.Format.TheVariants.{Two}
 use Rattle.ng_layout.specs.Stored.{StoredModel, DurableState}
@@ -39,7 +39,7 @@ pub record EndsIn (image : Image) (header : Header) (standing : DurableState) (e
   pub ends : EndsAt header.format header.length (log_of header image) header.epoch (beginning image header) (position_of end standing.saved)
   pub program : program_under header image ≡ standing.program
   pub long : standing.saved.length ≡ header.length
-  pub room : standing.saved.room ≡ program_room (is_large image)
+  pub program_limit : standing.saved.program_limit ≡ program_limit_of (is_large image)
 
 -- The device has one image, and that image is so.
 pub record IsAtEnd (trace : Trace) (header : Header) (standing : DurableState) (end : LogEnd) : Type 0 where

@@ -107,8 +107,8 @@ fn take_record<R: Rig, A: Allocator + Copy + Drop>(
     requires sectors { least_size ≤ (R.seen rig.old).sectors }
     requires few { changes ≤ record_changes }
     requires room { at + parts_for changes ≤ longest_log }
-    requires program { header.length ≤ stored.old.room }
-    requires most { stored.old.room ≤ longest_program }
+    requires program { header.length ≤ stored.old.program_limit }
+    requires most { stored.old.program_limit ≤ longest_program }
     requires tools { IsStorableTools stored.old.tools }
     requires long { length stored.old.setup.params ≡ parameter_count }
     ensures read { IfHonest (R.seen rig.old) (R.seen rig.new)
@@ -119,7 +119,7 @@ fn take_record<R: Rig, A: Allocator + Copy + Drop>(
     ensures count { IfOk result (λ whole. OnTrue whole (stored.new.entries ≤ greatest_count)) }
     ensures long { IfOk result (λ whole. OnTrue whole (stored.new.length ≡ header.length)) }
     ensures none { IfOk result (λ whole. OnTrue whole (header.format ≡ One → stored.new.tools ≡ stored.old.tools)) }
-    ensures limit { stored.new.room ≡ stored.old.room }
+    ensures program_limit { stored.new.program_limit ≡ stored.old.program_limit }
     ensures call { IsCall result (R.seen rig.old) (R.seen rig.new) }
 {
     match decoded_state_of_part(first, header.length) {
@@ -158,7 +158,7 @@ fn next_record<R: Rig, A: Allocator + Copy + Drop>(
     ensures count { IfOk result (λ next. Goes next (stored.new.entries ≤ greatest_count)) }
     ensures long { IfOk result (λ next. Goes next (stored.new.length ≡ header.length)) }
     ensures none { IfOk result (λ next. Goes next (header.format ≡ One → stored.new.tools ≡ stored.old.tools)) }
-    ensures limit { stored.new.room ≡ stored.old.room }
+    ensures program_limit { stored.new.program_limit ≡ stored.old.program_limit }
     ensures call { IsCall result (R.seen rig.old) (R.seen rig.new) }
 {
     if end.sector == header.log_size() {
@@ -213,7 +213,7 @@ pub fn read_log<R: Rig, A: Allocator + Copy + Drop>(
     ensures count { IfOk result (λ end. IfSome end (λ e. stored.new.entries ≤ greatest_count)) }
     ensures long { IfOk result (λ end. IfSome end (λ e. stored.new.length ≡ header.length)) }
     ensures none { IfOk result (λ end. IfSome end (λ e. header.format ≡ One → stored.new.tools ≡ stored.old.tools)) }
-    ensures limit { stored.new.room ≡ stored.old.room }
+    ensures program_limit { stored.new.program_limit ≡ stored.old.program_limit }
     ensures call { IsCall result (R.seen rig.old) (R.seen rig.new) }
 {
     let mut reached = LogEnd::START;

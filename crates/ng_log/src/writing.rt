@@ -93,7 +93,7 @@ pub fn append<R: Rig, A: Allocator + Copy + Drop>(
         ((before : DurableState) → IsAtEnd (R.seen rig.old).trace header before end
         → changes.entry ≡ differences before.saved.setup.params stored.now.setup.params
         → IfSome slot (IsStorableChange before.saved.tools)
-        → with_change slot before.saved.tools ≡ stored.now.tools → before.saved.room ≡ stored.now.room
+        → with_change slot before.saved.tools ≡ stored.now.tools → before.saved.program_limit ≡ stored.now.program_limit
         → AppendSpec result header before stored.now (R.seen rig.old).trace (R.seen rig.new).trace) }
     // whatever is on the device
     ensures writes { IfHonest (R.seen rig.old) (R.seen rig.new)

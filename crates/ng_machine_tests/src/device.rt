@@ -81,7 +81,7 @@ fn leaves<A: Allocator + Copy + Drop>(
 
 /// How many unsynced writes of each sector are kept, after this many of these calls and past their ends, and what each
 /// sector holds then.
-const KEPT: &[(usize, &[usize], [u8; 3])] = &[
+const DURABLE: &[(usize, &[usize], [u8; 3])] = &[
     (10, &[], [3, 2, 0]),
     (10, &[9, 1], [3, 4, 0]),
     (10, &[usize::MAX; 5], [3, 6, 5]),
@@ -126,7 +126,7 @@ fn a_stop_after_each_call_leaves_each_choice(rt: HostRuntime) -> Result<(), Fail
 fn a_stop_keeps_as_many_writes_as_there_are(rt: HostRuntime) -> Result<(), Fail> {
     let mut rig = MemoryRig::new(rt.alloc(), 3)?;
     assert!(rt; make_ten_calls(&mut rig, &three_items()));
-    for (n, keep, want) in KEPT {
+    for (n, keep, want) in DURABLE {
         assert!(rt; leaves(&rig, *n, keep, *want)?, "{keep:?} at {n}");
     }
     Ok(())

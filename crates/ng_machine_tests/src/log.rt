@@ -27,7 +27,7 @@ pub struct Mill<R: Rig> {
     ghost whole: { journal.broken ≡ false },
     ghost storable: { IsStorable stored } by { Prim.hlevel props },
     ghost program: { stored.length ≡ journal.saved.length },
-    ghost room: { stored.room ≡ journal.saved.room },
+    ghost program_limit: { stored.program_limit ≡ journal.saved.program_limit },
     ghost tools: { stored.tools ≡ journal.saved.tools },
 }
 
@@ -107,7 +107,7 @@ fn committed<R: Rig + Drop>(
     requires whole { journal.broken ≡ false }
     requires storable { IsStorable stored }
     requires program { stored.length ≡ journal.saved.length }
-    requires room { stored.room ≡ journal.saved.room }
+    requires program_limit { stored.program_limit ≡ journal.saved.program_limit }
     requires tools { IsOneSlotFrom journal.saved.tools stored.tools }
 {
     let mut journal = journal;

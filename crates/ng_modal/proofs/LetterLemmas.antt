@@ -1,4 +1,4 @@
--- The values by letter as they are kept, and one more word in front of those added before.
+-- The values by letter as they are packed, and one more word in front of those added before.
 use Rattle.std.proofs.Common.{◌≡◌, ◌<◌, ◌-◌, ◌*◌, ◌%◌, ◌^◌, ℕ, ℤ, pos, Bool, true, false, List, [], ◌∷◌, length}
 use Rattle.std.proofs.Common.{Some, None, refl, sym, ap, ◌∙◌, subst, arith, slice_index_or, slice_set, bit_or, w32}
 use Rattle.std.specs.Prelude.{◌==◌, if◌then◌else◌}
@@ -11,14 +11,14 @@ use Rattle.ng_words.specs.declared.letter.Letter.{Letter}
 use Rattle.ng_words.specs.declared.letter.Letter.TheVariants.{A, B, C, D, F, G, H, I, J, K, L, M, P, Q, R, S, T, X, Y, Z}
 use Rattle.ng_expr.specs.declared.word.Word.{Word}
 use Rattle.ng_modal.specs.Words.{byte_of, has_byte, of_letter, first}
-use Rattle.ng_modal.specs.ByLetterModel.{ByLetterModel, index_of, kept_at, kept}
+use Rattle.ng_modal.specs.ByLetterModel.{ByLetterModel, index_of, unpacked_at, unpacked}
 use Rattle.ng_modal.specs.ByLetter.{by_letter, takes_value, value_of}
 
 -- a letter that takes a value is a field of its own
-value_kept : (l : Letter) (present : ℕ) (numbers : List ℤ) → takes_value l ≡ true → value_of (kept present numbers) l ≡ kept_at present numbers l
-value_kept G present numbers e = absurd (cc e)
-value_kept M present numbers e = absurd (cc e)
-value_kept _ present numbers e = refl
+value_unpacked : (l : Letter) (present : ℕ) (numbers : List ℤ) → takes_value l ≡ true → value_of (unpacked present numbers) l ≡ unpacked_at present numbers l
+value_unpacked G present numbers e = absurd (cc e)
+value_unpacked M present numbers e = absurd (cc e)
+value_unpacked _ present numbers e = refl
 
 value_by_letter : (l : Letter) (ws : List Word) → takes_value l ≡ true → value_of (by_letter ws) l ≡ first (of_letter l ws)
 value_by_letter G ws e = absurd (cc e)
@@ -58,47 +58,47 @@ other_index l k e same =
     let has : has_byte (byte_of l) k ≡ true = (Decides-eqb (byte_of l) (byte_of k)).1 same_byte in
     cc
 
--- the value kept for a letter
+-- the value packed for a letter
 pub value_present : (l : Letter) (present : ℕ) (numbers : List ℤ) (index : ℕ) (default : ℤ) →
     takes_value l ≡ true → index ≡ index_of l → length numbers ≡ 20 → (bit_at present index == 1) ≡ true →
-    Some (slice_index_or numbers index default) ≡ value_of (kept present numbers) l
+    Some (slice_index_or numbers index default) ≡ value_of (unpacked present numbers) l
 value_present l present numbers index default takes is long set =
     let is_set : (bit_at present (index_of l) == 1) ≡ true = rw (← is) set in
     let inside : index_of l < length numbers = rw long (below_20 l) in
-    rw (value_kept l present numbers takes, is_set, is, get_or_default numbers (index_of l) default (pos 0) inside) refl
+    rw (value_unpacked l present numbers takes, is_set, is, get_or_default numbers (index_of l) default (pos 0) inside) refl
 
 pub value_absent : (l : Letter) (present : ℕ) (numbers : List ℤ) (index : ℕ) →
     takes_value l ≡ true → index ≡ index_of l → (bit_at present index == 1) ≡ false →
-    None ≡ value_of (kept present numbers) l
+    None ≡ value_of (unpacked present numbers) l
 value_absent l present numbers index takes is unset =
     let is_unset : (bit_at present (index_of l) == 1) ≡ false = rw (← is) unset in
-    rw (value_kept l present numbers takes, is_unset) refl
+    rw (value_unpacked l present numbers takes, is_unset) refl
 
 -- a letter has a value exactly if its bit is set
-is_kept : (t : Bool) (x : ℤ) → is_some (if t then Some x else None) ≡ t
-is_kept true x = refl
-is_kept false x = refl
+is_unpacked : (t : Bool) (x : ℤ) → is_some (if t then Some x else None) ≡ t
+is_unpacked true x = refl
+is_unpacked false x = refl
 
-pub was_kept : (l : Letter) (ws : List Word) (present : ℕ) (numbers : List ℤ) (index : ℕ) →
-    takes_value l ≡ true → index ≡ index_of l → kept present numbers ≡ by_letter ws →
+pub was_unpacked : (l : Letter) (ws : List Word) (present : ℕ) (numbers : List ℤ) (index : ℕ) →
+    takes_value l ≡ true → index ≡ index_of l → unpacked present numbers ≡ by_letter ws →
     (bit_at present index == 1) ≡ is_some (first (of_letter l ws))
-was_kept l ws present numbers index takes is before =
-    rw (← value_by_letter l ws takes, ← before, value_kept l present numbers takes, is)
-    (sym (is_kept (bit_at present (index_of l) == 1) (slice_index_or numbers (index_of l) (pos 0))))
+was_unpacked l ws present numbers index takes is before =
+    rw (← value_by_letter l ws takes, ← before, value_unpacked l present numbers takes, is)
+    (sym (is_unpacked (bit_at present (index_of l) == 1) (slice_index_or numbers (index_of l) (pos 0))))
 
 -- one more word: its letter has its value, and the others have what they had
 first_in_front : (t : Bool) (x : ℤ) (xs : List ℤ) → first (if t then x ∷ xs else xs) ≡ (if t then Some x else first xs)
 first_in_front true x xs = refl
 first_in_front false x xs = refl
 
-kept_with : (l k : Letter) (x : ℤ) (present : ℕ) (numbers : List ℤ) → length numbers ≡ 20 →
-    kept_at (bit_or present (1 * 2 ^ index_of k % 4294967296)) (slice_set numbers (index_of k) x) l
-    ≡ (if has_byte (byte_of l) k then Some x else kept_at present numbers l)
-kept_with l k x present numbers long =
+unpacked_with : (l k : Letter) (x : ℤ) (present : ℕ) (numbers : List ℤ) → length numbers ≡ 20 →
+    unpacked_at (bit_or present (1 * 2 ^ index_of k % 4294967296)) (slice_set numbers (index_of k) x) l
+    ≡ (if has_byte (byte_of l) k then Some x else unpacked_at present numbers l)
+unpacked_with l k x present numbers long =
     let after : ℕ = bit_or present (1 * 2 ^ index_of k % 4294967296) in
     let values : List ℤ = slice_set numbers (index_of k) x in
     let inside : index_of k < length numbers = rw long (below_20 k) in
-    let P : Bool → Type 0 = λ t. has_byte (byte_of l) k ≡ t → kept_at after values l ≡ (if t then Some x else kept_at present numbers l) in
+    let P : Bool → Type 0 = λ t. has_byte (byte_of l) k ≡ t → unpacked_at after values l ≡ (if t then Some x else unpacked_at present numbers l) in
     elim (has_byte (byte_of l) k) as P [
       | true ↦ λ e.
           let same : index_of l ≡ index_of k = same_index l k e in
@@ -112,17 +112,17 @@ kept_with l k x present numbers long =
     ] refl
 
 value_with : (l k : Letter) (x : ℤ) (ws : List Word) (present : ℕ) (numbers : List ℤ) →
-    length numbers ≡ 20 → kept present numbers ≡ by_letter ws → takes_value l ≡ true →
-    value_of (kept (bit_or present (1 * 2 ^ index_of k % 4294967296)) (slice_set numbers (index_of k) x)) l
+    length numbers ≡ 20 → unpacked present numbers ≡ by_letter ws → takes_value l ≡ true →
+    value_of (unpacked (bit_or present (1 * 2 ^ index_of k % 4294967296)) (slice_set numbers (index_of k) x)) l
     ≡ value_of (by_letter (record { letter = k; value = x } ∷ ws)) l
 value_with l k x ws present numbers long before takes =
     let after : ℕ = bit_or present (1 * 2 ^ index_of k % 4294967296) in
     let values : List ℤ = slice_set numbers (index_of k) x in
-    let was : kept_at present numbers l ≡ first (of_letter l ws) = sym (value_kept l present numbers takes)
+    let was : unpacked_at present numbers l ≡ first (of_letter l ws) = sym (value_unpacked l present numbers takes)
     ∙ (ap (λ v. value_of v l) before ∙ value_by_letter l ws takes) in
-    let now : kept_at after values l ≡ first (of_letter l (record { letter = k; value = x } ∷ ws)) =
-    rw (kept_with l k x present numbers long, was) (sym (first_in_front (has_byte (byte_of l) k) x (of_letter l ws))) in
-    value_kept l after values takes ∙ (now ∙ sym (value_by_letter l (record { letter = k; value = x } ∷ ws) takes))
+    let now : unpacked_at after values l ≡ first (of_letter l (record { letter = k; value = x } ∷ ws)) =
+    rw (unpacked_with l k x present numbers long, was) (sym (first_in_front (has_byte (byte_of l) k) x (of_letter l ws))) in
+    value_unpacked l after values takes ∙ (now ∙ sym (value_by_letter l (record { letter = k; value = x } ∷ ws) takes))
 
 -- values are the same if they are for each letter that takes one
 same_values : (u v : ByLetterModel) → ((l : Letter) → takes_value l ≡ true → value_of u l ≡ value_of v l) → u ≡ v
@@ -169,11 +169,11 @@ same_values u v same =
     rw (same_a, same_b, same_c, same_d, same_f, same_h, same_i, same_j, same_k, same_l, same_p, same_q, same_r, same_s, same_t, same_x, same_y, same_z) refl in
     all
 
-pub kept_with_word : (k : Letter) (x : ℤ) (ws : List Word) (present : ℕ) (numbers : List ℤ) (index : ℕ) →
-    index ≡ index_of k → length numbers ≡ 20 → kept present numbers ≡ by_letter ws →
-    kept (bit_or present (1 * 2 ^ index % 4294967296)) (slice_set numbers index x)
+pub unpacked_with_word : (k : Letter) (x : ℤ) (ws : List Word) (present : ℕ) (numbers : List ℤ) (index : ℕ) →
+    index ≡ index_of k → length numbers ≡ 20 → unpacked present numbers ≡ by_letter ws →
+    unpacked (bit_or present (1 * 2 ^ index % 4294967296)) (slice_set numbers index x)
     ≡ by_letter (record { letter = k; value = x } ∷ ws)
-kept_with_word k x ws present numbers index is long before =
+unpacked_with_word k x ws present numbers index is long before =
     let after : List Word = record { letter = k; value = x } ∷ ws in
-    let P : ℕ → Type 0 = λ n. kept (bit_or present (1 * 2 ^ n % 4294967296)) (slice_set numbers n x) ≡ by_letter after in
+    let P : ℕ → Type 0 = λ n. unpacked (bit_or present (1 * 2 ^ n % 4294967296)) (slice_set numbers n x) ≡ by_letter after in
     subst P (sym is) (same_values _ (by_letter after) (λ l takes. value_with l k x ws present numbers long before takes))

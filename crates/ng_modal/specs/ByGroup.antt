@@ -67,7 +67,7 @@ stop_of (m_word.Stop asked) = Some asked
 stop_of _ = None
 
 abbrev pub spindle_of : MWord → Option Spindle
-spindle_of (m_word.Spindle turning) = Some turning
+spindle_of (m_word.Spindle spinning) = Some spinning
 spindle_of _ = None
 
 abbrev pub coolant_of : MWord → Option Coolant

@@ -1,4 +1,4 @@
--- The values of a line's words by letter (NISTIR 6556, 3.3.2, table 3), and how they are kept.
+-- The values of a line's words by letter (NISTIR 6556, 3.3.2, table 3), and how they are packed.
 use Rattle.std.specs.Prelude.{ℕ, ℤ, pos, List, Option, Some, None, ◌==◌, if◌then◌else◌, slice_index_or}
 use Rattle.std.specs.Int.{bit_at}
 use Rattle.ng_words.specs.declared.letter.Letter.{Letter}
@@ -49,28 +49,28 @@ index_of Y = 18
 index_of Z = 19
 
 -- a letter has a value if its bit is set, and then it is the number at its index
-abbrev pub kept_at : ℕ → List ℤ → Letter → Option ℤ
-kept_at present numbers letter =
+abbrev pub unpacked_at : ℕ → List ℤ → Letter → Option ℤ
+unpacked_at present numbers letter =
     if bit_at present (index_of letter) == 1 then Some (slice_index_or numbers (index_of letter) (pos 0)) else None
 
-abbrev pub kept : ℕ → List ℤ → ByLetterModel
-kept present numbers = record {
-  a = kept_at present numbers A;
-  b = kept_at present numbers B;
-  c = kept_at present numbers C;
-  d = kept_at present numbers D;
-  f = kept_at present numbers F;
-  h = kept_at present numbers H;
-  i = kept_at present numbers I;
-  j = kept_at present numbers J;
-  k = kept_at present numbers K;
-  l = kept_at present numbers L;
-  p = kept_at present numbers P;
-  q = kept_at present numbers Q;
-  r = kept_at present numbers R;
-  s = kept_at present numbers S;
-  t = kept_at present numbers T;
-  x = kept_at present numbers X;
-  y = kept_at present numbers Y;
-  z = kept_at present numbers Z;
+abbrev pub unpacked : ℕ → List ℤ → ByLetterModel
+unpacked present numbers = record {
+  a = unpacked_at present numbers A;
+  b = unpacked_at present numbers B;
+  c = unpacked_at present numbers C;
+  d = unpacked_at present numbers D;
+  f = unpacked_at present numbers F;
+  h = unpacked_at present numbers H;
+  i = unpacked_at present numbers I;
+  j = unpacked_at present numbers J;
+  k = unpacked_at present numbers K;
+  l = unpacked_at present numbers L;
+  p = unpacked_at present numbers P;
+  q = unpacked_at present numbers Q;
+  r = unpacked_at present numbers R;
+  s = unpacked_at present numbers S;
+  t = unpacked_at present numbers T;
+  x = unpacked_at present numbers X;
+  y = unpacked_at present numbers Y;
+  z = unpacked_at present numbers Z;
 }

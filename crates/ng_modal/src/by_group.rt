@@ -133,7 +133,7 @@ impl MWords {
         match word {
             MWord::Stop(asked) => put(&mut self.stop, asked),
             MWord::ToolChange => mark(&mut self.tool_change),
-            MWord::Spindle(turning) => put(&mut self.spindle, turning),
+            MWord::Spindle(spinning) => put(&mut self.spindle, spinning),
             MWord::Coolant(asked) => put(&mut self.coolant, asked),
             MWord::Overrides(allowed) => put(&mut self.overrides, allowed),
         }

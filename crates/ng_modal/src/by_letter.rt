@@ -23,11 +23,11 @@ pub struct ByLetter {
 }
 
 impl Model for ByLetter {
-    ghost use Rattle.ng_modal.specs.ByLetterModel.{ByLetterModel, kept};
+    ghost use Rattle.ng_modal.specs.ByLetterModel.{ByLetterModel, unpacked};
 
     ghost Value = { ByLetterModel };
 
-    ghost view = { λ v. kept v.present v.numbers };
+    ghost view = { λ v. unpacked v.present v.numbers };
 }
 
 /// A letter's index among the letters.

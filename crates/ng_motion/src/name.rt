@@ -23,7 +23,7 @@ fn shown(byte: u8) -> u8
     }
 }
 
-/// Stores what is told of a name, as far as there is room. Returns how many bytes that are.
+/// Stores what is told of a name, as far as it fits. Returns how many bytes that are.
 fn store(name: &[u8], buffer: &mut [u8]) -> usize
     ensures stored { take result buffer.new ≡ map shown_byte (take (length buffer.old) name.now) }
 {

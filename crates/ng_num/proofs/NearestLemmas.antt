@@ -29,7 +29,7 @@ nearest-IsNearestSize n d h =
     let k : ℕ = nearest n d in
     let parts : 2 * d * k + (2 * n + d) % (2 * d) ≡ 2 * n + d = div-add-mod (2 * n + d) (2 * d) in
     let rest : (2 * n + d) % (2 * d) < 2 * d = mod_below (2 * n + d) (2 * d) (omega arith) in
-    let turned : 2 * d * k ≡ 2 * (k * d) = twice_times d k in
+    let swapped : 2 * d * k ≡ 2 * (k * d) = twice_times d k in
     record { low = omega arith; high = omega arith }
 
 pub nearest_from_IsNearestSize : (n d k : ℕ) → IsNearestSize n d k → nearest n d ≡ k
@@ -40,7 +40,7 @@ nearest_from_IsNearestSize n d k is =
 pub nearest_down : (n d : ℕ) → 0 < d → n % d < d - n % d → nearest n d ≡ n / d
 nearest_down n d h low =
     let parts : d * (n / d) + n % d ≡ n = div-add-mod n d in
-    let turned : d * (n / d) ≡ n / d * d = grind arith in
+    let swapped : d * (n / d) ≡ n / d * d = grind arith in
     nearest_from_IsNearestSize n d (n / d) (record { low = omega arith; high = omega arith })
 
 pub nearest_up : (n d : ℕ) → 0 < d → d - n % d ≤ n % d → nearest n d ≡ n / d + 1
@@ -80,8 +80,8 @@ abs_neither a x = elim (cases_lt x a) [ inl h ↦ inl (omega (arith, ints)) | in
 abs_apart : (a x : ℕ) → unsigned_abs (pos a -ℤ neg_ℤ (pos x)) ≡ a + x
 abs_apart a x = omega (arith, ints)
 
-abs_apart_turned : (a x : ℕ) → unsigned_abs (neg_ℤ (pos a) -ℤ pos x) ≡ a + x
-abs_apart_turned a x = omega (arith, ints)
+abs_apart_swapped : (a x : ℕ) → unsigned_abs (neg_ℤ (pos a) -ℤ pos x) ≡ a + x
+abs_apart_swapped a x = omega (arith, ints)
 
 abs_neg : (p : ℤ) → unsigned_abs (neg_ℤ p) ≡ unsigned_abs p
 abs_neg p = omega (arith, ints)
@@ -158,7 +158,7 @@ near_from_IsNearest_above (pos a) d (negsuc k) h is =
     absurd (omega (arith, both.0))
 near_from_IsNearest_above (negsuc a) d (pos k) h is =
     let half = half_of (negsuc a) (pos d) (pos k) is in
-    let both = nearest_across (suc a) k _ d h (abs_apart_turned (suc a) (k * d)) half in
+    let both = nearest_across (suc a) k _ d h (abs_apart_swapped (suc a) (k * d)) half in
     rw (both.0, both.1) refl
 near_from_IsNearest_above (negsuc a) d (negsuc k) h is =
     let half = half_of (negsuc a) (pos d) (negsuc k) is in

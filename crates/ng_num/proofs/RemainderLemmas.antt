@@ -16,7 +16,7 @@ neg-times-negsuc zero d = let z : 0 * suc d ≡ 0 = grind arith in rw z refl
 neg-times-negsuc (suc k) d = refl
 
 quotient_and_rest : (n d : ℕ) → 0 < d → n ≡ n / d * d + n % d
-quotient_and_rest n d h = let parts = div-add-mod n d in let turned : d * (n / d) ≡ n / d * d = grind arith in omega arith
+quotient_and_rest n d h = let parts = div-add-mod n d in let swapped : d * (n / d) ≡ n / d * d = grind arith in omega arith
 
 next_times : (q d : ℕ) → suc q * d ≡ q * d + d
 next_times q d = grind arith

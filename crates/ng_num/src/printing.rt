@@ -11,13 +11,13 @@ use crate::point::Point;
 use itoa::write_digits;
 use std::alloc::{AllocError, Allocator};
 
-/// The room for a number and the two bytes after it.
+/// The most bytes of a number and the two bytes after it.
 const NUMBER: usize = 17;
 
-/// The room for three numbers, each with two bytes after it.
+/// The most bytes of three numbers, each with two bytes after it.
 const POINT: usize = 51;
 
-/// Twice that room: from each place of its first half on there are `POINT` bytes.
+/// Twice as many: from each place of its first half on there are `POINT` bytes.
 const TWO_POINTS: usize = 102;
 
 /// The two digits of each number below 100.
@@ -48,7 +48,7 @@ fn put_after(after: [u8; 2], buffer: &mut [u8], at: usize)
 #[inline(always)]
 fn put_pair(pair: u32, buffer: &mut [u8], at: usize)
     requires small { pair < 100 }
-    requires room { at + 2 ≤ length buffer.old }
+    requires fits { at + 2 ≤ length buffer.old }
     ensures { drop at buffer.new ≡ (48 + pair / 10) ∷ (48 + pair % 10) ∷ drop (at + 2) buffer.old }
 {
     let from = pair as usize * 2;
@@ -78,7 +78,7 @@ fn write_decimals(size: u64, buffer: &mut [u8], end: usize) -> usize
 #[inline(always)]
 fn write_whole_part(size: u64, buffer: &mut [u8], end: usize) -> usize
     requires range { size ≤ greatest }
-    requires room { (8 ≤ end) × (end ≤ length buffer.old) }
+    requires fits { (8 ≤ end) × (end ≤ length buffer.old) }
     ensures within { (result < end) × (end ≤ result + 7) }
     ensures written { drop result buffer.new ≡ decimal (size / 1_000_000) ++ drop end buffer.old }
 {
@@ -102,7 +102,7 @@ fn write_minus(count: i64, buffer: &mut [u8], start: usize) -> usize
 #[inline(always)]
 fn write_count(count: i64, after: [u8; 2], buffer: &mut [u8], end: usize) -> usize
     requires range { IsCount count }
-    requires room { (17 ≤ end) × (end ≤ length buffer.old) }
+    requires fits { (17 ≤ end) × (end ≤ length buffer.old) }
     ensures within { (result ≤ end) × (end ≤ result + 17) }
     ensures text { drop result buffer.new ≡ number_text count ++ (after ++ drop end buffer.old) }
 {

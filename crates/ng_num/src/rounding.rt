@@ -11,7 +11,7 @@ pub(crate) const MILLION: u64 = 1_000_000;
 #[inline(always)]
 #[tactic(auto, using(crate::proofs::NearestLemmas::nearest_up, crate::proofs::NearestLemmas::nearest_down))]
 pub(crate) fn nearest_size(n: u64, d: u64) -> u64
-    requires room { n / d + 1 < 2 ^ 64 }
+    requires fits { n / d + 1 < 2 ^ 64 }
     requires divisor { 0 < d }
     ensures { result ≡ nearest n d }
 {

@@ -69,7 +69,7 @@ impl Tools {
     /// Adds the next slot. The caller ensures that there are fewer than 128, and that the length is within the limits
     /// of a tool length.
     pub fn push(&mut self, tool_length: Len)
-        requires room { length self.old < SLOTS }
+        requires fits { length self.old < SLOTS }
         requires tool { IsToolLength tool_length }
         ensures { self.new ≡ self.old ++ tool_length ∷ [] }
     {
@@ -79,7 +79,7 @@ impl Tools {
     /// Gives a slot a length. If the slot is the one after the last, it is added.
     pub fn set(&mut self, change: SlotChange)
         requires slot { IsSlotChange self.old change }
-        requires room { change.slot ≤ SLOTS }
+        requires fits { change.slot ≤ SLOTS }
         requires tool { IsToolLength change.length }
         ensures { self.new ≡ with_slot change self.old }
     {

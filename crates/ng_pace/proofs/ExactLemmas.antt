@@ -12,91 +12,91 @@ use Rattle.ng_pace.specs.Passing.{AllowAlong, TakeAll, TakesCorner}
 use Rattle.ng_pace.specs.Path.{AreReached}
 use Rattle.ng_pace.specs.Axes.{EachAxis, SomeAxis, IsAlong, IsCorner, IsFullAlone, IsFullRamp, IsFullRate, IsNearCorner}
 use Rattle.ng_pace.specs.Chord.{Slope, IsSlope, IsNear}
-use Rattle.ng_pace.specs.Cone.{AreBetween, IsReached, IsTurn, size_of}
-use Rattle.ng_pace.specs.Legs.{IsAccelerationSpent, IsRateSpent, IsFullOn, IsTurning, steps_along, turn_between}
+use Rattle.ng_pace.specs.Cone.{AreBetween, IsReached, IsBend, size_of}
+use Rattle.ng_pace.specs.Legs.{IsAccelerationSpent, IsRateSpent, IsFullOn, IsBending, steps_along, bend_between}
 
 rate-exact : (size slope over most rate : ℕ) → slope * 1048576 ≤ size * over → size * size * most ≤ rate * rate * 1048576 * 1048576 * 65536
     → slope * slope * most ≤ rate * rate * over * over * 65536
-rate-exact size slope over most rate less kept = le_of_mul-le-mul_right scaled (omega arith) where
+rate-exact size slope over most rate less respected = le_of_mul-le-mul_right scaled (omega arith) where
   scaled : slope * slope * most * (1048576 * 1048576) ≤ rate * rate * over * over * 65536 * (1048576 * 1048576)
   scaled =
       let squares : slope * 1048576 * (slope * 1048576) ≤ size * over * (size * over)
       = mul-le (slope * 1048576) (slope * 1048576) (size * over) (size * over) less less in
       let a : slope * 1048576 * (slope * 1048576) * most ≤ size * over * (size * over) * most = mul-le-mul_right most squares in
-      let b : size * size * most * (over * over) ≤ rate * rate * 1048576 * 1048576 * 65536 * (over * over) = mul-le-mul_right (over * over) kept in
+      let b : size * size * most * (over * over) ≤ rate * rate * 1048576 * 1048576 * 65536 * (over * over) = mul-le-mul_right (over * over) respected in
       omega arith
 
 pub along-exact : (limits : Limits) (axis size slope over most ramp : ℕ) → slope * 1048576 ≤ size * over → IsAlong limits axis size 1048576 most ramp
     → IsAlong limits axis slope over most ramp
-along-exact limits axis size slope over most ramp less kept = record {
+along-exact limits axis size slope over most ramp less respected = record {
   accel = le_of_mul-le-mul_right scaled (omega arith);
-  rate = λ some. rate-exact size slope over most (slice_index limits.rate axis) less (kept.rate some);
+  rate = λ some. rate-exact size slope over most (slice_index limits.rate axis) less (respected.rate some);
 } where
   scaled : slope * ramp * 1048576 ≤ 2 * slice_index limits.accel axis * over * 65536 * 1048576
   scaled =
       let a : slope * 1048576 * ramp ≤ size * over * ramp = mul-le-mul_right ramp less in
-      let b : size * ramp * over ≤ 2 * slice_index limits.accel axis * 1048576 * 65536 * over = mul-le-mul_right over kept.accel in
+      let b : size * ramp * over ≤ 2 * slice_index limits.accel axis * 1048576 * 65536 * over = mul-le-mul_right over respected.accel in
       omega arith
 
-pub corner-exact : (limits : Limits) (axis size turn slope change over pulses most ramp : ℕ) → slope * 1048576 ≤ size * over → change * 1048576 ≤ turn * over
-    → IsCorner limits axis size turn 1048576 pulses most ramp → IsCorner limits axis slope change over pulses most ramp
-corner-exact limits axis size turn slope change over pulses most ramp less less' kept = record {
+pub corner-exact : (limits : Limits) (axis size bend slope change over pulses most ramp : ℕ) → slope * 1048576 ≤ size * over → change * 1048576 ≤ bend * over
+    → IsCorner limits axis size bend 1048576 pulses most ramp → IsCorner limits axis slope change over pulses most ramp
+corner-exact limits axis size bend slope change over pulses most ramp less less' respected = record {
   accel = le_of_mul-le-mul_right scaled (omega arith);
-  rate = λ some. rate-exact size slope over most (slice_index limits.rate axis) less (kept.rate some);
+  rate = λ some. rate-exact size slope over most (slice_index limits.rate axis) less (respected.rate some);
 } where
   scaled : (slope * ramp * pulses + 2 * change * most) * 1048576 ≤ 2 * slice_index limits.accel axis * pulses * over * 65536 * 1048576
   scaled =
       let a : slope * 1048576 * (ramp * pulses) ≤ size * over * (ramp * pulses) = mul-le-mul_right (ramp * pulses) less in
-      let b : change * 1048576 * most ≤ turn * over * most = mul-le-mul_right most less' in
-      let d : (size * ramp * pulses + 2 * turn * most) * over ≤ 2 * slice_index limits.accel axis * pulses * 1048576 * 65536 * over
-      = mul-le-mul_right over kept.accel in
+      let b : change * 1048576 * most ≤ bend * over * most = mul-le-mul_right most less' in
+      let d : (size * ramp * pulses + 2 * bend * most) * over ≤ 2 * slice_index limits.accel axis * pulses * 1048576 * 65536 * over
+      = mul-le-mul_right over respected.accel in
       omega arith
 
-pub near-exact : (limits : Limits) (axis turn change over pulses : ℕ) → change * 1048576 ≤ turn * over → IsNearCorner limits axis turn 1048576 pulses
+pub near-exact : (limits : Limits) (axis bend change over pulses : ℕ) → change * 1048576 ≤ bend * over → IsNearCorner limits axis bend 1048576 pulses
     → IsNearCorner limits axis change over pulses
-near-exact limits axis turn change over pulses less (inl near) = inl (le_of_mul-le-mul_right scaled (omega arith)) where
+near-exact limits axis bend change over pulses less (inl near) = inl (le_of_mul-le-mul_right scaled (omega arith)) where
   scaled : change * pulses * 1048576 ≤ 8 * limits.slack * over * 1048576
   scaled =
-      let a : change * 1048576 * pulses ≤ turn * over * pulses = mul-le-mul_right pulses less in
-      let b : turn * pulses * over ≤ 8 * limits.slack * 1048576 * over = mul-le-mul_right over near in
+      let a : change * 1048576 * pulses ≤ bend * over * pulses = mul-le-mul_right pulses less in
+      let b : bend * pulses * over ≤ 8 * limits.slack * 1048576 * over = mul-le-mul_right over near in
       omega arith
-near-exact limits axis turn change over pulses less (inr near) = inr (le_of_mul-le-mul_right scaled (omega arith)) where
+near-exact limits axis bend change over pulses less (inr near) = inr (le_of_mul-le-mul_right scaled (omega arith)) where
   scaled : change * pulses * slice_index limits.accel axis * 1048576 ≤ slice_index limits.start axis * slice_index limits.start axis * over * 1048576
   scaled =
-      let a : change * 1048576 * (pulses * slice_index limits.accel axis) ≤ turn * over * (pulses * slice_index limits.accel axis)
+      let a : change * 1048576 * (pulses * slice_index limits.accel axis) ≤ bend * over * (pulses * slice_index limits.accel axis)
       = mul-le-mul_right (pulses * slice_index limits.accel axis) less in
-      let b : turn * pulses * slice_index limits.accel axis * over ≤ slice_index limits.start axis * slice_index limits.start axis * 1048576 * over
+      let b : bend * pulses * slice_index limits.accel axis * over ≤ slice_index limits.start axis * slice_index limits.start axis * 1048576 * over
       = mul-le-mul_right over near in
       omega arith
 
 -- a corner's, on both sides
-pub turning-exact : (limits : Limits) (axis size turn : ℕ) (before after : Slope) (pulses most ramp : ℕ) → IsTurn size turn before after
-    → IsCorner limits axis size turn 1048576 pulses most ramp
-    → IsTurning limits axis before after pulses most ramp
-turning-exact limits axis size turn before after pulses most ramp is kept = record {
-  leaves = corner-exact limits axis size turn (abs_diff before.up before.down * after.over) (turn_between before after) (before.over * after.over) pulses most
+pub bending-exact : (limits : Limits) (axis size bend : ℕ) (before after : Slope) (pulses most ramp : ℕ) → IsBend size bend before after
+    → IsCorner limits axis size bend 1048576 pulses most ramp
+    → IsBending limits axis before after pulses most ramp
+bending-exact limits axis size bend before after pulses most ramp is respected = record {
+  leaves = corner-exact limits axis size bend (abs_diff before.up before.down * after.over) (bend_between before after) (before.over * after.over) pulses most
       ramp
       (let a : abs_diff before.up before.down * 1048576 * after.over ≤ size * before.over * after.over = mul-le-mul_right after.over is.before_size in
-      omega arith) is.change kept;
-  enters = corner-exact limits axis size turn (abs_diff after.up after.down * before.over) (turn_between before after) (before.over * after.over) pulses most
+      omega arith) is.change respected;
+  enters = corner-exact limits axis size bend (abs_diff after.up after.down * before.over) (bend_between before after) (before.over * after.over) pulses most
       ramp
       (let a : abs_diff after.up after.down * 1048576 * before.over ≤ size * after.over * before.over = mul-le-mul_right before.over is.after_size in
-      omega arith) is.change kept;
+      omega arith) is.change respected;
 }
 
 -- a corner asks for no less than the chords on both sides
-pub along-corner : (limits : Limits) (axis slope turn over over' pulses most ramp : ℕ) → 0 < over' → 0 < pulses
-    → IsCorner limits axis (slope * over') turn (over * over') pulses most ramp → IsAlong limits axis slope over most ramp
-along-corner limits axis slope turn over over' pulses most ramp some long kept = record {
+pub along-corner : (limits : Limits) (axis slope bend over over' pulses most ramp : ℕ) → 0 < over' → 0 < pulses
+    → IsCorner limits axis (slope * over') bend (over * over') pulses most ramp → IsAlong limits axis slope over most ramp
+along-corner limits axis slope bend over over' pulses most ramp some long respected = record {
   accel = le_of_mul-le-mul_right scaled (omega (arith, mul-le 1 1 over' pulses some long));
   rate = λ fast. le_of_mul-le-mul_right (scaled_rate fast) (omega (arith, mul-le 1 1 over' over' some some));
 } where
   scaled : slope * ramp * (over' * pulses) ≤ 2 * slice_index limits.accel axis * over * 65536 * (over' * pulses)
-  scaled = omega (arith, kept.accel)
+  scaled = omega (arith, respected.accel)
 
   scaled_rate : 0 < slice_index limits.rate axis
       → slope * slope * most * (over' * over') ≤ slice_index limits.rate axis * slice_index limits.rate axis * over * over * 65536 * (over' * over')
-  scaled_rate fast = omega (arith, kept.rate fast)
+  scaled_rate fast = omega (arith, respected.rate fast)
 
 -- what is allowed along sizes of slopes is allowed along the slopes
 pub allow-along : (limits : Limits) (slopes : List Slopes) (sizes : List ℕ) (most ramp : ℕ)
@@ -110,25 +110,28 @@ allow-along limits slopes sizes most ramp small allowed = record {
 }
 
 -- and so at a corner
-pub takes-corner : (limits : Limits) (before after : List Slopes) (sizes turns : List ℕ) (pulses most ramp : ℕ)
+pub takes-corner : (limits : Limits) (before after : List Slopes) (sizes bends : List ℕ) (pulses most ramp : ℕ)
     → EachAxis (λ axis. (slope : Slope) (next : Slope) → IsSlope slope → IsSlope next → AreBetween before axis slope → AreBetween after axis next
-    → IsTurn (slice_index sizes axis) (slice_index turns axis) slope next)
-    → EachAxis (λ axis. IsNearCorner limits axis (slice_index turns axis) 1048576 pulses)
-    → EachAxis (λ axis. IsCorner limits axis (slice_index sizes axis) (slice_index turns axis) 1048576 pulses most ramp)
+    → IsBend (slice_index sizes axis) (slice_index bends axis) slope next)
+    → EachAxis (λ axis. IsNearCorner limits axis (slice_index bends axis) 1048576 pulses)
+    → EachAxis (λ axis. IsCorner limits axis (slice_index sizes axis) (slice_index bends axis) 1048576 pulses most ramp)
     → TakesCorner limits before after pulses most ramp
-takes-corner limits before after sizes turns pulses most ramp is near kept = record {
+takes-corner limits before after sizes bends pulses most ramp is near respected = record {
   near = record {
-    x = λ slope next a b c d. near-exact limits 0 (slice_index turns 0) (turn_between slope next) (slope.over * next.over) pulses
+    x = λ slope next a b c d. near-exact limits 0 (slice_index bends 0) (bend_between slope next) (slope.over * next.over) pulses
         (is.x slope next a b c d).change near.x;
-    y = λ slope next a b c d. near-exact limits 1 (slice_index turns 1) (turn_between slope next) (slope.over * next.over) pulses
+    y = λ slope next a b c d. near-exact limits 1 (slice_index bends 1) (bend_between slope next) (slope.over * next.over) pulses
         (is.y slope next a b c d).change near.y;
-    z = λ slope next a b c d. near-exact limits 2 (slice_index turns 2) (turn_between slope next) (slope.over * next.over) pulses
+    z = λ slope next a b c d. near-exact limits 2 (slice_index bends 2) (bend_between slope next) (slope.over * next.over) pulses
         (is.z slope next a b c d).change near.z;
   };
-  turning = record {
-    x = λ slope next a b c d. turning-exact limits 0 (slice_index sizes 0) (slice_index turns 0) slope next pulses most ramp (is.x slope next a b c d) kept.x;
-    y = λ slope next a b c d. turning-exact limits 1 (slice_index sizes 1) (slice_index turns 1) slope next pulses most ramp (is.y slope next a b c d) kept.y;
-    z = λ slope next a b c d. turning-exact limits 2 (slice_index sizes 2) (slice_index turns 2) slope next pulses most ramp (is.z slope next a b c d) kept.z;
+  bending = record {
+    x = λ slope next a b c d. bending-exact limits 0 (slice_index sizes 0) (slice_index bends 0) slope next pulses most ramp
+        (is.x slope next a b c d) respected.x;
+    y = λ slope next a b c d. bending-exact limits 1 (slice_index sizes 1) (slice_index bends 1) slope next pulses most ramp
+        (is.y slope next a b c d) respected.y;
+    z = λ slope next a b c d. bending-exact limits 2 (slice_index sizes 2) (slice_index bends 2) slope next pulses most ramp
+        (is.z slope next a b c d) respected.z;
   };
 }
 

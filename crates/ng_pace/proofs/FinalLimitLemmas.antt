@@ -34,7 +34,17 @@ timed_waiting-push [] w = refl
 timed_waiting-push (x ∷ xs) w = ap (λ t. (record { item = x.item; full = x.feed }) ∷ t) (timed_waiting-push xs w)
 
 pub settles_none : (m : Motion) (w : List Timed) → Settles m m w w
-settles_none m w = record { settled = []; known = sym (append-nil m.known); order = refl; own = tt; square = refl; start = refl; percent = refl; room = refl }
+settles_none m w = record {
+  settled = [];
+  known = sym
+      (append-nil m.known);
+  order = refl;
+  own = tt;
+  square = refl;
+  start = refl;
+  percent = refl;
+  capacity = refl;
+}
 
 pub settles_on : {a b c : Motion} {u v w : List Timed} → Settles a b u v → Settles b c v w → Settles a c u w
 settles_on {a} {b} {c} {u} {v} {w} first later = record {
@@ -46,7 +56,7 @@ settles_on {a} {b} {c} {u} {v} {w} first later = record {
   square = later.square ∙ first.square;
   start = later.start ∙ first.start;
   percent = later.percent ∙ first.percent;
-  room = later.room ∙ first.room;
+  capacity = later.capacity ∙ first.capacity;
 }
 
 -- one more behind those that wait
@@ -59,15 +69,15 @@ settles_push {a} {b} {u} {v} first w = record {
   square = first.square;
   start = first.start;
   percent = first.percent;
-  room = first.room;
+  capacity = first.capacity;
 }
 
 -- a rest can still be reached
 pub settles_rest : {a b : Motion} {u v : List Timed} → Settles a b u v → CanRest a.square a.known → CanRest b.square b.known
 settles_rest {a} {b} first rest = rw (first.known, first.square) (rest_more a.known first.settled a.square rest)
 
-pub kept : (m : Motion) (w : List Waiting) → Keeps m m w w
-kept m w = record { settles = settles_none m (timed_waiting w); count = refl }
+pub keeps_itself : (m : Motion) (w : List Waiting) → Keeps m m w w
+keeps_itself m w = record { settles = settles_none m (timed_waiting w); count = refl }
 
 pub keeps_on : {a b c : Motion} {u v w : List Waiting} → Keeps a b u v → Keeps b c v w → Keeps a c u w
 keeps_on first later = record { settles = settles_on first.settles later.settles; count = later.count ∙ first.count }
@@ -92,7 +102,7 @@ pushed old line waits own = record {
       refl;
   start = refl;
   percent = refl;
-  room = refl;
+  capacity = refl;
 }
 
 -- the first item that waits goes behind what is known
@@ -240,8 +250,8 @@ pub held-next : (old new : Motion) (waiting : List Waiting) (capacity start : �
 held-next old new waiting capacity start limits chord wanted None given same held = rw same held
 held-next old new waiting capacity start limits chord wanted (Some given) gives same held =
     let count : length old.known ≡ length (given.line ∷ new.known) = ap length gives.order in record {
-      fits = omega (arith, count, held.fits, gives.room);
-      capacity_is = held.capacity_is ∙ sym gives.room;
+      fits = omega (arith, count, held.fits, gives.capacity);
+      capacity_is = held.capacity_is ∙ sym gives.capacity;
       start_is = held.start_is ∙ sym gives.start;
       limits_are = held.limits_are;
       rests = gives.rests;

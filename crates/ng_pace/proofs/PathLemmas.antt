@@ -15,7 +15,7 @@ use Rattle.ng_pace.specs.declared.slopes.Slopes.{Slopes}
 use Rattle.ng_pace.specs.Axes.{IsCorner}
 use Rattle.ng_pace.specs.Chord.{Slope, IsSlope, IsNear}
 use Rattle.ng_pace.specs.Legs.{Leg, IsLeg, IsChord, IsFarthest, IsFullAt, IsFullAtCorner, IsLongest, IsPaced}
-use Rattle.ng_pace.specs.Legs.{IsBehind, IsCornered, IsOnChord, IsOnCorner, IsTurning, step_of, steps_along}
+use Rattle.ng_pace.specs.Legs.{IsBehind, IsCornered, IsOnChord, IsOnCorner, IsBending, step_of, steps_along}
 use Rattle.ng_pace.specs.Legs.{slope_along}
 use Rattle.ng_pace.specs.Making.{IsWithin}
 use Rattle.ng_pace.specs.Passing.{AllowAlong, TakesCorner}
@@ -53,18 +53,18 @@ on-chord limits stop slopes chord most ramp some allowed are line within = recor
   within = within.ramp_is;
 }
 
-corner-less : (limits : Limits) (axis slope turn over pulses most ramp most' : ℕ) → most' ≤ most → IsCorner limits axis slope turn over pulses most ramp
-    → IsCorner limits axis slope turn over pulses most' ramp
-corner-less limits axis slope turn over pulses most ramp most' less kept = record {
-  accel = let scaled : 2 * turn * most' ≤ 2 * turn * most = mul-le-mul_left (2 * turn) less in omega (arith, kept.accel);
-  rate = λ some. let scaled : slope * slope * most' ≤ slope * slope * most = mul-le-mul_left (slope * slope) less in omega (arith, kept.rate some);
+corner-less : (limits : Limits) (axis slope bend over pulses most ramp most' : ℕ) → most' ≤ most → IsCorner limits axis slope bend over pulses most ramp
+    → IsCorner limits axis slope bend over pulses most' ramp
+corner-less limits axis slope bend over pulses most ramp most' less respected = record {
+  accel = let scaled : 2 * bend * most' ≤ 2 * bend * most = mul-le-mul_left (2 * bend) less in omega (arith, respected.accel);
+  rate = λ some. let scaled : slope * slope * most' ≤ slope * slope * most = mul-le-mul_left (slope * slope) less in omega (arith, respected.rate some);
 }
 
-turning-less : (limits : Limits) (axis : ℕ) (before after : Slope) (pulses most ramp most' : ℕ) → most' ≤ most
-    → IsTurning limits axis before after pulses most ramp → IsTurning limits axis before after pulses most' ramp
-turning-less limits axis before after pulses most ramp most' less kept = record {
-  leaves = corner-less limits axis _ _ _ pulses most ramp most' less kept.leaves;
-  enters = corner-less limits axis _ _ _ pulses most ramp most' less kept.enters;
+bending-less : (limits : Limits) (axis : ℕ) (before after : Slope) (pulses most ramp most' : ℕ) → most' ≤ most
+    → IsBending limits axis before after pulses most ramp → IsBending limits axis before after pulses most' ramp
+bending-less limits axis before after pulses most ramp most' less respected = record {
+  leaves = corner-less limits axis _ _ _ pulses most ramp most' less respected.leaves;
+  enters = corner-less limits axis _ _ _ pulses most ramp most' less respected.enters;
 }
 
 pub on-corner : (limits : Limits) (stop : ℕ) (slopes next : List Slopes) (before after : List Pulse) (pulses most ramp : ℕ) → 0 < length before
@@ -73,22 +73,22 @@ pub on-corner : (limits : Limits) (stop : ℕ) (slopes next : List Slopes) (befo
 on-corner limits stop slopes next before after pulses most ramp some some' takes are are' line within = record {
   ramp = ramp;
   allowed = record {
-    x = turning-less limits 0 _ _ pulses most ramp line.most within.most_is
-        (takes.turning.x (slope_along 0 before) (slope_along 0 after) (slope-some 0 before some) (slope-some 0 after some') are.x are'.x);
-    y = turning-less limits 1 _ _ pulses most ramp line.most within.most_is
-        (takes.turning.y (slope_along 1 before) (slope_along 1 after) (slope-some 1 before some) (slope-some 1 after some') are.y are'.y);
-    z = turning-less limits 2 _ _ pulses most ramp line.most within.most_is
-        (takes.turning.z (slope_along 2 before) (slope_along 2 after) (slope-some 2 before some) (slope-some 2 after some') are.z are'.z);
+    x = bending-less limits 0 _ _ pulses most ramp line.most within.most_is
+        (takes.bending.x (slope_along 0 before) (slope_along 0 after) (slope-some 0 before some) (slope-some 0 after some') are.x are'.x);
+    y = bending-less limits 1 _ _ pulses most ramp line.most within.most_is
+        (takes.bending.y (slope_along 1 before) (slope_along 1 after) (slope-some 1 before some) (slope-some 1 after some') are.y are'.y);
+    z = bending-less limits 2 _ _ pulses most ramp line.most within.most_is
+        (takes.bending.z (slope_along 2 before) (slope_along 2 after) (slope-some 2 before some) (slope-some 2 after some') are.z are'.z);
   };
   within = within.ramp_is;
 }
 
 -- a line at a corner is a line of the chords on both sides
-turn-swapped : (limits : Limits) (axis slope turn over over' pulses most ramp : ℕ) → IsCorner limits axis (slope * over) turn (over * over') pulses most ramp
-    → IsCorner limits axis (slope * over) turn (over' * over) pulses most ramp
-turn-swapped limits axis slope turn over over' pulses most ramp kept = record {
-  accel = omega (arith, kept.accel);
-  rate = λ some. omega (arith, kept.rate some);
+bend-swapped : (limits : Limits) (axis slope bend over over' pulses most ramp : ℕ) → IsCorner limits axis (slope * over) bend (over * over') pulses most ramp
+    → IsCorner limits axis (slope * over) bend (over' * over) pulses most ramp
+bend-swapped limits axis slope bend over over' pulses most ramp respected = record {
+  accel = omega (arith, respected.accel);
+  rate = λ some. omega (arith, respected.rate some);
 }
 
 long : (axis : ℕ) (pulses : List Pulse) → 0 < length pulses → 0 < length (steps_along axis pulses)
@@ -112,11 +112,11 @@ enters-chord limits stop before after pulses some some' line on = record {
   ramp = on.ramp;
   allowed = record {
     x = along-corner limits 0 _ _ _ (length (steps_along 0 before)) pulses line.most on.ramp (long 0 before some') some
-        (turn-swapped limits 0 _ _ _ _ pulses line.most on.ramp on.allowed.x.enters);
+        (bend-swapped limits 0 _ _ _ _ pulses line.most on.ramp on.allowed.x.enters);
     y = along-corner limits 1 _ _ _ (length (steps_along 1 before)) pulses line.most on.ramp (long 1 before some') some
-        (turn-swapped limits 1 _ _ _ _ pulses line.most on.ramp on.allowed.y.enters);
+        (bend-swapped limits 1 _ _ _ _ pulses line.most on.ramp on.allowed.y.enters);
     z = along-corner limits 2 _ _ _ (length (steps_along 2 before)) pulses line.most on.ramp (long 2 before some') some
-        (turn-swapped limits 2 _ _ _ _ pulses line.most on.ramp on.allowed.z.enters);
+        (bend-swapped limits 2 _ _ _ _ pulses line.most on.ramp on.allowed.z.enters);
   };
   within = on.within;
 }

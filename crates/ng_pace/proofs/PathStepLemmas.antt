@@ -21,8 +21,8 @@ use Rattle.ng_pace.specs.Making.{IsWithin}
 use Rattle.ng_pace.specs.Putting.{KeepSoFar}
 use Rattle.ng_pace.specs.Passing.{PassesAlong, PassesCorner}
 use Rattle.ng_pace.specs.Path.{AreCones, AreReached, AreSlopes, IsOpen, IsGoing, IsPending, IsJoined, IsPath}
-use Rattle.ng_pace.specs.Path.{IsClosed, Advances, Reaches, Turns, Finishes, IsBegun, IsBehindFarthest, longer}
-use Rattle.ng_pace.specs.Path.{kept_of}
+use Rattle.ng_pace.specs.Path.{IsClosed, Advances, Reaches, Bends, Finishes, IsBegun, IsBehindFarthest, longer}
+use Rattle.ng_pace.specs.Path.{reserve_of}
 use Rattle.ng_pace.proofs.ConeLemmas.{near-push}
 use Rattle.ng_pace.proofs.CornerLemmas.{full-at-corner, longest}
 use Rattle.ng_pace.proofs.ExactLemmas.{full-on}
@@ -49,12 +49,12 @@ farthest-more slack chord (x ∷ next) more some farthest = λ pulse rest is. le
 
 -- along the open chord
 pub along-path : (limits : Limits) (stop : ℕ) (chord : Chord) (old new : Motion) (waited waits : List Waiting) (leg : Leg) (rest : List Leg)
-    (slopes : List Slopes) (kept : ℕ)
+    (slopes : List Slopes) (reserve : ℕ)
     → IsGoing limits stop chord (length waited) leg rest → 0 < length leg.pulses → AreAhead limits.slack slopes leg.pulses
-    → AreReached limits.slack slopes leg.pulses → kept_of limits.half (length leg.pulses) ≤ kept → 0 < kept
-    → PassesAlong limits slopes stop kept old new waited waits
+    → AreReached limits.slack slopes leg.pulses → reserve_of limits.half (length leg.pulses) ≤ reserve → 0 < reserve
+    → PassesAlong limits slopes stop reserve old new waited waits
     → Advances limits stop old new chord (length waits) (pulses_of (leg ∷ rest)) (lines_of (leg ∷ rest))
-along-path limits stop chord old new waited waits leg rest slopes kept going some ahead reached enough one passes = record {
+along-path limits stop chord old new waited waits leg rest slopes reserve going some ahead reached enough one passes = record {
   made = passes.makes.made;
   known = passes.makes.known;
   leg = record { pulses = leg.pulses; lines = leg.lines ++ passes.makes.made };
@@ -67,7 +67,7 @@ along-path limits stop chord old new waited waits leg rest slopes kept going som
     paced = λ more straight. paced-more limits stop (longer leg more) passes.makes.made rest (going.paced more straight) (on more straight) (few more)
         (full more);
     waits_are = omega (arith, length-append leg.lines passes.makes.made, passes.makes.rest, going.waits_are);
-    kept = omega (arith, length-append leg.lines passes.makes.made, passes.makes.rest, passes.makes.count_is, going.waits_are, going.kept, enough);
+    reserve = omega (arith, length-append leg.lines passes.makes.made, passes.makes.rest, passes.makes.count_is, going.waits_are, going.reserve, enough);
   });
   some = some;
 } where
@@ -97,7 +97,7 @@ record AreCounts (before first second waits n n' half pulses : ℕ) : Type 0 whe
   all : second ≡ pulses
   few : (pulses + 1) / 2 ≤ n
   left : waits + (pulses - pulses / 2) ≡ n
-  kept : pulses - pulses / 2 + min n (2 * half) / 2 ≤ n
+  reserve : pulses - pulses / 2 + min n (2 * half) / 2 ≤ n
 
 counts : (wait before first left second waits n n' half pulses : ℕ) → wait + before ≡ n + n' → before + min n' (2 * half) / 2 ≡ n' → 0 < n → 0 < n' → 0 < half
     → 0 < pulses → pulses ≤ max 1 n' → pulses ≤ max 1 n → pulses ≤ max 1 (2 * half)
@@ -108,7 +108,7 @@ counts wait before first left second waits n n' half pulses a b c d e f g h i j 
   all = omega arith;
   few = omega arith;
   left = omega arith;
-  kept = omega arith;
+  reserve = omega arith;
 }
 
 lines-split : (a b f t d s : List Line) → t ++ d ≡ s → (a ++ ((b ++ f) ++ t)) ++ d ≡ ((a ++ b) ++ []) ++ (f ++ s)
@@ -171,7 +171,7 @@ corner-counts : (limits : Limits) (stop : ℕ) (chord : Chord) (old new : Motion
 corner-counts limits stop chord old new waited waits leg before rest next pending some half p =
     counts (length waited) (length before.lines) (length p.first.made) (length p.left) (length p.then.made) (length waits) (length leg.pulses)
     (length before.pulses) limits.half p.pulses
-    pending.waits_are pending.kept some pending.some half p.some (omega (arith, p.before_few, pending.before_count))
+    pending.waits_are pending.reserve some pending.some half p.some (omega (arith, p.before_few, pending.before_count))
     (omega (arith, p.after_few, pending.opened.count)) p.half
     first_is p.first.rest p.then.count_is p.then.rest
   where
@@ -221,7 +221,7 @@ corner-path limits stop chord chord' old new waited waits leg before rest next p
             (farthest-more limits.slack before.pulses leg.pulses more some pending.farthest)
             (slopes-ahead limits.slack next leg.pulses more some ahead straight) p count;
         waits_are = omega (arith, back, count.all, count.left);
-        kept = omega (arith, back, count.all, count.kept);
+        reserve = omega (arith, back, count.all, count.reserve);
       });
       some = some;
     }
@@ -232,7 +232,7 @@ pub corner-reach : (limits : Limits) (stop : ℕ) (chord : Chord) (old new : Mot
     → IsPending limits stop chord (length waited) leg before rest → 0 < length leg.pulses → 0 < limits.half → AreSlopes next leg.pulses
     → AreReached limits.slack next leg.pulses → PassesCorner limits chord.before next chord.before_pulses chord.pulses stop old new waited waits
     → Reaches limits stop old new (length waits) leg.pulses (pulses_of (leg ∷ (before ∷ rest))) (lines_of (leg ∷ (before ∷ rest)))
-    × (kept_of limits.half (length leg.pulses) ≤ length waits)
+    × (reserve_of limits.half (length leg.pulses) ≤ length waits)
 corner-reach limits stop chord old new waited waits leg before rest next pending some half are reached p =
     let count : AreCounts (length before.lines) (length p.first.made) (length p.then.made) (length waits) (length leg.pulses) (length before.pulses)
     limits.half p.pulses
@@ -251,14 +251,14 @@ corner-reach limits stop chord old new waited waits leg before rest next pending
             count;
         waits_are = omega (arith, back, count.all, count.left);
       },
-      omega (arith, count.left, count.kept),
+      omega (arith, count.left, count.reserve),
     )
 
 -- where it was decided before, nothing is made
 pub going-reach : (limits : Limits) (stop : ℕ) (chord : Chord) (m : Motion) (waited : List Waiting) (leg : Leg) (rest : List Leg)
     → IsGoing limits stop chord (length waited) leg rest
     → Reaches limits stop m m (length waited) leg.pulses (pulses_of (leg ∷ rest)) (lines_of (leg ∷ rest))
-    × (kept_of limits.half (length leg.pulses) ≤ length waited)
+    × (reserve_of limits.half (length leg.pulses) ≤ length waited)
 going-reach limits stop chord m waited leg rest going = (
   record {
     made = [];
@@ -271,7 +271,7 @@ going-reach limits stop chord m waited leg rest going = (
         subst P (append-nil leg.pulses) (going.paced [] (rw (append-nil leg.pulses) going.opened.straight));
     waits_are = going.waits_are;
   },
-  omega (arith, going.waits_are, going.kept),
+  omega (arith, going.waits_are, going.reserve),
 )
 
 -- nothing is made of a path
@@ -308,7 +308,7 @@ pub reach-path : (limits : Limits) (stop : ℕ) (chord : Chord) (old new : Motio
     → IsPath limits stop chord (length waited) (leg ∷ rest) → IsTrue chord.has_corner → 0 < length leg.pulses → 0 < limits.half → AreSlopes next leg.pulses
     → AreReached limits.slack next leg.pulses → PassesCorner limits chord.before next chord.before_pulses chord.pulses stop old new waited waits
     → Reaches limits stop old new (length waits) leg.pulses (pulses_of (leg ∷ rest)) (lines_of (leg ∷ rest))
-    × (kept_of limits.half (length leg.pulses) ≤ length waits)
+    × (reserve_of limits.half (length leg.pulses) ≤ length waits)
 reach-path limits stop chord old new waited waits leg rest next (inl going) has some half are reached p = absurd (cc (going.decided, has))
 reach-path limits stop chord old new waited waits leg [] next (inr joined) has some half are reached p = absurd joined
 reach-path limits stop chord old new waited waits leg (before ∷ rest) next (inr pending) has some half are reached p
@@ -317,7 +317,7 @@ reach-path limits stop chord old new waited waits leg (before ∷ rest) next (in
 pub reached-path : (limits : Limits) (stop : ℕ) (chord : Chord) (m : Motion) (waited : List Waiting) (leg : Leg) (rest : List Leg)
     → IsPath limits stop chord (length waited) (leg ∷ rest) → IsFalse chord.has_corner
     → Reaches limits stop m m (length waited) leg.pulses (pulses_of (leg ∷ rest)) (lines_of (leg ∷ rest))
-    × (kept_of limits.half (length leg.pulses) ≤ length waited)
+    × (reserve_of limits.half (length leg.pulses) ≤ length waited)
 reached-path limits stop chord m waited leg rest (inl going) has = going-reach limits stop chord m waited leg rest going
 reached-path limits stop chord m waited leg [] (inr joined) has = absurd joined
 reached-path limits stop chord m waited leg (before ∷ rest) (inr pending) has = absurd (cc (pending.pending, has))
@@ -346,12 +346,12 @@ path-opened limits stop chord waits leg (before ∷ rest) (inr pending) = pendin
 
 -- along the last chord, where the path ends
 pub along-reach : (limits : Limits) (stop : ℕ) (old mid new : Motion) (waited waits : List Waiting) (chord pulses : List Pulse) (lines : List Line)
-    (slopes : List Slopes) (kept : ℕ)
+    (slopes : List Slopes) (reserve : ℕ)
     → Reaches limits stop old mid (length waited) chord pulses lines → AreSlopes slopes chord → AreReached limits.slack slopes chord → 0 < limits.half
     → 0 < length chord
-    → PassesAlong limits slopes stop kept mid new waited waits → kept ≤ length waited
-    → Reaches limits stop old new (length waits) chord pulses lines × (length waits ≡ kept)
-along-reach limits stop old mid new waited waits chord pulses lines slopes kept reached are greatest half some passes enough = (
+    → PassesAlong limits slopes stop reserve mid new waited waits → reserve ≤ length waited
+    → Reaches limits stop old new (length waits) chord pulses lines × (length waits ≡ reserve)
+along-reach limits stop old mid new waited waits chord pulses lines slopes reserve reached are greatest half some passes enough = (
   record {
     made = reached.made ++ passes.makes.made;
     known = known-both old mid new reached.made passes.makes.made reached.known passes.makes.known;
@@ -404,7 +404,7 @@ take-path limits stop chord chord' waits leg rest pulse path same cones count st
     paced = λ more chord_is. let P : List Pulse → Type 0 = λ t. IsPaced limits stop (record { pulses = t; lines = leg.lines } ∷ rest) in
         subst P (sym (append_assoc leg.pulses (pulse ∷ []) more)) (going.paced (pulse ∷ more) (rw (append_assoc leg.pulses (pulse ∷ []) more) at chord_is));
     waits_are = omega (arith, length-append leg.pulses (pulse ∷ []), going.waits_are);
-    kept = omega (arith, length-append leg.pulses (pulse ∷ []), going.kept);
+    reserve = omega (arith, length-append leg.pulses (pulse ∷ []), going.reserve);
   })
   by_path [] (inr joined) far = absurd joined
   by_path (before ∷ older) (inr pending) far = inr (record {
@@ -418,7 +418,7 @@ take-path limits stop chord chord' waits leg rest pulse path same cones count st
     before_is = rw (ap (λ t. t.before) same) pending.before_is;
     before_count = ap (λ t. t.before_pulses) same ∙ pending.before_count;
     waits_are = omega (arith, length-append leg.pulses (pulse ∷ []), pending.waits_are);
-    kept = pending.kept;
+    reserve = pending.reserve;
   })
 
 pub advances-pulses : (limits : Limits) (stop : ℕ) (old new : Motion) (chord : Chord) (waits : ℕ) (leg : Leg) (rest : List Leg) (pulse : Pulse)
@@ -482,7 +482,7 @@ path-stop limits stop chord waits (leg ∷ rest) (inl going) = inl (record {
   decided = going.decided;
   paced = λ more straight. paced-stop limits stop (longer leg more ∷ rest) (going.paced more straight);
   waits_are = going.waits_are;
-  kept = going.kept;
+  reserve = going.reserve;
 })
 path-stop limits stop chord waits (leg ∷ []) (inr joined) = absurd joined
 path-stop limits stop chord waits (leg ∷ (before ∷ rest)) (inr pending) = inr (record {
@@ -496,7 +496,7 @@ path-stop limits stop chord waits (leg ∷ (before ∷ rest)) (inr pending) = in
   before_is = pending.before_is;
   before_count = pending.before_count;
   waits_are = pending.waits_are;
-  kept = pending.kept;
+  reserve = pending.reserve;
 })
 
 -- of all pulses of a path lines were made, if they were of those of its last chord
@@ -554,10 +554,10 @@ pub chord-none : (slack : ℕ) → IsChord slack []
 chord-none slack = record { x = near-none slack (slope_of []); y = near-none slack (slope_of []); z = near-none slack (slope_of []) }
 
 -- a chord begins from rest
-pub turns-fresh : (limits : Limits) (chord chord' : Chord) (m : Motion) (waits : ℕ) (pulse : Pulse)
+pub bends-fresh : (limits : Limits) (chord chord' : Chord) (m : Motion) (waits : ℕ) (pulse : Pulse)
     → chord' ≡ record chord { pulses = 0; cones = chord'.cones; is_open = true; has_corner = false } → AreCones limits.slack chord'.cones [] → waits ≡ 0
-    → Turns limits m m chord' waits pulse [] []
-turns-fresh limits chord chord' m waits pulse same cones none = record {
+    → Bends limits m m chord' waits pulse [] []
+bends-fresh limits chord chord' m waits pulse same cones none = record {
   made = [];
   known = sym (append-nil m.known);
   leg = record { pulses = []; lines = [] };
@@ -584,7 +584,7 @@ turns-fresh limits chord chord' m waits pulse same cones none = record {
       (tt, tt),
     );
     waits_are = omega (arith, none);
-    kept = omega arith;
+    reserve = omega arith;
   });
   straight = chord-one limits.slack pulse;
   farthest = tt;
@@ -592,12 +592,13 @@ turns-fresh limits chord chord' m waits pulse same cones none = record {
 }
 
 -- or behind a corner
-pub turns-corner : (limits : Limits) (chord chord' : Chord) (old new : Motion) (waits kept : ℕ) (pulse : Pulse) (last pulses : List Pulse) (lines : List Line)
-    → Reaches limits 0 old new waits last pulses lines → IsClosed limits.slack chord last waits kept
-    → kept ≡ kept_of limits.half (length last) → 0 < length last → IsFarthest limits.slack last (pulse ∷ [])
+pub bends-corner : (limits : Limits) (chord chord' : Chord) (old new : Motion) (waits reserve : ℕ) (pulse : Pulse) (last pulses : List Pulse)
+    (lines : List Line)
+    → Reaches limits 0 old new waits last pulses lines → IsClosed limits.slack chord last waits reserve
+    → reserve ≡ reserve_of limits.half (length last) → 0 < length last → IsFarthest limits.slack last (pulse ∷ [])
     → chord' ≡ record chord { pulses = 0; cones = chord'.cones; is_open = true; has_corner = true } → AreCones limits.slack chord'.cones []
-    → Turns limits old new chord' waits pulse pulses lines
-turns-corner limits chord chord' old new waits kept pulse last pulses lines reached closed kept_is some farthest same cones = record {
+    → Bends limits old new chord' waits pulse pulses lines
+bends-corner limits chord chord' old new waits reserve pulse last pulses lines reached closed kept_is some farthest same cones = record {
   made = reached.made;
   known = reached.known;
   leg = record { pulses = []; lines = [] };
@@ -621,7 +622,7 @@ turns-corner limits chord chord' old new waits kept pulse last pulses lines reac
     before_is = rw (ap (λ t. t.before) same) closed.before_is;
     before_count = ap (λ t. t.before_pulses) same ∙ closed.before_count;
     waits_are = omega (arith, reached.waits_are);
-    kept = omega (arith, reached.waits_are, closed.waits_are, kept_is);
+    reserve = omega (arith, reached.waits_are, closed.waits_are, kept_is);
   });
   straight = chord-one limits.slack pulse;
   farthest = farthest;
@@ -637,10 +638,10 @@ path-farthest limits chord waits leg (before ∷ rest) more (inr pending) some s
     = farthest-more limits.slack before.pulses leg.pulses more some pending.farthest
 
 -- or it goes on
-pub turns-none : (limits : Limits) (chord : Chord) (m : Motion) (waits : ℕ) (pulse : Pulse) (leg : Leg) (rest : List Leg)
+pub bends-none : (limits : Limits) (chord : Chord) (m : Motion) (waits : ℕ) (pulse : Pulse) (leg : Leg) (rest : List Leg)
     → IsPath limits 0 chord waits (leg ∷ rest) → 0 < length leg.pulses → IsChord limits.slack (leg.pulses ++ pulse ∷ []) → length leg.pulses < 1048576
-    → Turns limits m m chord waits pulse (pulses_of (leg ∷ rest)) (lines_of (leg ∷ rest))
-turns-none limits chord m waits pulse leg rest path some straight few = record {
+    → Bends limits m m chord waits pulse (pulses_of (leg ∷ rest)) (lines_of (leg ∷ rest))
+bends-none limits chord m waits pulse leg rest path some straight few = record {
   made = [];
   known = sym (append-nil m.known);
   leg = leg;
@@ -654,17 +655,17 @@ turns-none limits chord m waits pulse leg rest path some straight few = record {
 }
 
 -- then the pulse is taken
-pub turns-on : (limits : Limits) (old mid new : Motion) (chord chord' : Chord) (waits waits' : ℕ) (pulse : Pulse) (pulses : List Pulse) (lines : List Line)
-    → (turned : Turns limits old mid chord waits pulse pulses lines)
-    → Advances limits 0 mid new chord' waits' (pulses_of (turned.leg ∷ turned.rest) ++ pulse ∷ []) (lines_of (turned.leg ∷ turned.rest))
+pub bends-on : (limits : Limits) (old mid new : Motion) (chord chord' : Chord) (waits waits' : ℕ) (pulse : Pulse) (pulses : List Pulse) (lines : List Line)
+    → (bent : Bends limits old mid chord waits pulse pulses lines)
+    → Advances limits 0 mid new chord' waits' (pulses_of (bent.leg ∷ bent.rest) ++ pulse ∷ []) (lines_of (bent.leg ∷ bent.rest))
     → Advances limits 0 old new chord' waits' (pulses ++ pulse ∷ []) lines
-turns-on limits old mid new chord chord' waits waits' pulse pulses lines turned a = record {
-  made = turned.made ++ a.made;
-  known = known-both old mid new turned.made a.made turned.known a.known;
+bends-on limits old mid new chord chord' waits waits' pulse pulses lines bent a = record {
+  made = bent.made ++ a.made;
+  known = known-both old mid new bent.made a.made bent.known a.known;
   leg = a.leg;
   rest = a.rest;
-  pulses_are = a.pulses_are ∙ ap (λ t. t ++ pulse ∷ []) turned.pulses_are;
-  lines_are = a.lines_are ∙ ap (λ t. t ++ a.made) turned.lines_are ∙ append_assoc lines turned.made a.made;
+  pulses_are = a.pulses_are ∙ ap (λ t. t ++ pulse ∷ []) bent.pulses_are;
+  lines_are = a.lines_are ∙ ap (λ t. t ++ a.made) bent.lines_are ∙ append_assoc lines bent.made a.made;
   path = a.path;
   some = a.some;
 }
@@ -672,7 +673,7 @@ turns-on limits old mid new chord chord' waits waits' pulse pulses lines turned 
 -- a path whose chord is open has one, and a path whose chord isn't has none
 pub closes-path : (limits : Limits) (stop : ℕ) (chord chord' : Chord) (old new : Motion) (waits waits' : ℕ) (legs : List Leg)
     → IsPath limits 0 chord waits legs → IsBegun legs → IsTrue chord.is_open
-    → ((leg : Leg) (rest : List Leg) → IsPath limits stop chord waits (leg ∷ rest) → 0 < length leg.pulses → 0 ≤ kept_of limits.half (length leg.pulses)
+    → ((leg : Leg) (rest : List Leg) → IsPath limits stop chord waits (leg ∷ rest) → 0 < length leg.pulses → 0 ≤ reserve_of limits.half (length leg.pulses)
     → Reaches limits stop old new waits' leg.pulses (pulses_of (leg ∷ rest)) (lines_of (leg ∷ rest)) × IsClosed limits.slack chord' leg.pulses waits' 0)
     → Finishes limits stop old new (pulses_of legs) (lines_of legs) × (waits' ≡ 0)
 closes-path limits stop chord chord' old new waits waits' [] path begun is closes = absurd (cc (path.0, is))
@@ -690,38 +691,38 @@ closed-path limits stop chord m waits (leg ∷ rest) path is = let opened : IsOp
 pub fresh-path : (limits : Limits) (chord chord' : Chord) (m : Motion) (waits : ℕ) (pulse : Pulse) (legs : List Leg) → IsPath limits 0 chord waits legs
     → IsFalse chord.is_open
     → chord' ≡ record chord { pulses = 0; cones = chord'.cones; is_open = true; has_corner = false } → AreCones limits.slack chord'.cones []
-    → Turns limits m m chord' waits pulse (pulses_of legs) (lines_of legs)
-fresh-path limits chord chord' m waits pulse [] path is same cones = turns-fresh limits chord chord' m waits pulse same cones path.1
+    → Bends limits m m chord' waits pulse (pulses_of legs) (lines_of legs)
+fresh-path limits chord chord' m waits pulse [] path is same cones = bends-fresh limits chord chord' m waits pulse same cones path.1
 fresh-path limits chord chord' m waits pulse (leg ∷ rest) path is same cones = let opened : IsOpen limits chord leg.pulses
     = path-opened limits 0 chord waits leg rest path in absurd (cc (opened.is_open, is))
 
-pub turned-path : (limits : Limits) (chord chord' chord'' : Chord) (old new : Motion) (waits waits' kept : ℕ) (pulse : Pulse) (legs : List Leg)
-    → IsPath limits 0 chord waits legs → IsBegun legs → IsTrue chord.is_open → kept ≡ kept_of limits.half chord.pulses
+pub bent-path : (limits : Limits) (chord chord' chord'' : Chord) (old new : Motion) (waits waits' reserve : ℕ) (pulse : Pulse) (legs : List Leg)
+    → IsPath limits 0 chord waits legs → IsBegun legs → IsTrue chord.is_open → reserve ≡ reserve_of limits.half chord.pulses
     → ((pulses : List Pulse) → AreCones limits.slack chord.cones pulses → chord.pulses ≡ length pulses
     → ¬ (IsChord limits.slack (pulses ++ pulse ∷ []) × (length pulses < 1048576)))
-    → ((leg : Leg) (rest : List Leg) → IsPath limits 0 chord waits (leg ∷ rest) → 0 < length leg.pulses → kept ≤ kept_of limits.half (length leg.pulses)
-    → Reaches limits 0 old new waits' leg.pulses (pulses_of (leg ∷ rest)) (lines_of (leg ∷ rest)) × IsClosed limits.slack chord' leg.pulses waits' kept)
+    → ((leg : Leg) (rest : List Leg) → IsPath limits 0 chord waits (leg ∷ rest) → 0 < length leg.pulses → reserve ≤ reserve_of limits.half (length leg.pulses)
+    → Reaches limits 0 old new waits' leg.pulses (pulses_of (leg ∷ rest)) (lines_of (leg ∷ rest)) × IsClosed limits.slack chord' leg.pulses waits' reserve)
     → chord'' ≡ record chord' { pulses = 0; cones = chord''.cones; is_open = true; has_corner = true } → AreCones limits.slack chord''.cones []
-    → Turns limits old new chord'' waits' pulse (pulses_of legs) (lines_of legs)
-turned-path limits chord chord' chord'' old new waits waits' kept pulse [] path begun is kept_is leaves closes same cones = absurd (cc (path.0, is))
-turned-path limits chord chord' chord'' old new waits waits' kept pulse (leg ∷ rest) path begun is kept_is leaves closes same cones =
+    → Bends limits old new chord'' waits' pulse (pulses_of legs) (lines_of legs)
+bent-path limits chord chord' chord'' old new waits waits' reserve pulse [] path begun is kept_is leaves closes same cones = absurd (cc (path.0, is))
+bent-path limits chord chord' chord'' old new waits waits' reserve pulse (leg ∷ rest) path begun is kept_is leaves closes same cones =
     let opened : IsOpen limits chord leg.pulses = path-opened limits 0 chord waits leg rest path in
-    let kept_of_leg : kept ≡ kept_of limits.half (length leg.pulses) = kept_is ∙ ap (λ t. kept_of limits.half t) opened.count in
+    let kept_of_leg : reserve ≡ reserve_of limits.half (length leg.pulses) = kept_is ∙ ap (λ t. reserve_of limits.half t) opened.count in
     let both : Reaches limits 0 old new waits' leg.pulses (pulses_of (leg ∷ rest)) (lines_of (leg ∷ rest))
-    × IsClosed limits.slack chord' leg.pulses waits' kept = closes leg rest path begun (omega (arith, kept_of_leg)) in
-    turns-corner limits chord' chord'' old new waits' kept pulse leg.pulses (pulses_of (leg ∷ rest)) (lines_of (leg ∷ rest)) both.0 both.1 kept_of_leg begun
+    × IsClosed limits.slack chord' leg.pulses waits' reserve = closes leg rest path begun (omega (arith, kept_of_leg)) in
+    bends-corner limits chord' chord'' old new waits' reserve pulse leg.pulses (pulses_of (leg ∷ rest)) (lines_of (leg ∷ rest)) both.0 both.1 kept_of_leg begun
     (λ first others e. let same_pulse : pulse ≡ first = cc in rw (← same_pulse) (leaves leg.pulses opened.cones opened.count)) same cones
 
 pub going-path : (limits : Limits) (chord : Chord) (m : Motion) (waits : ℕ) (pulse : Pulse) (legs : List Leg) → IsPath limits 0 chord waits legs
     → IsBegun legs → IsTrue chord.is_open
     → ((pulses : List Pulse) → AreCones limits.slack chord.cones pulses → chord.pulses ≡ length pulses → IsChord limits.slack (pulses ++ pulse ∷ [])
     × (length pulses < 1048576))
-    → Turns limits m m chord waits pulse (pulses_of legs) (lines_of legs)
+    → Bends limits m m chord waits pulse (pulses_of legs) (lines_of legs)
 going-path limits chord m waits pulse [] path begun is stays = absurd (cc (path.0, is))
 going-path limits chord m waits pulse (leg ∷ rest) path begun is stays =
     let opened : IsOpen limits chord leg.pulses = path-opened limits 0 chord waits leg rest path in
     let goes : IsChord limits.slack (leg.pulses ++ pulse ∷ []) × (length leg.pulses < 1048576) = stays leg.pulses opened.cones opened.count in
-    turns-none limits chord m waits pulse leg rest path begun goes.0 goes.1
+    bends-none limits chord m waits pulse leg rest path begun goes.0 goes.1
 
 -- the lines that were made so far
 pub keep-so-far : (limits : Limits) (chord : Chord) (waits : ℕ) (legs : List Leg) → IsPath limits 0 chord waits legs → KeepSoFar limits legs

@@ -12,7 +12,7 @@ use Rattle.ng_pace.specs.Legs.{Leg, pulses_of, lines_of}
 use Rattle.ng_pace.specs.Putting.{IsUnderway, Goes, Rests, KeepSoFar}
 use Rattle.ng_pace.specs.Calls.{IsEmpty, IsFlowGiven}
 use Rattle.ng_pace.specs.Run.{Event, put, end, ask, IsRun, lines_given}
-use Rattle.ng_pace.specs.Paths.{Path, lines_on, AreKept, ArePathsOf, lines_out, KeepsToPaths}
+use Rattle.ng_pace.specs.Paths.{Path, lines_on, AreWithinLimits, ArePathsOf, lines_out, KeepsToPaths}
 use Rattle.ng_pace.proofs.PathStepLemmas.{keep-so-far}
 
 -- what was made since some chords were underway
@@ -23,7 +23,7 @@ record Makes (Q : List Path → List Leg → Type 0) (limits : Limits) (start : 
   are_of : Q paths last
   known : lines_out givens ++ new.motion.known ≡ old.motion.known ++ made
   lines : lines_of legs ++ made ≡ lines_on paths ++ lines_of last
-  kept : AreKept limits start paths
+  within_limits : AreWithinLimits limits start paths
   limits_are : new.limits ≡ limits
   underway : IsUnderway new last
 
@@ -38,7 +38,7 @@ goes-on P Q f limits start old mid new legs chords made givens known lines later
   are_of = f later.paths later.last later.are_of;
   known = later.known ∙ ap (λ t. t ++ later.made) known ∙ append_assoc old.motion.known made later.made;
   lines = sym (append_assoc (lines_of legs) made later.made) ∙ ap (λ t. t ++ later.made) (sym lines) ∙ later.lines;
-  kept = later.kept;
+  within_limits = later.within_limits;
   limits_are = later.limits_are;
   underway = later.underway;
 }
@@ -57,7 +57,7 @@ rests-on P Q limits start old mid new legs items givens same starts r f later = 
   lines = sym (append_assoc (lines_of legs) (r.made ++ still) later.made)
       ∙ ap (λ t. t ++ later.made) (sym (append_assoc (lines_of legs) r.made still) ∙ ap (λ t. t ++ still) (sym r.lines_are))
       ∙ ap (λ t. (lines_of r.chords ++ still) ++ t) later.lines ∙ sym (append_assoc (lines_of r.chords ++ still) (lines_on later.paths) (lines_of later.last));
-  kept = (record { items = r.items_are; paced = rw (← same, ← starts) r.paced }, later.kept);
+  within_limits = (record { items = r.items_are; paced = rw (← same, ← starts) r.paced }, later.within_limits);
   limits_are = later.limits_are;
   underway = later.underway;
 } where
@@ -86,7 +86,7 @@ on-paths limits start old [] new legs same starts underway run = record {
   are_of = refl;
   known = ap (λ t. t.motion.known) run ∙ sym (append-nil old.motion.known);
   lines = append-nil (lines_of legs);
-  kept = tt;
+  within_limits = tt;
   limits_are = ap (λ t. t.limits) run ∙ same;
   underway = rw run underway;
 }
@@ -124,7 +124,7 @@ on-paths limits start old (ask wanted (Some given) ∷ events) new legs same sta
       are_of = later.are_of;
       known = given-on (ArePathsOf (pulses_of legs) events) limits start old run.0 new legs given.line (lines_given events) gives.given_out.order later;
       lines = later.lines;
-      kept = later.kept;
+      within_limits = later.within_limits;
       limits_are = later.limits_are;
       underway = later.underway;
     }
@@ -137,14 +137,14 @@ on-paths limits start old (ask wanted None ∷ events) new legs same starts unde
       are_of = later.are_of;
       known = later.known;
       lines = later.lines;
-      kept = later.kept;
+      within_limits = later.within_limits;
       limits_are = later.limits_are;
       underway = later.underway;
     }
 
-pub keeps-to-paths : (old : Flow) (limits : Limits) (room : ℕ) (events : List Event) (new : Flow) → IsEmpty old limits room → IsRun old events new
+pub keeps-to-paths : (old : Flow) (limits : Limits) (capacity : ℕ) (events : List Event) (new : Flow) → IsEmpty old limits capacity → IsRun old events new
     → KeepsToPaths limits (start_of limits) events new
-keeps-to-paths old limits room events new empty run =
+keeps-to-paths old limits capacity events new empty run =
     let m : Makes (ArePathsOf [] events) limits (start_of limits) old [] (lines_given events) new = on-paths limits
     (start_of limits) old events new [] empty.limits_are empty.start empty.underway run in
     let so_far : KeepSoFar new.limits m.last = keep-so-far new.limits new.chord (length new.waiting) m.last m.underway.path in record {
@@ -152,7 +152,7 @@ keeps-to-paths old limits room events new empty run =
       last = m.last;
       are_of = m.are_of;
       lines = m.known ∙ ap (λ t. t ++ m.made) empty.known ∙ m.lines;
-      kept = m.kept;
+      within_limits = m.within_limits;
       so_far = subst (λ t. KeepSoFar t m.last) m.limits_are so_far;
       items = m.underway.items;
     }

@@ -106,20 +106,20 @@ all_anew (x ∷ xs) [] h = absurd h
 all_anew (x ∷ xs) (y ∷ ys) h = (h.1.1.0, all_anew xs ys h.1.1.1)
 
 -- a square that was planned stays the same: so do all before it
-pub kept : (k n : ℕ) (xs ys : List Slot) (s : Slot) → IsPlan n xs → k < n → IsReplanned (suc k) xs ys → k < length ys → s ≡ slice_index_or ys k s
+pub stays_planned : (k n : ℕ) (xs ys : List Slot) (s : Slot) → IsPlan n xs → k < n → IsReplanned (suc k) xs ys → k < length ys → s ≡ slice_index_or ys k s
     → s.plan ≡ most_now s.line (ahead (drop (suc k) ys))
     → IsWhole ys
-kept k n [] [] s plan early h within read is = absurd (omega arith)
-kept k n [] (y ∷ ys) s plan early h within read is = absurd h
-kept k n (x ∷ xs) [] s plan early h within read is = absurd h
-kept zero n (x ∷ xs) (y ∷ ys) s plan early h within read is = (rw read at is, all_anew xs ys h.1)
-kept (suc k) zero (x ∷ xs) (y ∷ ys) s plan early h within read is = absurd (omega arith)
-kept (suc k) (suc n) (x ∷ xs) (y ∷ ys) s plan early h within read is =
+stays_planned k n [] [] s plan early h within read is = absurd (omega arith)
+stays_planned k n [] (y ∷ ys) s plan early h within read is = absurd h
+stays_planned k n (x ∷ xs) [] s plan early h within read is = absurd h
+stays_planned zero n (x ∷ xs) (y ∷ ys) s plan early h within read is = (rw read at is, all_anew xs ys h.1)
+stays_planned (suc k) zero (x ∷ xs) (y ∷ ys) s plan early h within read is = absurd (omega arith)
+stays_planned (suc k) (suc n) (x ∷ xs) (y ∷ ys) s plan early h within read is =
     let line = ap (λ t. t.line) h.0 in
     let square = ap (λ t. t.plan) h.0 in
     let ahead_same = same_ahead k xs ys h.1 in (
       square ∙ plan.0 ∙ sym (ap (λ t. most_now t (ahead ys)) line ∙ ap (λ t. most_now x.line t) ahead_same),
-      kept k n xs ys s plan.1 (omega arith) h.1
+      stays_planned k n xs ys s plan.1 (omega arith) h.1
           (omega arith) read is,
     )
 
@@ -139,14 +139,14 @@ pub all_at : (k : ℕ) (xs ys : List Slot) → k ≡ 0 → IsReplanned k xs ys �
 all_at zero xs ys none h = all_anew xs ys h
 all_at (suc k) xs ys none h = absurd (omega arith)
 
-pub kept_at : (k n : ℕ) (xs ys : List Slot) (s : Slot) (after : ℕ) → IsPlan n xs → k - 1 < n → 0 < k → k ≤ length ys → IsReplanned k xs ys
+pub stays_planned_at : (k n : ℕ) (xs ys : List Slot) (s : Slot) (after : ℕ) → IsPlan n xs → k - 1 < n → 0 < k → k ≤ length ys → IsReplanned k xs ys
     → s ≡ slice_index_or ys (k - 1) s → after ≡ ahead (drop k ys) → s.plan ≡ most_now s.line after
     → IsWhole ys
-kept_at zero n xs ys s after plan early some within h read next is = absurd (omega arith)
-kept_at (suc k) n xs ys s after plan early some within h read next is =
+stays_planned_at zero n xs ys s after plan early some within h read next is = absurd (omega arith)
+stays_planned_at (suc k) n xs ys s after plan early some within h read next is =
     let e : suc k - 1 ≡ k = omega arith in
     let read_k : s ≡ slice_index_or ys k s = rw e at read in
-    kept k n xs ys s plan (omega arith) h (omega arith) read_k (is ∙ ap (λ t. most_now s.line t) next)
+    stays_planned k n xs ys s plan (omega arith) h (omega arith) read_k (is ∙ ap (λ t. most_now s.line t) next)
 
 pub ahead-end : (xs : List Slot) → ahead (drop (length xs) xs) ≡ 0
 ahead-end [] = refl

@@ -61,15 +61,15 @@ size-most least greatest up down over size from up_to flat steep is = by_case (c
   by_case (inr h) = rise h
 
 -- a turn from one slope to a greater one
-turn_up : (least greatest' up down over up' down' over' turn : ℕ) → least * over + down * 1048576 ≤ (up + over) * 1048576
+bend_up : (least greatest' up down over up' down' over' bend : ℕ) → least * over + down * 1048576 ≤ (up + over) * 1048576
     → (up' + over') * 1048576 ≤ greatest' * over' + down' * 1048576
-    → up' ≤ over' + down' → min greatest' 2097152 - least ≤ turn
-    → (up' * over + down * over') * 1048576 ≤ turn * (over * over') + (down' * over + up * over') * 1048576
-turn_up least greatest' up down over up' down' over' turn from up_to flat most =
+    → up' ≤ over' + down' → min greatest' 2097152 - least ≤ bend
+    → (up' * over + down * over') * 1048576 ≤ bend * (over * over') + (down' * over + up * over') * 1048576
+bend_up least greatest' up down over up' down' over' bend from up_to flat most =
     let a : least * over * over' + down * 1048576 * over' ≤ (up + over) * 1048576 * over' = omega (arith, mul-le-mul_right over' from) in
     let capped : (up' + over') * 1048576 ≤ min greatest' 2097152 * over' + down' * 1048576 = chosen (cases_lt greatest' 2097152) in
     let b : (up' + over') * 1048576 * over ≤ min greatest' 2097152 * over' * over + down' * 1048576 * over = omega (arith, mul-le-mul_right over capped) in
-    let d : min greatest' 2097152 * (over * over') ≤ (turn + least) * (over * over') = mul-le-mul_right (over * over') (omega arith) in
+    let d : min greatest' 2097152 * (over * over') ≤ (bend + least) * (over * over') = mul-le-mul_right (over * over') (omega arith) in
     omega arith
   where
     chosen : (greatest' < 2097152) ⊎ (2097152 ≤ greatest') → (up' + over') * 1048576 ≤ min greatest' 2097152 * over' + down' * 1048576
@@ -77,16 +77,16 @@ turn_up least greatest' up down over up' down' over' turn from up_to flat most =
     chosen (inr great) = let is : min greatest' 2097152 ≡ 2097152 = omega arith in rw is (omega arith)
 
 -- a turn either way
-pub turn_of : (least greatest least' greatest' up down over up' down' over' turn : ℕ)
+pub bend_of : (least greatest least' greatest' up down over up' down' over' bend : ℕ)
     → least * over + down * 1048576 ≤ (up + over) * 1048576 → (up + over) * 1048576 ≤ greatest * over + down * 1048576 → up ≤ over + down
     → least' * over' + down' * 1048576 ≤ (up' + over') * 1048576 → (up' + over') * 1048576 ≤ greatest' * over' + down' * 1048576 → up' ≤ over' + down'
-    → turn ≡ max (min greatest' 2097152 - least) (min greatest 2097152 - least')
-    → abs_diff (up * over' + down' * over) (down * over' + up' * over) * 1048576 ≤ turn * (over * over')
-turn_of least greatest least' greatest' up down over up' down' over' turn from up_to flat from' up_to' flat' is =
-    let rises : (up' * over + down * over') * 1048576 ≤ turn * (over * over') + (down' * over + up * over') * 1048576
-    = turn_up least greatest' up down over up' down' over' turn from up_to' flat' (omega (arith, is)) in
-    let falls : (up * over' + down' * over) * 1048576 ≤ turn * (over' * over) + (down * over' + up' * over) * 1048576
-    = turn_up least' greatest up' down' over' up down over turn from' up_to flat (omega (arith, is)) in
+    → bend ≡ max (min greatest' 2097152 - least) (min greatest 2097152 - least')
+    → abs_diff (up * over' + down' * over) (down * over' + up' * over) * 1048576 ≤ bend * (over * over')
+bend_of least greatest least' greatest' up down over up' down' over' bend from up_to flat from' up_to' flat' is =
+    let rises : (up' * over + down * over') * 1048576 ≤ bend * (over * over') + (down' * over + up * over') * 1048576
+    = bend_up least greatest' up down over up' down' over' bend from up_to' flat' (omega (arith, is)) in
+    let falls : (up * over' + down' * over) * 1048576 ≤ bend * (over' * over) + (down * over' + up' * over) * 1048576
+    = bend_up least' greatest up' down' over' up down over bend from' up_to flat (omega (arith, is)) in
     omega arith
 
 -- the greatest of the slopes between two is that of one of them, but for one part

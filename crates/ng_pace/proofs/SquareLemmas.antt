@@ -18,10 +18,10 @@ pub record IsChosen (line : Line) (square start wanted from to plan after : ℕ)
   pub greatest : (other : ℕ) → FollowsWithin line from wanted after other → other ≤ to
   pub size : wanted < 2 ^ 64
 
-hasty_standing : (line : Line) (square start wanted from to plan after : ℕ) (lines : List Line) → IsChosen line square start wanted from to plan after
+hasty_at_rest : (line : Line) (square start wanted from to plan after : ℕ) (lines : List Line) → IsChosen line square start wanted from to plan after
     → Stands line
     → IsHasty line square start wanted from to lines
-hasty_standing line square start wanted from to plan after lines passed stands =
+hasty_at_rest line square start wanted from to plan after lines passed stands =
     let at : from ≡ 0 = omega (arith, passed.within, passed.planned, stands.0) in
     let after_it : to ≡ 0 = omega (arith, at, passed.follows.ramp.grows, stands.1) in record {
       regarded = lines;
@@ -91,7 +91,7 @@ hasty_planned line square start wanted from to plan n slots passed planned best 
 pub hasty : (line : Line) (square start wanted from to plan n : ℕ) (slots : List Slot) → IsChosen line square start wanted from to plan (ahead slots)
     → IsPlan n slots
     → Stands line ⊎ ((plan ≡ most_now line (ahead slots)) × LooksAhead n slots) → IsHasty line square start wanted from to (lines_of slots)
-hasty line square start wanted from to plan n slots passed planned (inl stands) = hasty_standing line square start wanted from to plan (ahead slots)
+hasty line square start wanted from to plan n slots passed planned (inl stands) = hasty_at_rest line square start wanted from to plan (ahead slots)
     (lines_of slots) passed stands
 hasty line square start wanted from to plan n slots passed planned (inr looks) = hasty_planned line square start wanted from to plan n slots passed planned
     looks.0 looks.1

@@ -28,11 +28,11 @@ pub some-left : (chord chord' : Chord) (waits left still : ℕ) → chord' ≡ r
     → (IsTrue chord.has_corner → chord.pulses ≤ waits → 0 < chord.pulses → 0 < left) → (IsFalse chord.has_corner → left ≡ waits)
     → (IsTrue chord'.has_corner → IsTrue chord.has_corner × (left ≡ waits))
     → (0 < chord'.pulses → 0 < left → 0 < still) → (IsTrue chord'.has_corner → still ≡ left) → WaitSome chord' still × (0 < still)
-some-left chord chord' waits left still same is pulses some decided kept pending along stays =
+some-left chord chord' waits left still same is pulses some decided reserve pending along stays =
     (record { last = λ _ _. one; all = λ _ has. whole has }, one) where
       by_corner : (b : Bool) → chord.has_corner ≡ b → 0 < left
       by_corner true has = decided has (some.all is has) pulses
-      by_corner false has = omega (arith, kept has, some.last is pulses)
+      by_corner false has = omega (arith, reserve has, some.last is pulses)
 
       one : 0 < still
       one = along (omega (arith, ap (λ t. t.pulses) same, pulses)) (by_corner chord.has_corner refl)

@@ -113,7 +113,7 @@ falls old (ask wanted (Some given) ∷ events) new run holds =
     (omega (arith, most, holds.0), falls run.0 events new run.1.1 holds.1)
 falls old (ask wanted None ∷ events) new run holds = falls old events new run.1 holds.1
 
--- in a hold what stands still goes on standing still
+-- in a hold what rests goes on resting
 stays : (old : Flow) (events : List Event) (new : Flow) → IsRun old events new → HoldsOnly events → old.motion.square ≡ 0 → new.motion.square ≡ 0
 stays old [] new run holds rest = ap (λ t. t.motion.square) run ∙ rest
 stays old (put item ∷ events) new run holds rest = absurd holds

@@ -14,7 +14,7 @@ pub record EachAxis (P : ℕ → Type 0) : Type 0 where
 abbrev pub SomeAxis : (ℕ → Type 0) → Type 0
 SomeAxis P = P 0 ⊎ (P 1 ⊎ P 2)
 
--- limits that can't be kept, by the first of these that holds: with so little acceleration an axis couldn't turn at a
+-- limits that can't be met, by the first of these that holds: with so little acceleration an axis couldn't turn at a
 -- pulse a second
 abbrev pub AccelerateTooLittle : Limits → Type 0
 AccelerateTooLittle limits = SomeAxis (λ axis. slice_index limits.accel axis < 3)
@@ -28,13 +28,13 @@ pub record GoTooFast (limits : Limits) : Type 0 where
   pub little : EachAxis (λ axis. slice_index limits.accel axis ≤ 1000000000)
   pub fast : SomeAxis (λ axis. 1000000000 < slice_index limits.rate axis)
 
--- each axis can be kept
+-- each axis can be met
 pub record HaveAxes (limits : Limits) : Type 0 where
   pub accel : EachAxis (λ axis. 3 ≤ slice_index limits.accel axis)
   pub accel_at_most : EachAxis (λ axis. slice_index limits.accel axis ≤ 1000000000)
   pub rate_at_most : EachAxis (λ axis. slice_index limits.rate axis ≤ 1000000000)
 
--- limits that can be kept
+-- limits that can be met
 pub record AreLimits (limits : Limits) : Type 0 where
   pub accel : EachAxis (λ i. 3 ≤ slice_index limits.accel i)
   pub accel_at_most : EachAxis (λ i. slice_index limits.accel i ≤ 1000000000)
@@ -70,15 +70,15 @@ IsFullRate limits slopes over most = SomeAxis (λ axis. IsFullAlone limits axis 
 
 -- at a corner the slope of an axis changes evenly over some pulses. That takes of its acceleration the change of slope
 -- times the square, over the pulses: what is left bounds the ramp
-pub record IsCorner (limits : Limits) (axis slope turn over pulses most ramp : ℕ) : Type 0 where
-  pub accel : slope * ramp * pulses + 2 * turn * most ≤ 2 * slice_index limits.accel axis * pulses * over * 2 ^ 16
+pub record IsCorner (limits : Limits) (axis slope bend over pulses most ramp : ℕ) : Type 0 where
+  pub accel : slope * ramp * pulses + 2 * bend * most ≤ 2 * slice_index limits.accel axis * pulses * over * 2 ^ 16
   pub rate : 0 < slice_index limits.rate axis → slope * slope * most ≤ slice_index limits.rate axis * slice_index limits.rate axis * over * over * 2 ^ 16
 
 -- the square at a corner is no less than this one, or than the chords on both sides allow, or than three quarters of
 -- the acceleration of some axis allow, but for less than 3 squares of a pulse a second
 abbrev pub IsFullCorner : Limits → List ℕ → List ℕ → ℕ → ℕ → ℕ → ℕ → Type 0
-IsFullCorner limits slopes turns over pulses feed most = (feed ≤ most) ⊎ (IsFullRate limits slopes over most
-    ⊎ ((2 ^ 58 ≤ most) ⊎ SomeAxis (λ axis. 3 * slice_index limits.accel axis * pulses * over < 4 * slice_index turns axis * (most / 2 ^ 16 + 3))))
+IsFullCorner limits slopes bends over pulses feed most = (feed ≤ most) ⊎ (IsFullRate limits slopes over most
+    ⊎ ((2 ^ 58 ≤ most) ⊎ SomeAxis (λ axis. 3 * slice_index limits.accel axis * pulses * over < 4 * slice_index bends axis * (most / 2 ^ 16 + 3))))
 
 -- and the ramp than a quarter of that of some axis
 abbrev pub IsQuarterRamp : Limits → List ℕ → ℕ → ℕ → Type 0
@@ -88,20 +88,20 @@ IsQuarterRamp limits slopes over ramp = (2 ^ 58 ≤ ramp)
 -- an axis whose slope changes evenly by so much over so many pulses leaves its straight lines by an eighth of their
 -- product: no more than the slack, or what it covers while it comes to rest from a rate at which it can stop at once
 abbrev pub IsNearCorner : Limits → ℕ → ℕ → ℕ → ℕ → Type 0
-IsNearCorner limits axis turn over pulses =
-    (turn * pulses ≤ 8 * limits.slack * over) ⊎
-    (turn * pulses * slice_index limits.accel axis ≤ slice_index limits.start axis * slice_index limits.start axis * over)
+IsNearCorner limits axis bend over pulses =
+    (bend * pulses ≤ 8 * limits.slack * over) ⊎
+    (bend * pulses * slice_index limits.accel axis ≤ slice_index limits.start axis * slice_index limits.start axis * over)
 
 -- over so many pulses it would leave them by more than both, but for what its acceleration makes of one pulse
-pub record IsFarFromCorner (limits : Limits) (axis turn over pulses : ℕ) : Type 0 where
-  pub by_slack : 8 * limits.slack * over < turn * pulses
-  pub by_start : slice_index limits.start axis * slice_index limits.start axis * over < (turn * pulses + over) * slice_index limits.accel axis
+pub record IsFarFromCorner (limits : Limits) (axis bend over pulses : ℕ) : Type 0 where
+  pub by_slack : 8 * limits.slack * over < bend * pulses
+  pub by_start : slice_index limits.start axis * slice_index limits.start axis * over < (bend * pulses + over) * slice_index limits.accel axis
 
 -- a corner is taken over as many pulses as may be: more would be more than half of a corner on a side, than a chord
 -- has, or too far for some axis; or it is as many as no chord has
 abbrev pub AreMostPulses : Limits → List ℕ → ℕ → ℕ → ℕ → ℕ → Type 0
-AreMostPulses limits turns over before after pulses = (2 ^ 32 ≤ pulses) ⊎ ((2 * limits.half ≤ pulses) ⊎ ((before ≤ pulses) ⊎ ((after ≤ pulses) ⊎
-    SomeAxis (λ axis. IsFarFromCorner limits axis (slice_index turns axis) over (pulses + 1)))))
+AreMostPulses limits bends over before after pulses = (2 ^ 32 ≤ pulses) ⊎ ((2 * limits.half ≤ pulses) ⊎ ((before ≤ pulses) ⊎ ((after ≤ pulses) ⊎
+    SomeAxis (λ axis. IsFarFromCorner limits axis (slice_index bends axis) over (pulses + 1)))))
 
 -- a motor starts and stops at once at so many parts of 256 of the ramp: at half of it, since at rest it is half a step
 -- beyond its pulse, or where no axis then goes faster than it can start

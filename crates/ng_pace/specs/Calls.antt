@@ -11,8 +11,8 @@ use Rattle.ng_pace.specs.Stream.{Flow, Settles, StandsAt, all_items, full_of, sq
 use Rattle.ng_pace.specs.Legs.{Leg}
 use Rattle.ng_pace.specs.Putting.{IsUnderway, GoesOnWith, Rests}
 
--- at rest, with nothing known, and room for so many items
-pub record IsEmpty (flow : Flow) (limits : Limits) (room : ℕ) : Type 0 where
+-- at rest, with nothing known, and capacity for so many items
+pub record IsEmpty (flow : Flow) (limits : Limits) (capacity : ℕ) : Type 0 where
   pub known : flow.motion.known ≡ []
   pub waiting : flow.waiting ≡ []
   pub rest : flow.motion.square ≡ 0
@@ -20,9 +20,9 @@ pub record IsEmpty (flow : Flow) (limits : Limits) (room : ℕ) : Type 0 where
   pub start : flow.motion.start ≡ start_of limits
   pub stops : IsStop limits flow.motion.start
   pub percent : flow.motion.percent ≡ limits.most_percent
-  pub room_is : flow.motion.room ≡ room
+  pub capacity_is : flow.motion.capacity ≡ capacity
   pub limits_are : flow.limits ≡ limits
-  pub can_be_kept : AreLimits limits
+  pub can_be_met : AreLimits limits
   pub underway : IsUnderway flow []
 
 -- an item is put in, behind all that are known

@@ -24,8 +24,8 @@ abbrev pub size_of : Slopes → ℕ
 size_of slopes = min (max (abs_diff slopes.least (2 ^ 20)) (abs_diff slopes.greatest (2 ^ 20))) (2 ^ 20)
 
 -- the greatest change from one of some slopes to one of others, in parts of 2^20; no slope is more than a step a pulse
-abbrev pub turn_of : Slopes → Slopes → ℕ
-turn_of before after = max (min after.greatest (2 ^ 21) - before.least) (min before.greatest (2 ^ 21) - after.least)
+abbrev pub bend_of : Slopes → Slopes → ℕ
+bend_of before after = max (min after.greatest (2 ^ 21) - before.least) (min before.greatest (2 ^ 21) - after.least)
 
 -- a slope of which something holds is this one, or less, but for one part of 2^20
 pub record IsReachedFrom (Holds : Slope → Type 0) (least : ℕ) : Type 0 where
@@ -56,10 +56,10 @@ abbrev pub AreBetween : List Slopes → ℕ → Slope → Type 0
 AreBetween slopes axis slope = (d : Slopes) → IsBetween (slice_index_or slopes axis d) slope
 
 -- no slope on either side of a corner is greater, nor the change from the one to the other, in parts of 2^20
-pub record IsTurn (size turn : ℕ) (before after : Slope) : Type 0 where
+pub record IsBend (size bend : ℕ) (before after : Slope) : Type 0 where
   pub before_size : abs_diff before.up before.down * 2 ^ 20 ≤ size * before.over
   pub after_size : abs_diff after.up after.down * 2 ^ 20 ≤ size * after.over
-  pub change : abs_diff (before.up * after.over + after.down * before.over) (before.down * after.over + after.up * before.over) * 2 ^ 20 ≤ turn *
+  pub change : abs_diff (before.up * after.over + after.down * before.over) (before.down * after.over + after.up * before.over) * 2 ^ 20 ≤ bend *
       (before.over * after.over)
 
 -- the slope from the first to the last of some pulses

@@ -33,13 +33,13 @@ IsFarthest slack chord next = (pulse : Pulse) (rest : List Pulse) → next ≡ p
     → ¬ (IsChord slack (chord ++ pulse ∷ []) × (length chord < 2 ^ 20))
 
 -- how much a slope changes, over the product of both lengths
-abbrev pub turn_between : Slope → Slope → ℕ
-turn_between before after = abs_diff (before.up * after.over + after.down * before.over) (before.down * after.over + after.up * before.over)
+abbrev pub bend_between : Slope → Slope → ℕ
+bend_between before after = abs_diff (before.up * after.over + after.down * before.over) (before.down * after.over + after.up * before.over)
 
 -- a corner asks for no more on either side of it
-pub record IsTurning (limits : Limits) (axis : ℕ) (before after : Slope) (pulses most ramp : ℕ) : Type 0 where
-  pub leaves : IsCorner limits axis (abs_diff before.up before.down * after.over) (turn_between before after) (before.over * after.over) pulses most ramp
-  pub enters : IsCorner limits axis (abs_diff after.up after.down * before.over) (turn_between before after) (before.over * after.over) pulses most ramp
+pub record IsBending (limits : Limits) (axis : ℕ) (before after : Slope) (pulses most ramp : ℕ) : Type 0 where
+  pub leaves : IsCorner limits axis (abs_diff before.up before.down * after.over) (bend_between before after) (before.over * after.over) pulses most ramp
+  pub enters : IsCorner limits axis (abs_diff after.up after.down * before.over) (bend_between before after) (before.over * after.over) pulses most ramp
 
 -- the square and the ramp of a line are allowed. Where the motors then come to rest, the ramp may be a rate at which
 -- they stop at once: `stop` parts of 256 of what is allowed
@@ -57,7 +57,7 @@ IsOnChord limits stop chord line =
 -- at a corner that is taken over so many pulses no axis is asked for more than is left of its acceleration
 abbrev pub IsOnCorner : Limits → ℕ → List Pulse → List Pulse → ℕ → Line → Type 0
 IsOnCorner limits stop before after pulses line
-    = IsAllowed (λ most ramp. EachAxis (λ axis. IsTurning limits axis (slope_along axis before) (slope_along axis after) pulses most ramp)) stop line
+    = IsAllowed (λ most ramp. EachAxis (λ axis. IsBending limits axis (slope_along axis before) (slope_along axis after) pulses most ramp)) stop line
 
 -- an axis has no more acceleration: along a slope that it may still get, near all of these pulses, the ramp of one more
 -- square of a pulse a second would be too much, but for a step in 2^20 pulses
@@ -98,7 +98,7 @@ pub record IsFullAt (limits : Limits) (chord : List Pulse) (k : ℕ) (line : Lin
 -- at a corner an axis turns as fast as may be: along slopes that it may get on both sides, near the pulses before it and
 -- those that are known behind it, three quarters of its acceleration are no more than this square takes, but for less
 -- than 3 squares of a pulse a second, and 2 steps in 2^20 pulses
-pub record IsTurnSpent (limits : Limits) (axis : ℕ) (before known : List Pulse) (pulses most : ℕ) : Type 0 where
+pub record IsBendSpent (limits : Limits) (axis : ℕ) (before known : List Pulse) (pulses most : ℕ) : Type 0 where
   pub slope : Slope
   pub next : Slope
   pub is : IsSlope slope
@@ -106,7 +106,7 @@ pub record IsTurnSpent (limits : Limits) (axis : ℕ) (before known : List Pulse
   pub near : IsNear limits.slack slope (steps_along axis before)
   pub near_next : IsNear limits.slack next (steps_along axis known)
   pub full : 3 * slice_index limits.accel axis * pulses * (slope.over * next.over) * 2 ^ 20
-      < 4 * (turn_between slope next * 2 ^ 20 + 2 * (slope.over * next.over)) * (most / 2 ^ 16 + 3)
+      < 4 * (bend_between slope next * 2 ^ 20 + 2 * (slope.over * next.over)) * (most / 2 ^ 16 + 3)
 
 -- and with this ramp it has a quarter of its acceleration, at least, along one of them
 pub record IsQuarterSpent (limits : Limits) (axis : ℕ) (known : List Pulse) (ramp : ℕ) : Type 0 where
@@ -124,7 +124,7 @@ pub record IsFullAtCorner (limits : Limits) (before known : List Pulse) (pulses 
   pub most_is : line.most ≡ min most line.full
   pub ramp_is : line.ramp ≡ min ramp (2 ^ 58)
   pub square : (line.full ≤ most) ⊎ ((2 ^ 58 ≤ most) ⊎ SomeAxis
-      (λ axis. IsRateSpent limits axis before most ⊎ (IsRateSpent limits axis known most ⊎ IsTurnSpent limits axis before known pulses most)))
+      (λ axis. IsRateSpent limits axis before most ⊎ (IsRateSpent limits axis known most ⊎ IsBendSpent limits axis before known pulses most)))
   pub quarter : (2 ^ 58 ≤ ramp) ⊎ SomeAxis (λ axis. IsQuarterSpent limits axis before ramp ⊎ IsQuarterSpent limits axis known ramp)
 
 -- over so many pulses an axis leaves its chords too far, along slopes that it may get, but for 2 steps in 2^20 pulses
@@ -135,9 +135,9 @@ pub record IsTooFar (limits : Limits) (axis : ℕ) (before known : List Pulse) (
   pub is_next : IsSlope next
   pub near : IsNear limits.slack slope (steps_along axis before)
   pub near_next : IsNear limits.slack next (steps_along axis known)
-  pub by_slack : 8 * limits.slack * (slope.over * next.over) * 2 ^ 20 < (turn_between slope next * 2 ^ 20 + 2 * (slope.over * next.over)) * pulses
+  pub by_slack : 8 * limits.slack * (slope.over * next.over) * 2 ^ 20 < (bend_between slope next * 2 ^ 20 + 2 * (slope.over * next.over)) * pulses
   pub by_start : slice_index limits.start axis * slice_index limits.start axis * (slope.over * next.over) * 2 ^ 20
-      < ((turn_between slope next * 2 ^ 20 + 2 * (slope.over * next.over)) * pulses + slope.over * next.over * 2 ^ 20) * slice_index limits.accel axis
+      < ((bend_between slope next * 2 ^ 20 + 2 * (slope.over * next.over)) * pulses + slope.over * next.over * 2 ^ 20) * slice_index limits.accel axis
 
 -- a corner is taken over as many pulses as may be: more would be more than half of a corner on a side, than the chord
 -- before it has, than are known behind it, or too far for some axis; or it is as many as no chord has
@@ -164,7 +164,7 @@ pub record IsCornered (limits : Limits) (stop : ℕ) (before after : Leg) : Type
   pub farthest : IsFarthest limits.slack before.pulses after.pulses
   pub pulses : ℕ
   pub some : 0 < pulses
-  pub near : EachAxis (λ axis. IsNearCorner limits axis (turn_between (slope_along axis before.pulses) (slope_along axis after.pulses))
+  pub near : EachAxis (λ axis. IsNearCorner limits axis (bend_between (slope_along axis before.pulses) (slope_along axis after.pulses))
       ((slope_along axis before.pulses).over * (slope_along axis after.pulses).over) pulses)
   pub whole : length before.lines ≡ length before.pulses
   pub begun : (pulses + 1) / 2 ≤ length after.lines

@@ -31,7 +31,7 @@ pub record IsGiven (old new : Motion) (wanted : ℕ) (given : Given) : Type 0 wh
   pub rests : CanRest new.square new.known
   pub start : new.start ≡ old.start
   pub percent : new.percent ≡ old.percent
-  pub room : new.room ≡ old.room
+  pub capacity : new.capacity ≡ old.capacity
 
 -- nothing is to be given out: no line is known, or it is at rest and is to be
 abbrev pub Waits : Motion → ℕ → Type 0

@@ -16,7 +16,7 @@ pub record Motion : Type 0 where
   -- at how many percent of the controller's rates the own times are
   pub percent : ℕ
   -- most lines that may be known
-  pub room : ℕ
+  pub capacity : ℕ
 
 -- so many lines are planned, the square is within the plan, and the root of the square that was reached is known
 pub record IsSteady (slots : List Slot) (square percent planned reached root : ℕ) : Type 0 where

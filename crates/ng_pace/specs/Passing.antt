@@ -8,8 +8,8 @@ use Rattle.ng_pace.specs.declared.chord.Waiting.{Waiting}
 use Rattle.ng_pace.specs.Pacer.{Motion}
 use Rattle.ng_pace.specs.Axes.{AreMostPulses, EachAxis, IsAlong, IsFullCorner, IsFullRamp, IsFullRate, IsNearCorner, IsQuarterRamp}
 use Rattle.ng_pace.specs.Chord.{Slope, IsSlope}
-use Rattle.ng_pace.specs.Cone.{AreBetween, size_of, turn_of}
-use Rattle.ng_pace.specs.Legs.{IsTurning, turn_between}
+use Rattle.ng_pace.specs.Cone.{AreBetween, size_of, bend_of}
+use Rattle.ng_pace.specs.Legs.{IsBending, bend_between}
 use Rattle.ng_pace.specs.Making.{Makes}
 
 -- along any slopes that are among these, this is allowed
@@ -25,31 +25,31 @@ pub record TakeAll (limits : Limits) (slopes : List Slopes) (most ramp : ℕ) : 
   pub accel : IsFullRamp limits sizes (2 ^ 20) ramp
 
 -- of all that waits, but so many, lines are made that are allowed along the slopes
-pub record PassesAlong (limits : Limits) (slopes : List Slopes) (stop kept : ℕ) (old new : Motion) (waited waits : List Waiting) : Type 0 where
+pub record PassesAlong (limits : Limits) (slopes : List Slopes) (stop reserve : ℕ) (old new : Motion) (waited waits : List Waiting) : Type 0 where
   pub most : ℕ
   pub ramp : ℕ
   pub allowed : AllowAlong limits slopes most ramp
   pub full : TakeAll limits slopes most ramp
-  pub makes : Makes old new waited waits most ramp stop (length waited - kept)
+  pub makes : Makes old new waited waits most ramp stop (length waited - reserve)
 
 -- a corner is taken over so many pulses, half on each side
 pub record TakesCorner (limits : Limits) (before after : List Slopes) (pulses most ramp : ℕ) : Type 0 where
   pub near : EachAxis (λ axis. (slope : Slope) (next : Slope) → IsSlope slope → IsSlope next → AreBetween before axis slope → AreBetween after axis next
-      → IsNearCorner limits axis (turn_between slope next) (slope.over * next.over) pulses)
-  pub turning : EachAxis (λ axis. (slope : Slope) (next : Slope) → IsSlope slope → IsSlope next → AreBetween before axis slope → AreBetween after axis next
-      → IsTurning limits axis slope next pulses most ramp)
+      → IsNearCorner limits axis (bend_between slope next) (slope.over * next.over) pulses)
+  pub bending : EachAxis (λ axis. (slope : Slope) (next : Slope) → IsSlope slope → IsSlope next → AreBetween before axis slope → AreBetween after axis next
+      → IsBending limits axis slope next pulses most ramp)
 
 -- over no more pulses, and no faster, some axis can turn from one of these slopes to one of the others; no item at the
 -- corner is faster than `feed` in its own time
-pub record TurnAll (limits : Limits) (before after : List Slopes) (count count' pulses feed most ramp : ℕ) : Type 0 where
+pub record BendAll (limits : Limits) (before after : List Slopes) (count count' pulses feed most ramp : ℕ) : Type 0 where
   pub sizes : List ℕ
-  pub turns : List ℕ
+  pub bends : List ℕ
   pub sizes_are : EachAxis (λ axis. (d : Slopes)
       → slice_index sizes axis ≡ max (size_of (slice_index_or before axis d))
       (size_of (slice_index_or after axis d)))
-  pub turns_are : EachAxis (λ axis. (d : Slopes) → slice_index turns axis ≡ turn_of (slice_index_or before axis d) (slice_index_or after axis d))
-  pub longest : AreMostPulses limits turns (2 ^ 20) count count' pulses
-  pub square : IsFullCorner limits sizes turns (2 ^ 20) pulses feed most
+  pub bends_are : EachAxis (λ axis. (d : Slopes) → slice_index bends axis ≡ bend_of (slice_index_or before axis d) (slice_index_or after axis d))
+  pub longest : AreMostPulses limits bends (2 ^ 20) count count' pulses
+  pub square : IsFullCorner limits sizes bends (2 ^ 20) pulses feed most
   pub quarter : IsQuarterRamp limits sizes (2 ^ 20) ramp
 
 -- lines are made up to the end of a corner, behind which so many pulses wait: along the chord before it, and then at
@@ -73,4 +73,4 @@ pub record PassesCorner (limits : Limits) (before after : List Slopes) (count co
   pub then : Makes mid new left waits most ramp stop pulses
   pub feed : ℕ
   pub feeds : (k : ℕ) (d : Line) → k < length then.made → (slice_index_or then.made k d).full ≤ feed
-  pub full : TurnAll limits before after count count' pulses feed most ramp
+  pub full : BendAll limits before after count count' pulses feed most ramp

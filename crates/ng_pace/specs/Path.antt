@@ -35,8 +35,8 @@ pub record IsOpen (limits : Limits) (chord : Chord) (pulses : List Pulse) : Type
   pub straight : IsChord limits.slack pulses
 
 -- how many of the last pulses of a chord may belong to the corner that it ends at
-abbrev pub kept_of : ℕ → ℕ → ℕ
-kept_of half pulses = min pulses (2 * half) / 2
+abbrev pub reserve_of : ℕ → ℕ → ℕ
+reserve_of half pulses = min pulses (2 * half) / 2
 
 -- a chord with more pulses
 abbrev pub longer : Leg → List Pulse → Leg
@@ -49,7 +49,7 @@ pub record IsGoing (limits : Limits) (stop : ℕ) (chord : Chord) (waits : ℕ) 
   pub decided : IsFalse chord.has_corner
   pub paced : (more : List Pulse) → IsChord limits.slack (leg.pulses ++ more) → IsPaced limits stop (longer leg more ∷ rest)
   pub waits_are : waits + length leg.lines ≡ length leg.pulses
-  pub kept : length leg.lines + kept_of limits.half (length leg.pulses) ≤ length leg.pulses
+  pub reserve : length leg.lines + reserve_of limits.half (length leg.pulses) ≤ length leg.pulses
 
 -- the corner isn't decided: the last pulses of the chord before it wait, too
 pub record IsPending (limits : Limits) (stop : ℕ) (chord : Chord) (waits : ℕ) (leg before : Leg) (rest : List Leg) : Type 0 where
@@ -63,7 +63,7 @@ pub record IsPending (limits : Limits) (stop : ℕ) (chord : Chord) (waits : ℕ
   pub before_reached : AreReached limits.slack chord.before before.pulses
   pub before_count : chord.before_pulses ≡ length before.pulses
   pub waits_are : waits + length before.lines ≡ length leg.pulses + length before.pulses
-  pub kept : length before.lines + kept_of limits.half (length before.pulses) ≡ length before.pulses
+  pub reserve : length before.lines + reserve_of limits.half (length before.pulses) ≡ length before.pulses
 
 abbrev pub IsJoined : Limits → ℕ → Chord → ℕ → Leg → List Leg → Type 0
 IsJoined limits stop chord waits leg [] = ⊥
@@ -101,9 +101,9 @@ abbrev pub IsBegun : List Leg → Type 0
 IsBegun [] = Unit {0}
 IsBegun (leg ∷ rest) = 0 < length leg.pulses
 
--- a chord was closed: what is kept of it, and how many of its pulses wait
-pub record IsClosed (slack : ℕ) (chord : Chord) (pulses : List Pulse) (waits kept : ℕ) : Type 0 where
-  pub waits_are : waits ≡ kept
+-- a chord was closed: what is held of it, and how many of its pulses wait
+pub record IsClosed (slack : ℕ) (chord : Chord) (pulses : List Pulse) (waits reserve : ℕ) : Type 0 where
+  pub waits_are : waits ≡ reserve
   pub before_is : AreSlopes chord.before pulses
   pub before_reached : AreReached slack chord.before pulses
   pub before_count : chord.before_pulses ≡ length pulses
@@ -114,7 +114,7 @@ IsBehindFarthest slack [] pulses = Unit {0}
 IsBehindFarthest slack (before ∷ rest) pulses = IsFarthest slack before.pulses pulses
 
 -- lines were made, and the last chord of the path goes straight with one more pulse
-pub record Turns (limits : Limits) (old new : Motion) (chord : Chord) (waits : ℕ) (pulse : Pulse) (pulses : List Pulse) (lines : List Line) : Type 0 where
+pub record Bends (limits : Limits) (old new : Motion) (chord : Chord) (waits : ℕ) (pulse : Pulse) (pulses : List Pulse) (lines : List Line) : Type 0 where
   pub made : List Line
   pub known : new.known ≡ old.known ++ made
   pub leg : Leg

@@ -23,13 +23,13 @@ lines_on (path ∷ rest) = (lines_of path.chords ++ map still_line path.stands) 
 
 -- each pulse of a path has its line, and no line asks of an axis for more than it has: along its chord, and at its
 -- corner, if it is at one
-pub record IsKept (limits : Limits) (start : ℕ) (path : Path) : Type 0 where
+pub record IsWithinLimits (limits : Limits) (start : ℕ) (path : Path) : Type 0 where
   pub items : items_of (lines_of path.chords) ≡ map Pulse (pulses_of path.chords)
   pub paced : IsPaced limits start path.chords
 
-abbrev pub AreKept : Limits → ℕ → List Path → Type 0
-AreKept limits start [] = Unit {0}
-AreKept limits start (path ∷ rest) = IsKept limits start path × AreKept limits start rest
+abbrev pub AreWithinLimits : Limits → ℕ → List Path → Type 0
+AreWithinLimits limits start [] = Unit {0}
+AreWithinLimits limits start (path ∷ rest) = IsWithinLimits limits start path × AreWithinLimits limits start rest
 
 abbrev pub lines_out : List Given → List Line
 lines_out [] = []
@@ -58,6 +58,6 @@ pub record KeepsToPaths (limits : Limits) (start : ℕ) (events : List Event) (n
   pub last : List Leg
   pub are_of : ArePathsOf [] events paths last
   pub lines : lines_out (lines_given events) ++ new.motion.known ≡ lines_on paths ++ lines_of last
-  pub kept : AreKept limits start paths
+  pub within_limits : AreWithinLimits limits start paths
   pub so_far : KeepSoFar limits last
   pub items : items_of (lines_of last) ++ items_waiting new.waiting ≡ map Pulse (pulses_of last)

@@ -76,7 +76,7 @@ pub record Settles (old new : Motion) (waited waits : List Timed) : Type 0 where
   pub square : new.square ≡ old.square
   pub start : new.start ≡ old.start
   pub percent : new.percent ≡ old.percent
-  pub room : new.room ≡ old.room
+  pub capacity : new.capacity ≡ old.capacity
 
 -- the line of an item at which everything stands still
 abbrev pub still_line : Item → Line
@@ -94,11 +94,11 @@ StandsAt known waits (Pulse pulse) = Unit {0}
 StandsAt known waits (Dwell us) = StandsLast known waits (Dwell us)
 StandsAt known waits (Switch outputs) = StandsLast known waits (Switch outputs)
 
--- there is room for all that is known, its limits can be kept, a rest can be reached, and few items wait; where none
+-- all that is known fits, its limits can be met, a rest can be reached, and few items wait; where none
 -- waits, everything stands still behind what is known
 pub record IsHeld (motion : Motion) (waiting : List Waiting) (capacity start : ℕ) (limits : Limits) (chord : Chord) : Type 0 where
-  pub fits : length motion.known + length waiting ≤ motion.room
-  pub capacity_is : capacity ≡ motion.room
+  pub fits : length motion.known + length waiting ≤ motion.capacity
+  pub capacity_is : capacity ≡ motion.capacity
   pub start_is : start ≡ motion.start
   pub limits_are : AreLimits limits
   pub rests : CanRest motion.square motion.known

@@ -19,7 +19,7 @@ pub enum PaceFault {
     SlackTooGreat,
     /// The most that is wanted isn't 100 to 200 percent.
     NoPercent,
-    /// There is no room for a line.
-    NoRoom,
+    /// No line fits.
+    NoCapacity,
     OutOfMemory,
 }

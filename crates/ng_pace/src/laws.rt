@@ -35,8 +35,8 @@ pub fn held()
 /// Of a stream from its beginning, whatever is put in and wanted: each line that was given out, or is known, keeps to
 /// the chord of its pulse, and to the corner if it is at one. Along a chord no axis is asked for more than its
 /// acceleration and its greatest rate, and at a corner for no more than is left of them (own).
-pub fn kept_to_paths()
-    ensures { (old : Flow) (limits : Limits) (room : ℕ) (events : List Event) (new : Flow) → IsEmpty old limits room
+pub fn keeps_to_paths()
+    ensures { (old : Flow) (limits : Limits) (capacity : ℕ) (events : List Event) (new : Flow) → IsEmpty old limits capacity
         → IsRun old events new → KeepsToPaths limits (start_of limits) events new }
 {}
 

@@ -82,7 +82,7 @@ impl Limits {
             || self.rate[2] > GREATEST_LIMIT
     }
 
-    /// Whether all can be kept.
+    /// Whether all can be met.
     pub(crate) fn check(&self) -> Result<(), PaceFault>
         ensures limits { OnOk result (AreLimits self.now) }
         ensures refused { IfErr result (λ fault. ¬ AreLimits self.now) }
@@ -98,7 +98,7 @@ impl Limits {
             ↔ (HaveAxes self.now × (0 < self.now.half) × (0 < self.now.slack) × (self.now.slack ≤ 1000)
             × IsNoPercent self.now.most_percent) }
         ensures no_other { IfErr result
-            (λ fault. (¬ (fault ≡ PaceFault.NoRoom)) × ¬ (fault ≡ PaceFault.StartTooSmall)) }
+            (λ fault. (¬ (fault ≡ PaceFault.NoCapacity)) × ¬ (fault ≡ PaceFault.StartTooSmall)) }
     {
         if self.accelerate_too_little() {
             return Err(PaceFault::NoAcceleration);

@@ -40,7 +40,7 @@ impl<A: Allocator> Model for Pacer<A> {
       square = p.square;
       start = p.start;
       percent = p.percent;
-      room = deque_capacity p.slots;
+      capacity = deque_capacity p.slots;
     } };
 
     ghost invariant = { λ p. IsSteady p.slots.items p.square p.percent p.planned p.reached p.root };
@@ -49,18 +49,18 @@ impl<A: Allocator> Model for Pacer<A> {
 impl<A: Allocator> Pacer<A> {
     ghost use Rattle.ng_pace.specs.Pacer.{Motion};
 
-    /// At rest, with no line, and room for so many. Nothing is allocated later. Source: own.
+    /// At rest, with no line, and capacity for so many. Nothing is allocated later. Source: own.
     ///
     /// `start` is the distance over which motors start and stop at once, in parts of 256 of a step: at least 128, since
     /// a motor at rest is half a step beyond its pulse. `percent` says at which part of the controller's rates the own
-    /// times are: 100 to 200. Refused: a lesser start, another percentage, no room, and what memory refuses.
-    pub fn new(alloc: A, start: u64, percent: u64, room: usize) -> Result<Pacer<A>, PaceFault>
-        ensures made { IfOk result (λ p. p ≡ record { known = []; square = 0; start = start; percent = percent; room = room }) }
+    /// times are: 100 to 200. Refused: a lesser start, another percentage, no capacity, and what memory refuses.
+    pub fn new(alloc: A, start: u64, percent: u64, capacity: usize) -> Result<Pacer<A>, PaceFault>
+        ensures made { IfOk result (λ p. p ≡ record { known = []; square = 0; start = start; percent = percent; capacity = capacity }) }
         ensures start_too_small { (result ≡ Err PaceFault.StartTooSmall) ↔ (start < 128) }
         ensures no_percent { (result ≡ Err PaceFault.NoPercent) ↔ ((128 ≤ start) × IsNoPercent percent) }
-        ensures no_room { (result ≡ Err PaceFault.NoRoom) ↔ ((128 ≤ start) × IsPercent percent × (room ≡ 0)) }
+        ensures no_capacity { (result ≡ Err PaceFault.NoCapacity) ↔ ((128 ≤ start) × IsPercent percent × (capacity ≡ 0)) }
         ensures no_other { IfErr result (λ fault. (fault ≡ PaceFault.StartTooSmall) ⊎ ((fault ≡ PaceFault.NoPercent)
-            ⊎ ((fault ≡ PaceFault.NoRoom) ⊎ (fault ≡ PaceFault.OutOfMemory)))) }
+            ⊎ ((fault ≡ PaceFault.NoCapacity) ⊎ (fault ≡ PaceFault.OutOfMemory)))) }
     {
         if start < 128 {
             return Err(PaceFault::StartTooSmall);
@@ -68,10 +68,10 @@ impl<A: Allocator> Pacer<A> {
         if !is_percent(percent) {
             return Err(PaceFault::NoPercent);
         }
-        if room == 0 {
-            return Err(PaceFault::NoRoom);
+        if capacity == 0 {
+            return Err(PaceFault::NoCapacity);
         }
-        match VecDeque::with_capacity(alloc, room) {
+        match VecDeque::with_capacity(alloc, capacity) {
             Ok(slots) => Ok(Pacer {
                 slots,
                 square: 0,
@@ -85,9 +85,9 @@ impl<A: Allocator> Pacer<A> {
         }
     }
 
-    /// Whether there is no room for a line. Source: own.
+    /// Whether one more line doesn't fit. Source: own.
     pub fn is_full(&self) -> bool
-        ensures { result ≡ nat_le self.now.room (length self.now.known) }
+        ensures { result ≡ nat_le self.now.capacity (length self.now.known) }
     {
         self.slots.capacity() <= self.slots.len()
     }
@@ -99,16 +99,16 @@ impl<A: Allocator> Pacer<A> {
         self.slots.len()
     }
 
-    /// For how many lines there is room.
-    pub(crate) fn room(&self) -> usize
-        ensures { result ≡ self.now.room }
+    /// How many lines fit.
+    pub(crate) fn capacity(&self) -> usize
+        ensures { result ≡ self.now.capacity }
     {
         self.slots.capacity()
     }
 
     /// Takes a line, behind all that are known. The motion stays as it is. Source: own.
     pub fn push(&mut self, line: Line)
-        requires { length self.old.known < self.old.room }
+        requires { length self.old.known < self.old.capacity }
         ensures { self.new ≡ record self.old { known = self.old.known ++ line ∷ [] } }
     {
         self.slots.push_back_reserved(Slot { line, plan: 0 });

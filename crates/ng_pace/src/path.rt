@@ -10,11 +10,11 @@ ghost use Rattle.ng_pace.specs.Making.{Marks, stop_of};
 ghost use Rattle.ng_pace.specs.Passing.{PassesAlong, PassesCorner};
 ghost use Rattle.ng_pace.specs.Legs.{IsChord, Leg, lines_of, pulses_of};
 ghost use Rattle.ng_pace.specs.Path.{Advances, AreReached, AreSlopes, IsBegun, IsBehindFarthest, IsClosed};
-ghost use Rattle.ng_pace.specs.Path.{Finishes, IsPath, Reaches, Turns, kept_of};
+ghost use Rattle.ng_pace.specs.Path.{Finishes, IsPath, Reaches, Bends, reserve_of};
 
 use crate::caps::along;
 use crate::chord::{Chord, Waiting};
-use crate::corner::{Turn, corner_caps, corner_pulses};
+use crate::corner::{Bend, corner_caps, corner_pulses};
 use crate::limits::Limits;
 use crate::pacer::Pacer;
 use crate::settling::{Ending, settle};
@@ -43,19 +43,19 @@ fn pass_along<A: Allocator>(
     waiting: &mut VecDeque<Waiting, A>,
     limits: &Limits,
     slopes: &[Slopes; 3],
-    kept: u64,
+    reserve: u64,
     ending: Ending,
 )
-    requires room { length pacer.old.known + length waiting.old.items ≤ pacer.old.room }
+    requires fits { length pacer.old.known + length waiting.old.items ≤ pacer.old.capacity }
     requires limits { AreLimits limits.now }
     ensures keeps { Keeps pacer.old pacer.new waiting.old.items waiting.new.items }
     ensures capacity { deque_capacity waiting.new ≡ deque_capacity waiting.old }
-    ensures few { length waiting.new.items ≤ kept }
+    ensures few { length waiting.new.items ≤ reserve }
     ensures marks { Marks ending pacer.new.known waiting.old.items waiting.new.items }
-    ensures passes { PassesAlong limits.now slopes.now (stop_of ending) kept pacer.old pacer.new waiting.old.items
+    ensures passes { PassesAlong limits.now slopes.now (stop_of ending) reserve pacer.old pacer.new waiting.old.items
         waiting.new.items }
 {
-    let count = (waiting.len() as u64).saturating_sub(kept);
+    let count = (waiting.len() as u64).saturating_sub(reserve);
     let caps = along(limits, &sizes(slopes));
     settle(pacer, waiting, count, caps, ending);
 }
@@ -70,7 +70,7 @@ fn pass_corner<A: Allocator>(
     after: &[Slopes; 3],
     ending: Ending,
 )
-    requires room { length pacer.old.known + length waiting.old.items ≤ pacer.old.room }
+    requires fits { length pacer.old.known + length waiting.old.items ≤ pacer.old.capacity }
     requires limits { AreLimits limits.now }
     ensures keeps { Keeps pacer.old pacer.new waiting.old.items waiting.new.items }
     ensures capacity { deque_capacity waiting.new ≡ deque_capacity waiting.old }
@@ -83,22 +83,22 @@ fn pass_corner<A: Allocator>(
 {
     let slopes = chord.before;
     let before = along(limits, &sizes(&slopes));
-    let turn = Turn::between(&slopes, after);
+    let bend = Bend::between(&slopes, after);
     let chord_pulses = chord.pulses as u64;
-    let pulses = corner_pulses(limits, &turn.turn, chord.before_pulses as u64, chord_pulses);
+    let pulses = corner_pulses(limits, &bend.bend, chord.before_pulses as u64, chord_pulses);
     let count = (waiting.len() as u64)
         .saturating_sub(chord_pulses)
         .saturating_sub(pulses / 2);
     let feed = greatest_feed(waiting, count, count.saturating_add(pulses));
-    let caps = corner_caps(limits, &turn, pulses, feed);
+    let caps = corner_caps(limits, &bend, pulses, feed);
     settle(pacer, waiting, count, before, ending);
     settle(pacer, waiting, pulses, caps, ending);
     chord.has_corner = false;
 }
 
 /// How many of the last pulses of a chord may belong to the corner that it ends at.
-fn kept_of(limits: &Limits, pulses: u32) -> u64
-    ensures { result ≡ kept_of limits.now.half pulses }
+fn reserve_of(limits: &Limits, pulses: u32) -> u64
+    ensures { result ≡ reserve_of limits.now.half pulses }
 {
     (pulses as u64).min(limits.half.saturating_mul(2)) / 2
 }
@@ -112,7 +112,7 @@ fn decide_at_end<A: Allocator>(
     slopes: &[Slopes; 3],
     ending: Ending,
 )
-    requires room { length pacer.old.known + length waiting.old.items ≤ pacer.old.room }
+    requires fits { length pacer.old.known + length waiting.old.items ≤ pacer.old.capacity }
     requires limits { AreLimits limits.now }
     ensures keeps { Keeps pacer.old pacer.new waiting.old.items waiting.new.items }
     ensures capacity { deque_capacity waiting.new ≡ deque_capacity waiting.old }
@@ -122,7 +122,7 @@ fn decide_at_end<A: Allocator>(
         → 0 < length leg.pulses → AreSlopes slopes.now leg.pulses → AreReached limits.now.slack slopes.now leg.pulses
         → Reaches limits.now (stop_of ending) pacer.old pacer.new (length waiting.new.items) leg.pulses
         (pulses_of (leg ∷ rest)) (lines_of (leg ∷ rest))
-        × (kept_of limits.now.half (length leg.pulses) ≤ length waiting.new.items) }
+        × (reserve_of limits.now.half (length leg.pulses) ≤ length waiting.new.items) }
     ensures chord { chord.new ≡ record chord.old { has_corner = chord.new.has_corner } }
 {
     if chord.has_corner {
@@ -138,25 +138,25 @@ fn close<A: Allocator>(
     chord: &mut Chord,
     limits: &Limits,
     ending: Ending,
-    kept: u64,
+    reserve: u64,
 )
-    requires room { length pacer.old.known + length waiting.old.items ≤ pacer.old.room }
+    requires fits { length pacer.old.known + length waiting.old.items ≤ pacer.old.capacity }
     requires limits { AreLimits limits.now }
     ensures keeps { Keeps pacer.old pacer.new waiting.old.items waiting.new.items }
     ensures capacity { deque_capacity waiting.new ≡ deque_capacity waiting.old }
     ensures marks { Marks ending pacer.new.known waiting.old.items waiting.new.items }
     ensures closes { (leg : Leg) (rest : List Leg)
         → IsPath limits.now (stop_of ending) chord.old (length waiting.old.items) (leg ∷ rest) → 0 < length leg.pulses
-        → kept ≤ kept_of limits.now.half (length leg.pulses)
+        → reserve ≤ reserve_of limits.now.half (length leg.pulses)
         → Reaches limits.now (stop_of ending) pacer.old pacer.new (length waiting.new.items) leg.pulses
         (pulses_of (leg ∷ rest)) (lines_of (leg ∷ rest))
-        × IsClosed limits.now.slack chord.new leg.pulses (length waiting.new.items) kept }
-    ensures few { length waiting.new.items ≤ kept }
+        × IsClosed limits.now.slack chord.new leg.pulses (length waiting.new.items) reserve }
+    ensures few { length waiting.new.items ≤ reserve }
     ensures closed { IsFalse chord.new.is_open }
 {
     let slopes = chord.slopes();
     decide_at_end(pacer, waiting, chord, limits, &slopes, ending);
-    pass_along(pacer, waiting, limits, &slopes, kept, ending);
+    pass_along(pacer, waiting, limits, &slopes, reserve, ending);
     chord.close();
 }
 
@@ -167,7 +167,7 @@ fn decide<A: Allocator>(
     chord: &mut Chord,
     limits: &Limits,
 )
-    requires room { length pacer.old.known + length waiting.old.items ≤ pacer.old.room }
+    requires fits { length pacer.old.known + length waiting.old.items ≤ pacer.old.capacity }
     requires limits { AreLimits limits.now }
     ensures keeps { Keeps pacer.old pacer.new waiting.old.items waiting.new.items }
     ensures capacity { deque_capacity waiting.new ≡ deque_capacity waiting.old }
@@ -196,7 +196,7 @@ fn go_along<A: Allocator>(
     chord: &Chord,
     limits: &Limits,
 )
-    requires room { length pacer.old.known + length waiting.old.items ≤ pacer.old.room }
+    requires fits { length pacer.old.known + length waiting.old.items ≤ pacer.old.capacity }
     requires limits { AreLimits limits.now }
     ensures keeps { Keeps pacer.old pacer.new waiting.old.items waiting.new.items }
     ensures capacity { deque_capacity waiting.new ≡ deque_capacity waiting.old }
@@ -211,8 +211,8 @@ fn go_along<A: Allocator>(
     if !chord.has_corner {
         let slopes = chord.slopes_ahead();
         let pulses = chord.pulses as u64;
-        let kept = limits.half.min(pulses - pulses / 2);
-        pass_along(pacer, waiting, limits, &slopes, kept, Ending::GoesOn);
+        let reserve = limits.half.min(pulses - pulses / 2);
+        pass_along(pacer, waiting, limits, &slopes, reserve, Ending::GoesOn);
     }
 }
 
@@ -225,7 +225,7 @@ pub(crate) fn extend<A: Allocator>(
     limits: &Limits,
     pulse: &Pulse,
 )
-    requires room { length pacer.old.known + length waiting.old.items ≤ pacer.old.room }
+    requires fits { length pacer.old.known + length waiting.old.items ≤ pacer.old.capacity }
     requires limits { AreLimits limits.now }
     ensures keeps { Keeps pacer.old pacer.new waiting.old.items waiting.new.items }
     ensures capacity { deque_capacity waiting.new ≡ deque_capacity waiting.old }
@@ -257,7 +257,7 @@ pub(crate) fn close_last<A: Allocator>(
     limits: &Limits,
     ending: Ending,
 )
-    requires room { length pacer.old.known + length waiting.old.items ≤ pacer.old.room }
+    requires fits { length pacer.old.known + length waiting.old.items ≤ pacer.old.capacity }
     requires limits { AreLimits limits.now }
     ensures keeps { Keeps pacer.old pacer.new waiting.old.items waiting.new.items }
     ensures capacity { deque_capacity waiting.new ≡ deque_capacity waiting.old }
@@ -273,14 +273,14 @@ pub(crate) fn close_last<A: Allocator>(
 }
 
 /// Opens a chord for a pulse, if it is none of the open one.
-pub(crate) fn turn<A: Allocator>(
+pub(crate) fn bend<A: Allocator>(
     pacer: &mut Pacer<A>,
     waiting: &mut VecDeque<Waiting, A>,
     chord: &mut Chord,
     limits: &Limits,
     pulse: &Pulse,
 )
-    requires room { length pacer.old.known + length waiting.old.items ≤ pacer.old.room }
+    requires fits { length pacer.old.known + length waiting.old.items ≤ pacer.old.capacity }
     requires limits { AreLimits limits.now }
     ensures keeps { Keeps pacer.old pacer.new waiting.old.items waiting.new.items }
     ensures capacity { deque_capacity waiting.new ≡ deque_capacity waiting.old }
@@ -289,15 +289,15 @@ pub(crate) fn turn<A: Allocator>(
     ensures some { WaitSome chord.old (length waiting.old.items) → WaitSome chord.new (length waiting.new.items) }
     ensures open { IsTrue chord.new.is_open }
     ensures short { chord.new.pulses < 2 ^ 20 }
-    ensures turns { (legs : List Leg) → IsPath limits.now 0 chord.old (length waiting.old.items) legs → IsBegun legs
-        → Turns limits.now pacer.old pacer.new chord.new (length waiting.new.items) pulse.now (pulses_of legs)
+    ensures bends { (legs : List Leg) → IsPath limits.now 0 chord.old (length waiting.old.items) legs → IsBegun legs
+        → Bends limits.now pacer.old pacer.new chord.new (length waiting.new.items) pulse.now (pulses_of legs)
         (lines_of legs) }
 {
     if !chord.is_open {
         chord.open(false);
     } else if chord.is_left(pulse) {
-        let kept = kept_of(limits, chord.pulses);
-        close(pacer, waiting, chord, limits, Ending::GoesOn, kept);
+        let reserve = reserve_of(limits, chord.pulses);
+        close(pacer, waiting, chord, limits, Ending::GoesOn, reserve);
         chord.open(true);
     }
 }

@@ -29,7 +29,7 @@ pub(crate) fn plan<A: Allocator>(slots: &mut VecDeque<Slot, A>, planned: usize)
     ensures plan { IsWhole slots.new.items }
     ensures lines { lines_of slots.new.items ≡ lines_of slots.old.items }
     ensures grows { ahead slots.old.items ≤ ahead slots.new.items }
-    ensures room { deque_capacity slots.new ≡ deque_capacity slots.old }
+    ensures capacity { deque_capacity slots.new ≡ deque_capacity slots.old }
 {
     let mut after = 0;
     let mut k = slots.len();
@@ -80,7 +80,7 @@ fn refresh<A: Allocator>(slots: &mut VecDeque<Slot, A>, planned: usize) -> usize
     ensures fresh { IsFresh result slots.new.items }
     ensures lines { lines_of slots.new.items ≡ lines_of slots.old.items }
     ensures grows { ahead slots.old.items ≤ ahead slots.new.items }
-    ensures room { deque_capacity slots.new ≡ deque_capacity slots.old }
+    ensures capacity { deque_capacity slots.new ≡ deque_capacity slots.old }
 {
     if !stands_first(slots) && is_stale(slots.len(), planned) {
         plan(slots, planned);
@@ -98,7 +98,7 @@ pub(crate) fn take<A: Allocator>(slots: &mut VecDeque<Slot, A>, planned: &mut us
     ensures none { IfNone result (slots.old.items ≡ []) }
     ensures empty { IfNone result (slots.new.items ≡ []) }
     ensures idle { IfNone result (planned.new ≡ 0) }
-    ensures room { deque_capacity slots.new ≡ deque_capacity slots.old }
+    ensures capacity { deque_capacity slots.new ≡ deque_capacity slots.old }
 {
     *planned = refresh(slots, *planned).saturating_sub(1);
     slots.pop_front()

@@ -53,7 +53,7 @@ fn settle_one<A: Allocator>(
     limits: Caps,
     ending: Ending,
 ) -> bool
-    requires { length pacer.old.known + length waiting.old.items ≤ pacer.old.room }
+    requires { length pacer.old.known + length waiting.old.items ≤ pacer.old.capacity }
     ensures keeps { Keeps pacer.old pacer.new waiting.old.items waiting.new.items }
     ensures capacity { deque_capacity waiting.new ≡ deque_capacity waiting.old }
     ensures fewer { IsTrue result → length waiting.new.items + 1 ≡ length waiting.old.items }
@@ -86,7 +86,7 @@ pub(crate) fn settle<A: Allocator>(
     limits: Caps,
     ending: Ending,
 )
-    requires { length pacer.old.known + length waiting.old.items ≤ pacer.old.room }
+    requires { length pacer.old.known + length waiting.old.items ≤ pacer.old.capacity }
     ensures keeps { Keeps pacer.old pacer.new waiting.old.items waiting.new.items }
     ensures capacity { deque_capacity waiting.new ≡ deque_capacity waiting.old }
     ensures makes { Makes pacer.old pacer.new waiting.old.items waiting.new.items limits.most limits.ramp
@@ -108,7 +108,7 @@ pub(crate) fn settle_all<A: Allocator>(
     limits: Caps,
     ending: Ending,
 )
-    requires { length pacer.old.known + length waiting.old.items ≤ pacer.old.room }
+    requires { length pacer.old.known + length waiting.old.items ≤ pacer.old.capacity }
     ensures keeps { Keeps pacer.old pacer.new waiting.old.items waiting.new.items }
     ensures capacity { deque_capacity waiting.new ≡ deque_capacity waiting.old }
     ensures none { waiting.new.items ≡ [] }

@@ -2,7 +2,7 @@
 ghost use Rattle.std.specs.Prelude.{◌≡◌, ◌≤◌, ◌<◌, ◌+◌, ◌*◌, ◌⊎◌, IsTrue, IsFalse, slice_index, slice_index_or};
 ghost use Rattle.std.specs.Int.{abs_diff};
 ghost use Rattle.ng_pace.specs.Chord.{Slope, IsSlope};
-ghost use Rattle.ng_pace.specs.Cone.{AreBetween, IsFrom, IsUpTo, IsBetween, IsReached, size_of, turn_of};
+ghost use Rattle.ng_pace.specs.Cone.{AreBetween, IsFrom, IsUpTo, IsBetween, IsReached, size_of, bend_of};
 ghost use Rattle.ng_pace.specs.declared.slopes.Slopes.{Slopes};
 ghost use Rattle.ng_pace.specs.Axes.{EachAxis};
 
@@ -84,9 +84,9 @@ impl Slopes {
     }
 
     /// The greatest change from one of these to one of others.
-    pub(crate) fn turn_to(&self, other: &Slopes) -> u64
+    pub(crate) fn bend_to(&self, other: &Slopes) -> u64
         ensures size { result ≤ 2 * STEP }
-        ensures exact { result ≡ turn_of self.now other.now }
+        ensures exact { result ≡ bend_of self.now other.now }
         ensures most { (before : Slope) (after : Slope) → IsSlope before → IsSlope after → IsBetween self.now before
             → IsBetween other.now after
             → abs_diff (before.up * after.over + after.down * before.over)

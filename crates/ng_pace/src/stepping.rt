@@ -12,7 +12,7 @@ use crate::line::{Line, least_ns};
 const TWO_SECONDS: u64 = 512_000_000_000;
 
 /// The least time of a line before and after which everything stands still.
-const STANDING_NS: u64 = 1_000_000_000;
+const AT_REST_NS: u64 = 1_000_000_000;
 
 /// A line that is given out: it is carried out now, and the next one no sooner than after its time (own).
 #[derive(Clone, Copy, Debug, PartialEq, Eq)]
@@ -54,7 +54,7 @@ fn time_at(least_ns: u64, both: u64) -> u64
     ensures { result ≡ time_at least_ns both }
 {
     if both == 0 {
-        return least_ns.max(STANDING_NS);
+        return least_ns.max(AT_REST_NS);
     }
     ((TWO_SECONDS + both - 1) / both).max(least_ns)
 }

@@ -20,7 +20,7 @@ use crate::fault::PaceFault;
 use crate::limits::{Caps, GREATEST, Limits};
 use crate::line::{Line, own_square};
 use crate::pacer::Pacer;
-use crate::path::{close_last, extend, turn};
+use crate::path::{bend, close_last, extend};
 use crate::settling::{Ending, settle_all};
 use crate::start::start_of;
 use crate::stepping::Given;
@@ -74,7 +74,7 @@ fn finish<A: Allocator>(
     limits: &Limits,
     ending: Ending,
 )
-    requires room { length pacer.old.known + length waiting.old.items ≤ pacer.old.room }
+    requires fits { length pacer.old.known + length waiting.old.items ≤ pacer.old.capacity }
     requires limits { AreLimits limits.now }
     ensures keeps { Keeps pacer.old pacer.new waiting.old.items waiting.new.items }
     ensures capacity { deque_capacity waiting.new ≡ deque_capacity waiting.old }
@@ -103,9 +103,9 @@ fn push_pulse<A: Allocator>(
     item: Item,
     pulse: &Pulse,
 )
-    requires room { length pacer.old.known + length waiting.old.items < pacer.old.room }
+    requires fits { length pacer.old.known + length waiting.old.items < pacer.old.capacity }
     requires limits { AreLimits limits.now }
-    requires capacity { deque_capacity waiting.old ≡ pacer.old.room }
+    requires capacity { deque_capacity waiting.old ≡ pacer.old.capacity }
     ensures adds { Adds pacer.old pacer.new waiting.old.items waiting.new.items
         (record { item = item; full = min (own_square limits.now.most_percent pulse.now.period_us) shape.old.before }) }
     ensures capacity { deque_capacity waiting.new ≡ deque_capacity waiting.old }
@@ -122,7 +122,7 @@ fn push_pulse<A: Allocator>(
 {
     let own = own_square(limits.most_percent, pulse.period_us);
     let feed = own.min(shape.before);
-    turn(pacer, waiting, &mut shape.chord, limits, pulse);
+    bend(pacer, waiting, &mut shape.chord, limits, pulse);
     waiting.push_back_reserved(Waiting { item, feed });
     extend(pacer, waiting, &mut shape.chord, limits, pulse);
     shape.before = own;
@@ -149,7 +149,7 @@ fn push_still<A: Allocator>(
     limits: &Limits,
     item: Item,
 )
-    requires room { length pacer.old.known + length waiting.old.items < pacer.old.room }
+    requires fits { length pacer.old.known + length waiting.old.items < pacer.old.capacity }
     requires limits { AreLimits limits.now }
     ensures adds { Adds pacer.old pacer.new waiting.old.items waiting.new.items
         (record { item = item; full = 0 }) }
@@ -178,9 +178,9 @@ fn push_item<A: Allocator>(
     limits: &Limits,
     item: Item,
 )
-    requires room { length pacer.old.known + length waiting.old.items < pacer.old.room }
+    requires fits { length pacer.old.known + length waiting.old.items < pacer.old.capacity }
     requires limits { AreLimits limits.now }
-    requires capacity { deque_capacity waiting.old ≡ pacer.old.room }
+    requires capacity { deque_capacity waiting.old ≡ pacer.old.capacity }
     ensures adds { Adds pacer.old pacer.new waiting.old.items waiting.new.items
         (record { item = item; full = full_of limits.now.most_percent shape.old.before item }) }
     ensures capacity { deque_capacity waiting.new ≡ deque_capacity waiting.old }
@@ -205,13 +205,13 @@ fn push_item<A: Allocator>(
 }
 
 impl<A: Allocator + Copy> Stream<A> {
-    /// At rest, with no item, and room for so many. Nothing is allocated later. Source: own.
+    /// At rest, with no item, and capacity for so many. Nothing is allocated later. Source: own.
     ///
     /// Refused, in this order: an axis with less acceleration than 3, with more than 1,000,000,000, or with a greater
-    /// rate than that; corners of no pulse; a slack that isn't 1 to 1,000; a percentage that isn't 100 to 200; no room;
-    /// and what memory refuses. Nothing is made then.
-    pub fn new(alloc: A, limits: Limits, room: usize) -> Result<Stream<A>, PaceFault>
-        ensures made { IfOk result (λ s. IsEmpty s limits room) }
+    /// rate than that; corners of no pulse; a slack that isn't 1 to 1,000; a percentage that isn't 100 to 200; no
+    /// capacity; and what memory refuses. Nothing is made then.
+    pub fn new(alloc: A, limits: Limits, capacity: usize) -> Result<Stream<A>, PaceFault>
+        ensures made { IfOk result (λ s. IsEmpty s limits capacity) }
         ensures no_acceleration { (result ≡ Err PaceFault.NoAcceleration) ↔ AccelerateTooLittle limits }
         ensures acceleration_too_great { (result ≡ Err PaceFault.AccelerationTooGreat) ↔ AccelerateTooMuch limits }
         ensures rate_too_great { (result ≡ Err PaceFault.RateTooGreat) ↔ GoTooFast limits }
@@ -223,13 +223,13 @@ impl<A: Allocator + Copy> Stream<A> {
         ensures no_percent { (result ≡ Err PaceFault.NoPercent)
             ↔ (HaveAxes limits × (0 < limits.half) × (0 < limits.slack) × (limits.slack ≤ 1000)
             × IsNoPercent limits.most_percent) }
-        ensures no_room { (result ≡ Err PaceFault.NoRoom) ↔ (AreLimits limits × (room ≡ 0)) }
+        ensures no_capacity { (result ≡ Err PaceFault.NoCapacity) ↔ (AreLimits limits × (capacity ≡ 0)) }
         ensures no_other { ¬ (result ≡ Err PaceFault.StartTooSmall) }
     {
         limits.check()?;
         let start = start_of(&limits);
-        let pacer = Pacer::new(alloc, start, limits.most_percent, room)?;
-        match VecDeque::with_capacity(alloc, room) {
+        let pacer = Pacer::new(alloc, start, limits.most_percent, capacity)?;
+        match VecDeque::with_capacity(alloc, capacity) {
             Ok(waiting) => Ok(Stream {
                 pacer,
                 waiting,
@@ -246,20 +246,20 @@ impl<A: Allocator + Copy> Stream<A> {
 }
 
 impl<A: Allocator> Stream<A> {
-    /// Whether there is no room for an item: it is asked before `push`. A full stream with room for 5 times `half` and
-    /// 15 items knows a line, so `next` gives one wherever some motion is wanted. With less room it may be that all
+    /// Whether one more item doesn't fit: it is asked before `push`. A full stream with capacity for 5 times `half` and
+    /// 15 items knows a line, so `next` gives one wherever some motion is wanted. With a lesser one it may be that all
     /// items wait: then only `end` goes on. Source: own.
     pub fn is_full(&self) -> bool
-        ensures full { result ≡ nat_le self.now.motion.room (length self.now.motion.known + length self.now.waiting) }
-        ensures known { IsTrue result → 5 * self.now.limits.half + 15 ≤ self.now.motion.room
+        ensures full { result ≡ nat_le self.now.motion.capacity (length self.now.motion.known + length self.now.waiting) }
+        ensures known { IsTrue result → 5 * self.now.limits.half + 15 ≤ self.now.motion.capacity
             → 0 < length self.now.motion.known }
     {
-        self.pacer.room() <= self.pacer.len() + self.waiting.len()
+        self.pacer.capacity() <= self.pacer.len() + self.waiting.len()
     }
 
     /// Takes an item, after all that are known. The motion stays as it is. Source: own.
     pub fn push(&mut self, item: Item)
-        requires { length self.old.motion.known + length self.old.waiting < self.old.motion.room }
+        requires { length self.old.motion.known + length self.old.waiting < self.old.motion.capacity }
         ensures { IsPut self.old self.new item }
     {
         push_item(

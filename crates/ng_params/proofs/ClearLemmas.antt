@@ -23,8 +23,8 @@ below_and_here k old new below here j within =
     let P : ℕ → Type 0 = λ i. get_or new i (pos 0) ≡ cleared_at old i in
     elim (cases_lt j k) [ inl before ↦ below j before | inr at ↦ subst P (omega arith) here ]
 
-pub cleared_kept : (k : ℕ) (old new : List ℤ) → lasts (k + 1) ≡ true → IsClearedTo k old new → IsClearedTo (k + 1) old new
-cleared_kept k old new lasting h = record {
+pub cleared_lasting : (k : ℕ) (old new : List ℤ) → lasts (k + 1) ≡ true → IsClearedTo k old new → IsClearedTo (k + 1) old new
+cleared_lasting k old new lasting h = record {
   whole = h.whole;
   below = below_and_here k old new h.below (h.above k (omega arith) ∙ sym (ap (λ b. cond b (get_or old k (pos 0)) (pos 0)) lasting));
   above = λ j past. h.above j (omega arith);

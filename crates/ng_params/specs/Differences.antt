@@ -21,12 +21,12 @@ unfoldable pub differences : List ℤ → List ℤ → List Change
 differences old new = differences_to parameter_count old new
 
 -- These are the differences among the parameters after the first `from` ones, up to the first `next` ones: as many as
--- there is room for, or all that are left.
-pub record TakesDifferences (room : ℕ) (old new : List ℤ) (from next : ℕ) (taken : List Change) : Type 0 where
+-- may be taken, or all that are left.
+pub record TakesDifferences (capacity : ℕ) (old new : List ℤ) (from next : ℕ) (taken : List Change) : Type 0 where
   pub on : differences_to next old new ≡ differences_to from old new ++ taken
   pub within : next ≤ parameter_count
-  pub few : length taken ≤ room
-  pub full : next < parameter_count → length taken ≡ room
+  pub few : length taken ≤ capacity
+  pub full : next < parameter_count → length taken ≡ capacity
 
 -- no parameter above p is changed
 abbrev pub ChangesNoneAbove : ℕ → List Change → Type 0

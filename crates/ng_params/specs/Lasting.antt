@@ -10,7 +10,7 @@ is_of first p = nat_le first p && nat_le p (first + 2)
 abbrev pub systems : List ℕ
 systems = 1 ∷ 2 ∷ 3 ∷ 4 ∷ 5 ∷ 6 ∷ 7 ∷ 8 ∷ 9 ∷ []
 
--- the points that are kept: homes, G92 offset, origins
+-- the points that last: homes, G92 offset, origins
 abbrev pub points : List ℕ
 points = first_of_home ∷ first_of_second_home ∷ first_of_g92 ∷ map first_of_origin systems
 

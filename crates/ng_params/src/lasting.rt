@@ -3,7 +3,7 @@ ghost use Rattle.std.specs.Prelude.{◌≡◌};
 ghost use Rattle.std.specs.List.{list_any};
 ghost use Rattle.ng_params.specs.Lasting.{is_of, lasts};
 
-/// The first parameter of each point that is kept: both homes, the G92 offset, the nine origins.
+/// The first parameter of each point that lasts: both homes, the G92 offset, the nine origins.
 const POINTS: [u16; 12] = [
     5161, 5181, 5211, 5221, 5241, 5261, 5281, 5301, 5321, 5341, 5361, 5381,
 ];

@@ -10,8 +10,8 @@ use Rattle.std.proofs.lemmas.List.FromFn.{get_or-map-range_with_len, length-map-
 use Rattle.ng_rig.specs.Trace.{Trace, Began, Wrote, Perhaps, Synced, Handed, MayHold, IsStop, items, moment, trace_at}
 use Rattle.ng_canon.specs.declared.item.Item.{Item}
 use Rattle.std.proofs.lemmas.Bool.{and_parts}
-use Rattle.ng_rig.specs.Kept.{trace_after, trace_of_calls, contents, is_call_within, AllWithin}
-use Rattle.ng_rig.specs.Stops.{unsynced, kept, kept_image, IsReached}
+use Rattle.ng_rig.specs.RecordedCalls.{trace_after, trace_of_calls, contents, is_call_within, AllWithin}
+use Rattle.ng_rig.specs.Stops.{unsynced, durable, durable_image, IsReached}
 use Rattle.ng_rig.proofs.TraceLemmas.{trace_at-trace_of_calls}
 use Rattle.ng_rig.proofs.ReplayLemmas.{within_take}
 use Rattle.ng_rig.specs.declared.call.Call.{Call}
@@ -24,24 +24,24 @@ choice : (n m u k : ℕ) (bytes old : List ℕ)
 choice n m u k bytes old = grind (arith, nat_tests)
 
 -- in no other way
-pub may_hold-kept : (trace : Trace) (n k : ℕ) → MayHold trace n (kept trace n k)
-may_hold-kept (Began image) n k = refl
-may_hold-kept (Wrote m bytes trace) n k = elim (choice n m (unsynced trace n) k bytes (kept trace n k)) [
+pub may_hold-durable : (trace : Trace) (n k : ℕ) → MayHold trace n (durable trace n k)
+may_hold-durable (Began image) n k = refl
+may_hold-durable (Wrote m bytes trace) n k = elim (choice n m (unsynced trace n) k bytes (durable trace n k)) [
   | inl new ↦ inl new
-  | inr old ↦ inr (subst (λ (c : List ℕ). MayHold trace n c) (sym old) (may_hold-kept trace n k))
+  | inr old ↦ inr (subst (λ (c : List ℕ). MayHold trace n c) (sym old) (may_hold-durable trace n k))
 ]
-may_hold-kept (Perhaps m bytes trace) n k = elim (choice n m (unsynced trace n) k bytes (kept trace n k)) [
+may_hold-durable (Perhaps m bytes trace) n k = elim (choice n m (unsynced trace n) k bytes (durable trace n k)) [
   | inl new ↦ inl new
-  | inr old ↦ inr (subst (λ (c : List ℕ). MayHold trace n c) (sym old) (may_hold-kept trace n k))
+  | inr old ↦ inr (subst (λ (c : List ℕ). MayHold trace n c) (sym old) (may_hold-durable trace n k))
 ]
-may_hold-kept (Synced trace) n k = refl
-may_hold-kept (Handed item trace) n k = may_hold-kept trace n k
+may_hold-durable (Synced trace) n k = refl
+may_hold-durable (Handed item trace) n k = may_hold-durable trace n k
 
 -- the number of a content
 pub record Number (trace : Trace) (n : ℕ) (c : List ℕ) : Type 0 where
   pub k : ℕ
   pub below : k ≤ unsynced trace n
-  pub is : kept trace n k ≡ c
+  pub is : durable trace n k ≡ c
 
 newest : (n m u : ℕ) (bytes old : List ℕ) → n ≡ m → ((if n == m then u + 1 else u) ≡ u + 1)
     × ((if n == m then (if nat_lt u (u + 1) then bytes else old) else old) ≡ bytes)
@@ -53,18 +53,18 @@ older n m u k bytes old le = (grind (arith, nat_tests), grind (arith, nat_tests)
 pub number : (trace : Trace) (n : ℕ) (c : List ℕ) → MayHold trace n c → Number trace n c
 number (Began image) n c is = record { k = 0; below = omega arith; is = sym is }
 number (Wrote m bytes trace) n c (inl new) =
-    let e = newest n m (unsynced trace n) bytes (kept trace n (unsynced trace n + 1)) new.0 in
+    let e = newest n m (unsynced trace n) bytes (durable trace n (unsynced trace n + 1)) new.0 in
     record { k = unsynced trace n + 1; below = omega (arith, e.0); is = e.1 ∙ sym new.1 }
 number (Wrote m bytes trace) n c (inr before) =
     let x = number trace n c before in
-    let e = older n m (unsynced trace n) x.k bytes (kept trace n x.k) x.below in
+    let e = older n m (unsynced trace n) x.k bytes (durable trace n x.k) x.below in
     record { k = x.k; below = e.0; is = e.1 ∙ x.is }
 number (Perhaps m bytes trace) n c (inl new) =
-    let e = newest n m (unsynced trace n) bytes (kept trace n (unsynced trace n + 1)) new.0 in
+    let e = newest n m (unsynced trace n) bytes (durable trace n (unsynced trace n + 1)) new.0 in
     record { k = unsynced trace n + 1; below = omega (arith, e.0); is = e.1 ∙ sym new.1 }
 number (Perhaps m bytes trace) n c (inr before) =
     let x = number trace n c before in
-    let e = older n m (unsynced trace n) x.k bytes (kept trace n x.k) x.below in
+    let e = older n m (unsynced trace n) x.k bytes (durable trace n x.k) x.below in
     record { k = x.k; below = e.0; is = e.1 ∙ x.is }
 number (Synced trace) n c is = record { k = 0; below = omega arith; is = sym is }
 number (Handed item trace) n c h = let x = number trace n c h in record { k = x.k; below = x.below; is = x.is }
@@ -118,7 +118,7 @@ reached first calls image within may =
     record {
       keep = keep;
       short = omega (arith, length-map-range_with_len f 0 (length first));
-      is = λ j i. (ap (λ (k : ℕ). kept trace i k) (at i) ∙ (number trace i (image i) (may i)).is) j;
+      is = λ j i. (ap (λ (k : ℕ). durable trace i k) (at i) ∙ (number trace i (image i) (may i)).is) j;
       small = λ i. omega (arith, at i, (number trace i (image i) (may i)).below, unsynced-moment trace i);
     }
 
@@ -133,5 +133,5 @@ reached_at t first calls within image handed stop =
     (λ n. subst (λ (l : Trace). MayHold l n (image n)) at (stop.0 n)))
 
 -- in no other, at a moment
-pub stop-kept_image : (trace : Trace) (keep : List ℕ) → IsStop trace (kept_image trace keep) (items trace)
-stop-kept_image trace keep = (λ n. may_hold-kept trace n (slice_index keep n), refl)
+pub stop-durable_image : (trace : Trace) (keep : List ℕ) → IsStop trace (durable_image trace keep) (items trace)
+stop-durable_image trace keep = (λ n. may_hold-durable trace n (slice_index keep n), refl)

@@ -11,8 +11,8 @@ use Rattle.std.proofs.lemmas.Grind.{get_or-set_at}
 use Rattle.std.proofs.lemmas.List.Sums.{AllPass-from_list_all, list_all-from_AllPass}
 use Rattle.std.proofs.lemmas.List.Elements.{All-get_or, All-drop, All-take}
 use Rattle.ng_rig.specs.Trace.{Trace, Began, Wrote, reads}
-use Rattle.ng_rig.specs.Kept.{after_call, trace_after, trace_of_calls, contents, is_call_within, AllWithin, EndsSynced, IsWhole}
-use Rattle.ng_rig.specs.Stops.{unsynced, kept, kept_image}
+use Rattle.ng_rig.specs.RecordedCalls.{after_call, trace_after, trace_of_calls, contents, is_call_within, AllWithin, EndsSynced, IsWhole}
+use Rattle.ng_rig.specs.Stops.{unsynced, durable, durable_image}
 use Rattle.ng_rig.specs.declared.call.Call.{Call}
 use Rattle.ng_rig.specs.declared.call.Call.TheVariants.{Write, Sync, Hand}
 use Rattle.ng_rig.proofs.TraceLemmas.{trace_of_calls-push, trace_of_calls-split}
@@ -76,7 +76,7 @@ number-set numbers m x n lt = elim (cases_eq n m) [
 pub record SameStops (a b : Trace) : Type 0 where
   pub read : (n : ℕ) → reads a n ≡ reads b n
   pub count : (n : ℕ) → unsynced a n ≡ unsynced b n
-  pub stop : (n k : ℕ) → kept a n k ≡ kept b n k
+  pub stop : (n k : ℕ) → durable a n k ≡ durable b n k
 
 same_after : (call : Call) (a b : Trace) → SameStops a b → SameStops (after_call call a) (after_call call b)
 same_after (Write m bytes) a b same = record {
@@ -94,7 +94,7 @@ same_trace a b (call ∷ calls) same = same_trace (after_call call a) (after_cal
 -- a trace with nothing unsynced
 record IsSettled (trace : Trace) : Type 0 where
   count : (n : ℕ) → unsynced trace n ≡ 0
-  stop : (n k : ℕ) → kept trace n k ≡ reads trace n
+  stop : (n k : ℕ) → durable trace n k ≡ reads trace n
 
 settled : (sectors : List (List ℕ)) (calls : List Call) → EndsSynced calls → IsSettled (trace_of_calls sectors calls)
 settled sectors calls (inl none) = subst (λ (cs : List Call). IsSettled (trace_of_calls sectors cs)) (sym none)
@@ -132,24 +132,24 @@ passed n m u k bytes c le = elim (cases_eq n m) [
   | inr other ↦ grind (arith, nat_tests)
 ]
 
--- one write replayed that is kept
-pub kept_write : (trace : Trace) (keep : List ℕ) (old new : List (List ℕ)) (m : ℕ) (bytes : List ℕ) → m < length old
+-- one write replayed that is durable
+pub durable_write : (trace : Trace) (keep : List ℕ) (old new : List (List ℕ)) (m : ℕ) (bytes : List ℕ) → m < length old
     → unsynced trace m < slice_index keep m → new ≡ set old m bytes
-    → ((n : ℕ) → contents old n ≡ kept trace n (slice_index keep n)) → (n : ℕ)
-    → contents new n ≡ kept (Wrote m bytes trace) n (slice_index keep n)
-kept_write trace keep old new m bytes lt wanted is h n =
+    → ((n : ℕ) → contents old n ≡ durable trace n (slice_index keep n)) → (n : ℕ)
+    → contents new n ≡ durable (Wrote m bytes trace) n (slice_index keep n)
+durable_write trace keep old new m bytes lt wanted is h n =
     ap (λ (xs : List (List ℕ)). contents xs n) is ∙ contents-set old m bytes n lt ∙ ap (λ (c : List ℕ). if n == m then bytes else c) (h n)
-    ∙ chosen n m (unsynced trace n) (slice_index keep n) bytes (kept trace n (slice_index keep n))
+    ∙ chosen n m (unsynced trace n) (slice_index keep n) bytes (durable trace n (slice_index keep n))
     (λ same. subst (λ (x : ℕ). unsynced trace x < slice_index keep x) (sym same) wanted)
 
 -- and one that isn't
-pub kept_passed : (trace : Trace) (keep : List ℕ) (old new : List (List ℕ)) (m : ℕ) (bytes : List ℕ)
+pub durable_passed : (trace : Trace) (keep : List ℕ) (old new : List (List ℕ)) (m : ℕ) (bytes : List ℕ)
     → slice_index keep m ≤ unsynced trace m → new ≡ old
-    → ((n : ℕ) → contents old n ≡ kept trace n (slice_index keep n)) → (n : ℕ)
-    → contents new n ≡ kept (Wrote m bytes trace) n (slice_index keep n)
-kept_passed trace keep old new m bytes enough is h n =
+    → ((n : ℕ) → contents old n ≡ durable trace n (slice_index keep n)) → (n : ℕ)
+    → contents new n ≡ durable (Wrote m bytes trace) n (slice_index keep n)
+durable_passed trace keep old new m bytes enough is h n =
     ap (λ (xs : List (List ℕ)). contents xs n) is ∙ h n
-    ∙ passed n m (unsynced trace n) (slice_index keep n) bytes (kept trace n (slice_index keep n))
+    ∙ passed n m (unsynced trace n) (slice_index keep n) bytes (durable trace n (slice_index keep n))
     (λ same. subst (λ (x : ℕ). slice_index keep x ≤ unsynced trace x) (sym same) enough)
 
 counted : (n m u v : ℕ) → (n ≡ m → u ≡ v) → (if n == m then u + 1 else v) ≡ (if n == m then v + 1 else v)
@@ -177,14 +177,14 @@ bound_write old new m k lt is h n =
     omega (arith, e, b)
 
 -- a stop after all of the calls is a stop after those since the last sync, over what was synced
-pub kept_split : (first image : List (List ℕ)) (calls rest : List Call) (i : ℕ) (keep : List ℕ)
+pub durable_split : (first image : List (List ℕ)) (calls rest : List Call) (i : ℕ) (keep : List ℕ)
     → rest ≡ drop i calls → EndsSynced (take i calls) → contents image ≡ reads (trace_of_calls first (take i calls))
-    → kept_image (trace_of_calls image rest) keep ≡ kept_image (trace_of_calls first calls) keep
-kept_split first image calls rest i keep is ends held =
+    → durable_image (trace_of_calls image rest) keep ≡ durable_image (trace_of_calls first calls) keep
+durable_split first image calls rest i keep is ends held =
     let same = same_trace (trace_of_calls first (take i calls)) (Began (contents image)) (drop i calls) (settled_same first image (take i calls) ends held) in
     let split = trace_of_calls-split first calls i in
-    λ j n. (ap (λ (cs : List Call). kept (trace_of_calls image cs) n (slice_index keep n)) is
-    ∙ sym (same.stop n (slice_index keep n)) ∙ sym (ap (λ (l : Trace). kept l n (slice_index keep n)) split)) j
+    λ j n. (ap (λ (cs : List Call). durable (trace_of_calls image cs) n (slice_index keep n)) is
+    ∙ sym (same.stop n (slice_index keep n)) ∙ sym (ap (λ (l : Trace). durable l n (slice_index keep n)) split)) j
 
 pub within-push : (size : ℕ) (calls new : List Call) (call : Call) → new ≡ calls ++ call ∷ [] → AllWithin size calls
     → is_call_within size call ≡ true → AllWithin size new

@@ -4,7 +4,7 @@ use Rattle.std.proofs.Common.{take, drop, get_or, nat_lt, if◌then◌else◌, r
 use Rattle.std.proofs.lemmas.Bool.Decides.{nat_tests}
 use Rattle.std.proofs.lemmas.List.{take_more, take-append-drop}
 use Rattle.ng_rig.specs.Trace.{Trace, Began, Wrote, Synced, Handed, moment, trace_at}
-use Rattle.ng_rig.specs.Kept.{after_call, trace_after, trace_of_calls, contents}
+use Rattle.ng_rig.specs.RecordedCalls.{after_call, trace_after, trace_of_calls, contents}
 use Rattle.ng_rig.specs.declared.call.Call.{Call}
 use Rattle.ng_rig.specs.declared.call.Call.TheVariants.{Write, Sync, Hand}
 

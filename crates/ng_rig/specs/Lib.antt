@@ -2,7 +2,7 @@ pub mod Calls
 pub mod Rig
 pub mod Extent
 pub mod Failing
-pub mod Kept
+pub mod RecordedCalls
 pub mod Trace
 pub mod Memory
 pub mod Moments

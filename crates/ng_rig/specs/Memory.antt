@@ -2,7 +2,7 @@
 use Rattle.std.specs.Prelude.{ℕ, length}
 use Rattle.ng_rig.specs.Rig.{Device}
 use Rattle.ng_rig.specs.Trace.{Trace}
-use Rattle.ng_rig.specs.Kept.{trace_of_calls}
+use Rattle.ng_rig.specs.RecordedCalls.{trace_of_calls}
 use Rattle.ng_rig.specs.declared.memory.MemoryRig.{MemoryRig}
 
 -- its number of sectors

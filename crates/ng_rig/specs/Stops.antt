@@ -10,21 +10,21 @@ unsynced (Perhaps m bytes trace) n = if n == m then unsynced trace n + 1 else un
 unsynced (Synced trace) n = 0
 unsynced (Handed item trace) n = unsynced trace n
 
--- what a sector holds if the k-th of them is kept; for 0 none of them, past their number the last
-abbrev pub kept : Trace → ℕ → ℕ → List ℕ
-kept (Began image) n k = image n
-kept (Wrote m bytes trace) n k = if n == m then (if nat_lt (unsynced trace n) k then bytes else kept trace n k) else kept trace n k
-kept (Perhaps m bytes trace) n k = if n == m then (if nat_lt (unsynced trace n) k then bytes else kept trace n k) else kept trace n k
-kept (Synced trace) n k = reads trace n
-kept (Handed item trace) n k = kept trace n k
+-- what a sector holds if the k-th of them is durable; for 0 none of them, past their number the last
+abbrev pub durable : Trace → ℕ → ℕ → List ℕ
+durable (Began image) n k = image n
+durable (Wrote m bytes trace) n k = if n == m then (if nat_lt (unsynced trace n) k then bytes else durable trace n k) else durable trace n k
+durable (Perhaps m bytes trace) n k = if n == m then (if nat_lt (unsynced trace n) k then bytes else durable trace n k) else durable trace n k
+durable (Synced trace) n k = reads trace n
+durable (Handed item trace) n k = durable trace n k
 
 -- what each sector holds, given a list of such numbers; 0 past its end
-abbrev pub kept_image : Trace → List ℕ → Image
-kept_image trace keep n = kept trace n (slice_index keep n)
+abbrev pub durable_image : Trace → List ℕ → Image
+durable_image trace keep n = durable trace n (slice_index keep n)
 
 -- some list of numbers leaves this image: at most one number for each sector, and none greater than the number of calls
 pub record IsReached (sectors : ℕ) (trace : Trace) (image : Image) : Type 0 where
   pub keep : List ℕ
   pub short : length keep ≤ sectors
-  pub is : kept_image trace keep ≡ image
+  pub is : durable_image trace keep ≡ image
   pub small : (n : ℕ) → slice_index keep n ≤ moment trace

@@ -1,7 +1,7 @@
 //! A device in memory that records everything done to it.
 ghost use Rattle.std.specs.Prelude.{◌≡◌, ◌<◌, ◌≤◌, ℕ, length};
 ghost use Rattle.ng_rig.specs.Trace.{reads};
-ghost use Rattle.ng_rig.specs.Kept.{contents, trace_of_calls, AllWithin, IsWhole};
+ghost use Rattle.ng_rig.specs.RecordedCalls.{contents, trace_of_calls, AllWithin, IsWhole};
 
 use crate::call::Call;
 use crate::replay::{items_of, stop_image};
@@ -29,8 +29,8 @@ impl<A: Allocator + Copy + Drop> MemoryRig<A> {
     ghost use Rattle.std.specs.Prelude.{◌≡◌, ◌+◌, ◌%◌, ◌^◌, ℕ, List, IfOk, length, take, replicate};
     ghost use Rattle.ng_canon.specs.declared.item.Item.{Item};
     ghost use Rattle.ng_rig.specs.Trace.{Image, Began, reads, items, moment, trace_at, IsStop};
-    ghost use Rattle.ng_rig.specs.Kept.{contents};
-    ghost use Rattle.ng_rig.specs.Stops.{kept_image, IsReached};
+    ghost use Rattle.ng_rig.specs.RecordedCalls.{contents};
+    ghost use Rattle.ng_rig.specs.Stops.{durable_image, IsReached};
     ghost use Rattle.ng_rig.specs.Memory.{trace_of, sector_count, failure_count};
 
     /// A device of this many sectors, all zeros.
@@ -89,7 +89,7 @@ impl<A: Allocator + Copy + Drop> MemoryRig<A> {
     /// has no calls and no failures.
     pub fn stopped(&self, n: usize, keep: &[usize]) -> Result<Self, AllocError>
         ensures size { IfOk result (λ rig. sector_count rig ≡ sector_count self.now) }
-        ensures exact { IfOk result (λ rig. trace_of rig ≡ Began (kept_image (trace_at n (trace_of self.now)) keep.now)) }
+        ensures exact { IfOk result (λ rig. trace_of rig ≡ Began (durable_image (trace_at n (trace_of self.now)) keep.now)) }
         ensures failures { IfOk result (λ rig. failure_count rig ≡ 0) }
 
         // in no way that a stop there doesn't allow

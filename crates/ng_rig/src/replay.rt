@@ -1,8 +1,8 @@
 //! What recorded calls come to: the items handed out, and the image that a stop leaves.
 ghost use Rattle.std.specs.Prelude.{◌≡◌, ◌≤◌, ◌<◌, ◌+◌, ℕ, List, length, take, drop, IfOk, slice_index};
 ghost use Rattle.ng_rig.specs.Trace.{reads, items};
-ghost use Rattle.ng_rig.specs.Kept.{contents, trace_of_calls, AllWithin, NoSync, IsLastSync, IsWhole};
-ghost use Rattle.ng_rig.specs.Stops.{kept_image};
+ghost use Rattle.ng_rig.specs.RecordedCalls.{contents, trace_of_calls, AllWithin, NoSync, IsLastSync, IsWhole};
+ghost use Rattle.ng_rig.specs.Stops.{durable_image};
 
 use crate::call::Call;
 use ng_canon::Item;
@@ -69,13 +69,13 @@ fn number_at(numbers: &[usize], place: usize) -> usize
 
 /// Makes the image what a stop leaves after these calls, none of which is a sync. `written` counts the writes of each
 /// sector and starts at 0.
-fn replay_kept(image: &mut [[u8; 512]], written: &mut [usize], calls: &[Call], keep: &[usize])
+fn replay_durable(image: &mut [[u8; 512]], written: &mut [usize], calls: &[Call], keep: &[usize])
     requires within { AllWithin (length image.old) calls.now }
     requires size { length written.old ≡ length image.old }
     requires none { (n : ℕ) → slice_index written.old n ≡ 0 }
     requires unsynced { NoSync calls.now }
     ensures whole { IsWhole image.old → IsWhole image.new }
-    ensures image { contents image.new ≡ kept_image (trace_of_calls image.old calls.now) keep.now }
+    ensures image { contents image.new ≡ durable_image (trace_of_calls image.old calls.now) keep.now }
 {
     for call in calls {
         match call {
@@ -98,11 +98,11 @@ fn replay_stop(image: &mut [[u8; 512]], written: &mut [usize], calls: &[Call], k
     requires size { length written.old ≡ length image.old }
     requires none { (n : ℕ) → slice_index written.old n ≡ 0 }
     ensures whole { IsWhole image.old → IsWhole image.new }
-    ensures image { contents image.new ≡ kept_image (trace_of_calls image.old calls.now) keep.now }
+    ensures image { contents image.new ≡ durable_image (trace_of_calls image.old calls.now) keep.now }
 {
     let synced = synced_calls(calls);
     replay(image, &calls[..synced]);
-    replay_kept(image, written, &calls[synced..], keep);
+    replay_durable(image, written, &calls[synced..], keep);
 }
 
 /// The image that a stop leaves after these calls, given how many unsynced writes of each sector are kept.
@@ -115,7 +115,7 @@ pub(crate) fn stop_image<A: Allocator + Copy + Drop>(
     requires { AllWithin (length first.now) calls.now }
     ensures whole { IfOk result (λ image. IsWhole first.now → IsWhole image.items) }
     ensures size { IfOk result (λ image. length image.items ≡ length first.now) }
-    ensures image { IfOk result (λ image. contents image.items ≡ kept_image (trace_of_calls first.now calls.now) keep.now) }
+    ensures image { IfOk result (λ image. contents image.items ≡ durable_image (trace_of_calls first.now calls.now) keep.now) }
 {
     let mut image = Vec::new(alloc);
     image.extend_from_slice(first)?;

@@ -18,7 +18,7 @@ use Rattle.ng_run.specs.declared.ending.ConsoleEnd.{ConsoleEnd}
 use Rattle.ng_run.specs.declared.ending.ConsoleAbort.{ConsoleAbort}
 use Rattle.ng_run.specs.declared.ending.ConsoleAbort.TheVariants.{Input, Output}
 use Rattle.ng_run.proofs.AskedOrderLemmas.{hears_more, hears_none, one_more}
-use Rattle.ng_core.proofs.EventsInTurnLemmas.{turns_joined, turns_pass}
+use Rattle.ng_core.proofs.ExchangeLemmas.{exchanges_joined, exchanges_pass}
 
 -- this part of the text was read and is answered in full
 pub record Talked {R : Type 0} (A : Type 0) (seen : R → Device) (text rest old new : Option (List ℕ)) (before after : ControllerModel R) : Type 0 where
@@ -43,7 +43,7 @@ given_more : {R : Type 0} (A : Type 0) (seen : R → Device) (talk : List (Excha
     → AreAnsweredEvents seen (events_in talk) (replies_in talk) before mid → AreAnsweredEvents seen (events_of x.order x.replies) x.replies mid after
     → AreAnsweredEvents seen (events_in (talk ++ x ∷ [])) (replies_in (talk ++ x ∷ [])) before after
 given_more A seen talk x before mid after p q =
-    let joined = turns_joined seen (events_in talk) (events_of x.order x.replies) (replies_in talk) x.replies before mid after p q in
+    let joined = exchanges_joined seen (events_in talk) (events_of x.order x.replies) (replies_in talk) x.replies before mid after p q in
     subst (λ (l : List Reply). AreAnsweredEvents seen (events_in (talk ++ x ∷ [])) l before after) (one_more (λ (y : Exchange A). y.replies) talk x)
     (subst (λ (l : List (Event A)). AreAnsweredEvents seen l (replies_in talk ++ x.replies) before after)
     (one_more (λ (y : Exchange A). events_of y.order y.replies) talk x) joined)
@@ -81,7 +81,7 @@ conversed A seen ended text rest old new before after answered begun talk writte
       given = given_all;
       tells = tells;
       closes = closes;
-      passes = turns_pass seen (events_in (answered ++ begun)) (replies_in (answered ++ begun)) before after given_all;
+      passes = exchanges_pass seen (events_in (answered ++ begun)) (replies_in (answered ++ begun)) before after given_all;
     }
 
 -- nothing is begun

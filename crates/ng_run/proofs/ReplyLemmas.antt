@@ -14,7 +14,7 @@ use Rattle.ng_core.specs.Model.{ControllerModel}
 use Rattle.ng_run.specs.Consoles.{AnswerSpec, TickOnSpec, Told}
 use Rattle.ng_run.specs.Talks.{Exchange, IsAnswered, last_line, earlier_lines}
 use Rattle.ng_core.specs.AnsweredEvents.{IsAnsweredEvent}
-use Rattle.ng_core.proofs.EventsInTurnLemmas.{turns_one}
+use Rattle.ng_core.proofs.ExchangeLemmas.{exchanges_one}
 
 -- the lines before the last are written; then the last is written, or it is broken off
 told_after : {A T : Type 0} (x : Exchange A) (result : Result T OutputError) (old mid new : Option (List ℕ))
@@ -30,7 +30,7 @@ pub answers_event : {A R T : Type 0} (seen : R → Device) (event : Event A) (r 
     → IsAnsweredEvent seen event r before after → Sends old new (reply_line r) result → AnswerSpec seen (Give event) result old new before after
 answers_event {A} seen event r result old new before after t p = record {
   replies = r ∷ [];
-  given = turns_one seen event r before after t;
+  given = exchanges_one seen event r before after t;
   tells = told_after {A = A} (record { order = Give event; replies = r ∷ [] }) result old old new refl (Appends-nil old)
       (subst (λ (l : List ℕ). Sends old new l result) (sym (append-nil (reply_line r))) p);
 }

@@ -16,7 +16,7 @@ use Rattle.ng_core.specs.Model.{ControllerModel}
 use Rattle.ng_run.specs.Consoles.{TickOnSpec}
 use Rattle.ng_core.specs.AnsweredEvents.{IsAnsweredEvent, AreAnsweredEvents}
 use Rattle.ng_run.proofs.AskedOrderLemmas.{one_more}
-use Rattle.ng_core.proofs.EventsInTurnLemmas.{turns_joined, turns_one}
+use Rattle.ng_core.proofs.ExchangeLemmas.{exchanges_joined, exchanges_one}
 
 abbrev tick_for : (A : Type 0) → Reply → Event A
 tick_for A r = event.Tick
@@ -38,7 +38,7 @@ given_more : {R : Type 0} (A : Type 0) (seen : R → Device) (replies : List Rep
     → AreAnsweredEvents seen (ticks_of A (replies ++ r ∷ [])) (replies ++ r ∷ []) before after
 given_more A seen replies r before mid after p t =
     subst (λ (l : List (Event A)). AreAnsweredEvents seen l (replies ++ r ∷ []) before after) (sym (map-append (tick_for A) replies (r ∷ [])))
-    (turns_joined seen (ticks_of A replies) (event.Tick ∷ []) replies (r ∷ []) before mid after p (turns_one seen event.Tick r mid after t))
+    (exchanges_joined seen (ticks_of A replies) (event.Tick ∷ []) replies (r ∷ []) before mid after p (exchanges_one seen event.Tick r mid after t))
 
 tells_more : (old mid new : Option (List ℕ)) (replies : List Reply) (r : Reply)
     → Appends old mid (flat_map tick_line replies) → Appends mid new (tick_line r)

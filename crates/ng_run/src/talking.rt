@@ -41,7 +41,7 @@ fn talk_on<I: Read, W: Write, R: Rig, A: Allocator + Copy + Drop>(
     ensures last { input.old.ended ≡ true → (result ≡ Ok (ended_by controller.old.journal.broken))
         × (reader.new ≡ reader.old) × (writer.new ≡ writer.old) × (controller.new ≡ controller.old) }
 {
-    for _turn in 0..u64::MAX {
+    for _pass in 0..u64::MAX {
         match next_order(alloc, input, reader) {
             Ok(Some(order)) => match answer(alloc, writer, controller, order) {
                 Ok(()) => {}

@@ -15,7 +15,7 @@ use Rattle.ng_canon.specs.declared.item.Item.TheVariants.{Pulse, Dwell, Switch}
 use Rattle.ng_canon.specs.declared.outputs.Spindle.{Spindle}
 use Rattle.ng_canon.specs.declared.outputs.Spindle.TheVariants.{Stopped, Clockwise, Counterclockwise}
 use Rattle.ng_canon.specs.declared.outputs.Outputs.{Outputs}
-use Rattle.ng_lines.specs.Lines.{IsItem, item_line, slots_text, spindle_text, step_text, truth_digit, turning_text}
+use Rattle.ng_lines.specs.Lines.{IsItem, item_line, slots_text, spindle_text, step_text, truth_digit, spinning_text}
 use Rattle.ng_lines.proofs.DigitLemmas.{own}
 use Rattle.ng_schedule.specs.Schedule.{BeginsNoLine}
 use Rattle.ng_text.specs.Split.{HasNoNewline}
@@ -97,8 +97,8 @@ blank = one_byte 32 (omega arith)
 abbrev IsInner : Item → List ℕ → Type 0
 IsInner item front = (item_line item ≡ front ++ codes "\n") × IsShort 78 front
 
-short_turning : (o : Outputs) → IsCount o.speed → IsShort 35 (turning_text o)
-short_turning o small =
+short_spinning : (o : Outputs) → IsCount o.speed → IsShort 35 (spinning_text o)
+short_spinning o small =
     joined 32 3 (spindle_text o.spindle ++ codes " " ++ number_text o.speed ++ (32 ∷ truth_digit o.mist ∷ []))
     ((32 ∷ truth_digit o.flood ∷ 32 ∷ []))
     (joined 30 2 (spindle_text o.spindle ++ codes " " ++ number_text o.speed) ((32 ∷ truth_digit o.mist ∷ []))
@@ -150,11 +150,11 @@ inner (Dwell us) fits = (
   ),
 )
 inner (Switch o) fits = (
-  codes "S " ++ turning_text o ++ slots_text o,
+  codes "S " ++ spinning_text o ++ slots_text o,
   (
     refl,
-    joined 37 41 (codes "S " ++ turning_text o) (slots_text o)
-        (joined 2 35 (codes "S ") (turning_text o) (short_letter 83 (omega arith)) (short_turning o fits.0))
+    joined 37 41 (codes "S " ++ spinning_text o) (slots_text o)
+        (joined 2 35 (codes "S ") (spinning_text o) (short_letter 83 (omega arith)) (short_spinning o fits.0))
         (short_slots o fits.1 fits.2),
   ),
 )

@@ -10,7 +10,7 @@ use Rattle.ng_pace.specs.Calls.{IsEmpty}
 use Rattle.ng_pace.specs.Stream.{Timed as Waited, all_items, items_of, items_waiting}
 use Rattle.ng_pace.specs.declared.line.Line.{Line}
 use Rattle.ng_schedule.specs.Flush.{FlushSpec, Wrote}
-use Rattle.ng_schedule.specs.Schedule.{ArePaced, BeginsNoLine, ScheduleSpec, Timed, end_text, lines_of, not_a_line_text, room, span, timed_text, too_late_text}
+use Rattle.ng_schedule.specs.Schedule.{ArePaced, BeginsNoLine, ScheduleSpec, Timed, end_text, lines_of, not_a_line_text, capacity, span, timed_text, too_late_text}
 use Rattle.ng_schedule.specs.Private.Parts.{HasGiven, IsAt, IsCut, IsTooLate, IsUnderWay, item_lines}
 use Rattle.ng_schedule.specs.declared.ending.Shown.{Shown}
 use Rattle.ng_schedule.specs.declared.ending.Ended.{Ended}
@@ -214,7 +214,7 @@ nothing_written limits shown (Some text) w fault = (
 )
 
 -- before the first line
-pub begun : {Z : Type 0} (limits : Limits) (w : Option (List ℕ)) (s : Schedule Z) → IsEmpty s.stream limits room
+pub begun : {Z : Type 0} (limits : Limits) (w : Option (List ℕ)) (s : Schedule Z) → IsEmpty s.stream limits capacity
     → s.text.items ≡ [] → s.due_ns ≡ 0 → s.number ≡ 1 → IsUnderWay limits w w [] [] s
 begun {Z} limits w s none empty due number =
     record {

@@ -24,9 +24,9 @@ some_line line is = omega (arith, length-append line end, ap length is)
 
 module _ {Z : Type 0} where
   -- what is known without the beginning that is kept
-  pub unkept : (limits : Limits) (start w : Option (List ℕ)) (bytes kept : List ℕ) (s : Schedule Z) → IsUnderWay limits start w bytes kept s
-      → (front : List ℕ) × IsUnderWay limits start w front [] s × (bytes ≡ front ++ kept)
-  unkept limits start w bytes kept s here =
+  pub without_partial : (limits : Limits) (start w : Option (List ℕ)) (bytes partial : List ℕ) (s : Schedule Z) → IsUnderWay limits start w bytes partial s
+      → (front : List ℕ) × IsUnderWay limits start w front [] s × (bytes ≡ front ++ partial)
+  without_partial limits start w bytes partial s here =
       let front = lines_of here.timed ++ item_lines (all_items s.stream) in (
         front,
         record {
@@ -42,26 +42,27 @@ module _ {Z : Type 0} where
       )
 
   -- more of the beginning is kept
-  pub keeps_more : (limits : Limits) (start w : Option (List ℕ)) (bytes kept more : List ℕ) (s : Schedule Z)
-      → IsUnderWay limits start w bytes kept s → IsUnderWay limits start w (bytes ++ more) (kept ++ more) s
-  keeps_more limits start w bytes kept more s here =
+  pub keeps_more : (limits : Limits) (start w : Option (List ℕ)) (bytes partial more : List ℕ) (s : Schedule Z)
+      → IsUnderWay limits start w bytes partial s → IsUnderWay limits start w (bytes ++ more) (partial ++ more) s
+  keeps_more limits start w bytes partial more s here =
       let front = lines_of here.timed ++ item_lines (all_items s.stream) in
       record {
         timed = here.timed;
         given = here.given;
         streamed = here.streamed;
         lines =
-            ap (λ l. l ++ more) here.lines ∙ append_assoc front kept more;
+            ap (λ l. l ++ more) here.lines ∙ append_assoc front partial more;
         due = here.due;
         number = here.number;
       }
 
-  pub TakeSpec-from : (limits : Limits) (start w : Option (List ℕ)) (bytes other kept left : List ℕ)
-      (s : Schedule Z) (r : Result (Unit {0}) Stop) → other ≡ bytes → left ≡ kept
-      → TakeSpec limits start w bytes kept s r
+  pub TakeSpec-from : (limits : Limits) (start w : Option (List ℕ)) (bytes other partial left : List ℕ)
+      (s : Schedule Z) (r : Result (Unit {0}) Stop) → other ≡ bytes → left ≡ partial
+      → TakeSpec limits start w bytes partial s r
       → TakeSpec limits start w other left s r
-  TakeSpec-from limits start w bytes other kept left s r bytes_are kept_is h =
-      subst (λ (b : List ℕ). TakeSpec limits start w b left s r) (sym bytes_are) (subst (λ (k : List ℕ). TakeSpec limits start w bytes k s r) (sym kept_is) h)
+  TakeSpec-from limits start w bytes other partial left s r bytes_are partial_is h =
+      subst (λ (b : List ℕ). TakeSpec limits start w b left s r) (sym bytes_are) (subst (λ (k : List ℕ). TakeSpec limits start w bytes k s r)
+      (sym partial_is) h)
 
   -- the next line is none of an item
   pub stops_at_other : (limits : Limits) (start w : Option (List ℕ)) (bytes line : List ℕ) (s : Schedule Z)
@@ -78,21 +79,21 @@ module _ {Z : Type 0} where
       }
 
   -- the next line is too long
-  pub stops_at_long : (limits : Limits) (start w : Option (List ℕ)) (bytes kept line more : List ℕ) (s : Schedule Z)
-      → IsUnderWay limits start w bytes kept s → HasNoNewline (kept ++ line) → 128 < length (kept ++ line)
+  pub stops_at_long : (limits : Limits) (start w : Option (List ℕ)) (bytes partial line more : List ℕ) (s : Schedule Z)
+      → IsUnderWay limits start w bytes partial s → HasNoNewline (partial ++ line) → 128 < length (partial ++ line)
       → IsStopped limits start w (bytes ++ (line ++ more)) s
-  stops_at_long limits start w bytes kept line more s here none long =
-      let parts = unkept limits start w bytes kept s here in
+  stops_at_long limits start w bytes partial line more s here none long =
+      let parts = without_partial limits start w bytes partial s here in
       record {
         before = parts.0;
         under_way = parts.1;
-        rest = kept ++ (line ++ more);
-        parts = ap (λ l. l ++ (line ++ more)) parts.2 ∙ append_assoc parts.0 kept (line ++ more);
-        some = λ is. omega (arith, ap length is, length-append kept (line ++ more), length-append line more, length-append kept line, long);
+        rest = partial ++ (line ++ more);
+        parts = ap (λ l. l ++ (line ++ more)) parts.2 ∙ append_assoc parts.0 partial (line ++ more);
+        some = λ is. omega (arith, ap length is, length-append partial (line ++ more), length-append line more, length-append partial line, long);
         other = λ later.
-            subst BeginsNoLine (sym (ap (λ l. l ++ later) (sym (append_assoc kept line more))
-            ∙ append_assoc (kept ++ line) more later))
-            (too_long (kept ++ line) (more ++ later) none (omega (arith, long)));
+            subst BeginsNoLine (sym (ap (λ l. l ++ later) (sym (append_assoc partial line more))
+            ∙ append_assoc (partial ++ line) more later))
+            (too_long (partial ++ line) (more ++ later) none (omega (arith, long)));
       }
 
   -- what comes later changes nothing of it
@@ -124,21 +125,21 @@ module _ {Z : Type 0} where
       (StopSpec-more limits start w ((before ++ taken) ++ line) after s why h)
 
   -- where nothing is kept
-  pub with_nothing : (limits : Limits) (start w : Option (List ℕ)) (bytes kept : List ℕ) (s : Schedule Z)
-      → kept ≡ [] → IsUnderWay limits start w bytes kept s → IsUnderWay limits start w bytes [] s
-  with_nothing limits start w bytes kept s none here = subst (λ (k : List ℕ). IsUnderWay limits start w bytes k s) none here
+  pub with_nothing : (limits : Limits) (start w : Option (List ℕ)) (bytes partial : List ℕ) (s : Schedule Z)
+      → partial ≡ [] → IsUnderWay limits start w bytes partial s → IsUnderWay limits start w bytes [] s
+  with_nothing limits start w bytes partial s none here = subst (λ (k : List ℕ). IsUnderWay limits start w bytes k s) none here
 
   -- the next line is taken, where nothing is kept
-  pub goes_on : (limits : Limits) (start w : Option (List ℕ)) (before taken line kept : List ℕ) (s : Schedule Z)
-      → kept ≡ [] → IsUnderWay limits start w ((before ++ taken) ++ line) [] s
-      → IsUnderWay limits start w (before ++ (taken ++ line)) kept s
-  goes_on limits start w before taken line kept s none here =
+  pub goes_on : (limits : Limits) (start w : Option (List ℕ)) (before taken line partial : List ℕ) (s : Schedule Z)
+      → partial ≡ [] → IsUnderWay limits start w ((before ++ taken) ++ line) [] s
+      → IsUnderWay limits start w (before ++ (taken ++ line)) partial s
+  goes_on limits start w before taken line partial s none here =
       subst (λ (k : List ℕ). IsUnderWay limits start w (before ++ (taken ++ line)) k s) (sym none)
       (subst (λ (b : List ℕ). IsUnderWay limits start w b [] s) (append_assoc before taken line) here)
 
--- there is no room for it
-pub no_room : (xs ys : List ℕ) → (length xs + length ys ≤ 128 → false ≡ true) → 128 < length (xs ++ ys)
-no_room xs ys h = let none : ¬ (length xs + length ys ≤ 128) = λ p. let e = h p in absurd cc in simp length-append (omega arith)
+-- it doesn't fit
+pub too_long_to_fit : (xs ys : List ℕ) → (length xs + length ys ≤ 128 → false ≡ true) → 128 < length (xs ++ ys)
+too_long_to_fit xs ys h = let none : ¬ (length xs + length ys ≤ 128) = λ p. let e = h p in absurd cc in simp length-append (omega arith)
 
 pub empty_is : (xs : List ℕ) (t : Bool) → t ≡ (length xs == 0) → t ≡ true → xs ≡ []
 empty_is [] t e f = refl

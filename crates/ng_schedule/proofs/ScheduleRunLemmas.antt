@@ -60,21 +60,21 @@ text_with shown timed item ns =
     ∙ ap (λ l. timed_text shown 0 timed ++ l) (append-nil (due_text shown (0 + span timed) item) ∙ ap (λ k. due_text shown k item) zero_sum)
 
 -- the lines that are known, of which the first is taken
-known_with : (timed : List Timed) (item : Item) (items : List Item) (kept : List ℕ)
-    → (lines_of timed ++ item_lines (item ∷ items)) ++ kept ≡ lines_of
-    timed ++ (item_line item ++ (item_lines items ++ kept))
-known_with timed item items kept =
-    append_assoc (lines_of timed) (item_line item ++ item_lines items) kept
-    ∙ ap (λ l. lines_of timed ++ l) (append_assoc (item_line item) (item_lines items) kept)
+known_with : (timed : List Timed) (item : Item) (items : List Item) (partial : List ℕ)
+    → (lines_of timed ++ item_lines (item ∷ items)) ++ partial ≡ lines_of
+    timed ++ (item_line item ++ (item_lines items ++ partial))
+known_with timed item items partial =
+    append_assoc (lines_of timed) (item_line item ++ item_lines items) partial
+    ∙ ap (λ l. lines_of timed ++ l) (append_assoc (item_line item) (item_lines items) partial)
 
 -- a line was given
-pub gives : {Z : Type 0} {ended : Bool} (limits : Limits) (start w v : Option (List ℕ)) (bytes kept : List ℕ)
-    (s t : Schedule Z) (g : Given) → IsAt ended limits start w bytes kept s
+pub gives : {Z : Type 0} {ended : Bool} (limits : Limits) (start w v : Option (List ℕ)) (bytes partial : List ℕ)
+    (s t : Schedule Z) (g : Given) → IsAt ended limits start w bytes partial s
     → (IsFalse ended → IsFull s) → IsFlowGiven s.stream t.stream (2 ^ 64 - 1) g
     → due_ns s.stream.motion.percent g.line.item ≤ g.ns → t.shown ≡ s.shown → t.due_ns ≡ s.due_ns + g.ns
     → t.number ≡ s.number + 1
-    → FlushSpec {T = Unit {0}} w v (s.text.items ++ due_text s.shown s.due_ns g.line.item) t.text.items (Ok tt) → IsAt ended limits start v bytes kept t
-gives {Z} {ended} limits start w v bytes kept s t g here full h least shown_is due_is number_is flushed =
+    → FlushSpec {T = Unit {0}} w v (s.text.items ++ due_text s.shown s.due_ns g.line.item) t.text.items (Ok tt) → IsAt ended limits start v bytes partial t
+gives {Z} {ended} limits start w v bytes partial s t g here full h least shown_is due_is number_is flushed =
     let item = g.line.item in
     let ns = g.ns in
     let order = h.items in
@@ -91,21 +91,22 @@ gives {Z} {ended} limits start w v bytes kept s t g here full h least shown_is d
             ∙ sym (append_assoc here.given.out flushed.0 t.text.items);
       });
       streamed = gives_out limits ended here.timed s.stream t.stream g here.streamed full h;
-      lines = here.lines ∙ ap (λ (l : List Item). (lines_of here.timed ++ item_lines l) ++ kept) order ∙ known_with here.timed item (all_items t.stream) kept
-          ∙ sym (lines_with here.timed item ns (item_lines (all_items t.stream) ++ kept))
-          ∙ sym (append_assoc (lines_of timed) (item_lines (all_items t.stream)) kept);
+      lines = here.lines ∙ ap (λ (l : List Item). (lines_of here.timed ++ item_lines l) ++ partial) order
+          ∙ known_with here.timed item (all_items t.stream) partial
+          ∙ sym (lines_with here.timed item ns (item_lines (all_items t.stream) ++ partial))
+          ∙ sym (append_assoc (lines_of timed) (item_lines (all_items t.stream)) partial);
       due = omega (arith, due_is, here.due, span-append here.timed (record { item = item; ns = ns } ∷ []));
       number = omega (arith, number_is, here.number, length-append here.timed (record { item = item; ns = ns } ∷ []));
     }
 
 -- the next line would be over too late
-pub too_late : {Z : Type 0} {ended : Bool} (limits : Limits) (start w : Option (List ℕ)) (bytes kept : List ℕ)
-    (s t : Schedule Z) (g : Given) → IsAt ended limits start w bytes kept s
+pub too_late : {Z : Type 0} {ended : Bool} (limits : Limits) (start w : Option (List ℕ)) (bytes partial : List ℕ)
+    (s t : Schedule Z) (g : Given) → IsAt ended limits start w bytes partial s
     → (IsFalse ended → IsFull s) → IsFlowGiven s.stream t.stream (2 ^ 64 - 1) g
     → least_ns s.stream.motion.percent g.line.item ≤ g.ns → 2 ^ 64 - 1 ≤ s.due_ns + g.ns → t.shown ≡ s.shown
     → t.number ≡ s.number → t.text.items ≡ s.text.items
     → IsTooLate limits start w bytes t
-too_late {Z} {ended} limits start w bytes kept s t g here full h least beyond shown_is number_is text_is =
+too_late {Z} {ended} limits start w bytes partial s t g here full h least beyond shown_is number_is text_is =
     let item = g.line.item in
     let ns = g.ns in
     let order = h.items in
@@ -120,24 +121,25 @@ too_late {Z} {ended} limits start w bytes kept s t g here full h least beyond sh
       paced = are_paced limits here.timed s.stream here.streamed;
       left = t.stream.motion.square;
       paced_late = are_paced limits (with_line here.timed item ns) t.stream (gives_out limits ended here.timed s.stream t.stream g here.streamed full h);
-      rest = item_lines (all_items t.stream) ++ kept;
-      lines = here.lines ∙ ap (λ (l : List Item). (lines_of here.timed ++ item_lines l) ++ kept) order ∙ known_with here.timed item (all_items t.stream) kept;
+      rest = item_lines (all_items t.stream) ++ partial;
+      lines = here.lines ∙ ap (λ (l : List Item). (lines_of here.timed ++ item_lines l) ++ partial) order
+          ∙ known_with here.timed item (all_items t.stream) partial;
       beyond = omega (arith, beyond, here.due);
       number = number_is ∙ here.number;
     }
 
 -- nothing more is written
-pub cut : {Z : Type 0} {ended : Bool} (limits : Limits) (start w : Option (List ℕ)) (bytes kept : List ℕ)
-    (s : Schedule Z) (shown : Shown) → shown ≡ s.shown → IsAt ended limits start w bytes kept s
+pub cut : {Z : Type 0} {ended : Bool} (limits : Limits) (start w : Option (List ℕ)) (bytes partial : List ℕ)
+    (s : Schedule Z) (shown : Shown) → shown ≡ s.shown → IsAt ended limits start w bytes partial s
     → IsCut limits shown start w bytes
-cut {Z} {ended} limits start w bytes kept s shown shown_is here =
+cut {Z} {ended} limits start w bytes partial s shown shown_is here =
     subst (λ (sh : Shown). IsCut limits sh start w bytes) (sym shown_is) (record {
       timed = here.timed;
       never_sooner = here.given.never_sooner;
       left = s.stream.motion.square;
       paced = are_paced limits here.timed s.stream here.streamed;
-      rest = item_lines (all_items s.stream) ++ kept;
-      lines = here.lines ∙ append_assoc (lines_of here.timed) (item_lines (all_items s.stream)) kept;
+      rest = item_lines (all_items s.stream) ++ partial;
+      lines = here.lines ∙ append_assoc (lines_of here.timed) (item_lines (all_items s.stream)) partial;
       out = here.given.out;
       written = here.given.written;
       after = s.text.items;
@@ -145,11 +147,11 @@ cut {Z} {ended} limits start w bytes kept s shown shown_is here =
     })
 
 -- a line was given in part
-pub cut_in_line : {Z : Type 0} {ended : Bool} (limits : Limits) (start w v : Option (List ℕ)) (bytes kept : List ℕ)
-    (s t : Schedule Z) (g : Given) → IsAt ended limits start w bytes kept s
+pub cut_in_line : {Z : Type 0} {ended : Bool} (limits : Limits) (start w v : Option (List ℕ)) (bytes partial : List ℕ)
+    (s t : Schedule Z) (g : Given) → IsAt ended limits start w bytes partial s
     → (IsFalse ended → IsFull s) → IsFlowGiven s.stream t.stream (2 ^ 64 - 1) g → due_ns s.stream.motion.percent g.line.item ≤ g.ns → t.shown ≡ s.shown
     → Wrote w v (s.text.items ++ due_text s.shown s.due_ns g.line.item) → IsCut limits t.shown start v bytes
-cut_in_line {Z} {ended} limits start w v bytes kept s t g here full h least shown_is wrote =
+cut_in_line {Z} {ended} limits start w v bytes partial s t g here full h least shown_is wrote =
     let item = g.line.item in
     let ns = g.ns in
     let order = h.items in
@@ -158,9 +160,10 @@ cut_in_line {Z} {ended} limits start w v bytes kept s t g here full h least show
       never_sooner = never_sooner-append limits.most_percent here.timed _ here.given.never_sooner (rw here.streamed.percent at least, tt);
       left = t.stream.motion.square;
       paced = are_paced limits (with_line here.timed item ns) t.stream (gives_out limits ended here.timed s.stream t.stream g here.streamed full h);
-      rest = item_lines (all_items t.stream) ++ kept;
-      lines = here.lines ∙ ap (λ (l : List Item). (lines_of here.timed ++ item_lines l) ++ kept) order ∙ known_with here.timed item (all_items t.stream) kept
-          ∙ sym (lines_with here.timed item ns (item_lines (all_items t.stream) ++ kept));
+      rest = item_lines (all_items t.stream) ++ partial;
+      lines = here.lines ∙ ap (λ (l : List Item). (lines_of here.timed ++ item_lines l) ++ partial) order
+          ∙ known_with here.timed item (all_items t.stream) partial
+          ∙ sym (lines_with here.timed item ns (item_lines (all_items t.stream) ++ partial));
       out = here.given.out ++ wrote.0;
       written = Appends-trans start w v here.given.out wrote.0 here.given.written wrote.2;
       after = wrote.1;
@@ -174,38 +177,39 @@ pub long_enough : (percent : ℕ) (item : Item) (due ns : ℕ) → least_ns perc
 long_enough percent item due ns least fits = omega (arith, least, fits)
 
 -- nothing of what is known changed
-unchanged : {Z : Type 0} {ended next : Bool} (limits : Limits) (start w : Option (List ℕ)) (bytes kept : List ℕ)
-    (s t : Schedule Z) → (here : IsAt ended limits start w bytes kept s)
+unchanged : {Z : Type 0} {ended next : Bool} (limits : Limits) (start w : Option (List ℕ)) (bytes partial : List ℕ)
+    (s t : Schedule Z) → (here : IsAt ended limits start w bytes partial s)
     → IsStreamed next limits here.timed t.stream → IsEnded s.stream t.stream → t.shown ≡ s.shown
     → t.due_ns ≡ s.due_ns → t.number ≡ s.number → t.text.items ≡ s.text.items
-    → IsAt next limits start w bytes kept t
-unchanged {Z} limits start w bytes kept s t here streamed ended shown_is due_is number_is text_is =
+    → IsAt next limits start w bytes partial t
+unchanged {Z} limits start w bytes partial s t here streamed ended shown_is due_is number_is text_is =
     record {
       timed = here.timed;
       given = subst (λ (sh : Shown). HasGiven limits.most_percent sh start w here.timed t.text.items) (sym shown_is)
           (subst (λ (l : List ℕ). HasGiven limits.most_percent s.shown start w here.timed l) (sym text_is)
           here.given);
       streamed = streamed;
-      lines = here.lines ∙ ap (λ (l : List Item). (lines_of here.timed ++ item_lines l) ++ kept) (sym ended.items);
+      lines = here.lines ∙ ap (λ (l : List Item). (lines_of here.timed ++ item_lines l) ++ partial) (sym ended.items);
       due = due_is ∙ here.due;
       number = number_is ∙ here.number;
     }
 
--- no line has its limits, and there is no room for more: the end is told, and nothing else changed
-pub told : {Z : Type 0} (limits : Limits) (start w : Option (List ℕ)) (bytes kept : List ℕ) (s t : Schedule Z)
-    → IsUnderWay limits start w bytes kept s → s.stream.motion.known ≡ []
+-- no line has its limits, and no more fit: the end is told, and nothing else changed
+pub told : {Z : Type 0} (limits : Limits) (start w : Option (List ℕ)) (bytes partial : List ℕ) (s t : Schedule Z)
+    → IsUnderWay limits start w bytes partial s → s.stream.motion.known ≡ []
     → IsFull s → IsEnded s.stream t.stream → t.shown ≡ s.shown → t.due_ns ≡ s.due_ns → t.number ≡ s.number
-    → t.text.items ≡ s.text.items → IsUnderWay limits start w bytes kept t
-told {Z} limits start w bytes kept s t here none full ended shown_is due_is number_is text_is =
-    unchanged limits start w bytes kept s t here (tells limits here.timed s.stream t.stream here.streamed none full
+    → t.text.items ≡ s.text.items → IsUnderWay limits start w bytes partial t
+told {Z} limits start w bytes partial s t here none full ended shown_is due_is number_is text_is =
+    unchanged limits start w bytes partial s t here (tells limits here.timed s.stream t.stream here.streamed none full
     ended) ended shown_is due_is number_is text_is
 
 -- no more lines come, and nothing else changed
-pub same_items : {Z : Type 0} (limits : Limits) (start w : Option (List ℕ)) (bytes kept : List ℕ) (s t : Schedule Z) → IsUnderWay limits start w bytes kept s
+pub same_items : {Z : Type 0} (limits : Limits) (start w : Option (List ℕ)) (bytes partial : List ℕ) (s t : Schedule Z)
+    → IsUnderWay limits start w bytes partial s
     → IsEnded s.stream t.stream → t.shown ≡ s.shown → t.due_ns ≡ s.due_ns → t.number ≡ s.number
-    → t.text.items ≡ s.text.items → IsAt true limits start w bytes kept t
-same_items {Z} limits start w bytes kept s t here ended shown_is due_is number_is text_is =
-    unchanged limits start w bytes kept s t here (ends limits here.timed s.stream t.stream here.streamed ended) ended shown_is due_is number_is text_is
+    → t.text.items ≡ s.text.items → IsAt true limits start w bytes partial t
+same_items {Z} limits start w bytes partial s t here ended shown_is due_is number_is text_is =
+    unchanged limits start w bytes partial s t here (ends limits here.timed s.stream t.stream here.streamed ended) ended shown_is due_is number_is text_is
 
 -- one more item is known
 pub takes : {Z : Type 0} (limits : Limits) (start w : Option (List ℕ)) (bytes : List ℕ) (s t : Schedule Z) (item : Item) → IsUnderWay limits start w bytes [] s

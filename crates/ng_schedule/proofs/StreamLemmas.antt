@@ -13,7 +13,7 @@ use Rattle.ng_pace.specs.Run.{ArePassed, AsksOnly, Event, put, end, ask, IsRun, 
 use Rattle.ng_pace.specs.Start.{start_of}
 use Rattle.ng_pace.proofs.PathsLemmas.{keeps-to-paths}
 use Rattle.ng_pace.proofs.WholeStreamLemmas.{paced}
-use Rattle.ng_schedule.specs.Schedule.{ArePaced, AskForMost, AskLate, AskWhereFull, Timed, room, times_of}
+use Rattle.ng_schedule.specs.Schedule.{ArePaced, AskForMost, AskLate, AskWhereFull, Timed, capacity, times_of}
 use Rattle.ng_schedule.specs.Private.Parts.{AskLateSoFar, IsStreamed}
 
 -- events behind others
@@ -80,18 +80,18 @@ items_count flow = omega (
   waiting_count [] = refl
   waiting_count (one ∷ timed) = omega (arith, waiting_count timed)
 
--- where the end is told, there is no more room than before
-pub still_full : (old new : Flow) → IsEnded old new → old.motion.room ≤ length old.motion.known + length old.waiting
-    → new.motion.room ≤ length new.motion.known + length new.waiting
-still_full old new h full = omega (arith, h.settles.room, ap length h.items, items_count old, items_count new, full)
+-- where the end is told, no more fits than before
+pub still_full : (old new : Flow) → IsEnded old new → old.motion.capacity ≤ length old.motion.known + length old.waiting
+    → new.motion.capacity ≤ length new.motion.known + length new.waiting
+still_full old new h full = omega (arith, h.settles.capacity, ap length h.items, items_count old, items_count new, full)
 
 module _ (limits : Limits) where
   -- more events
   goes_on : {ended next : Bool} (timed times : List Timed) (flow new : Flow) (events : List Event)
       → (here : IsStreamed ended limits timed flow) → IsRun flow events new → AskForMost events
       → times ≡ times_of (lines_given events) → AskLateSoFar next (here.events ++ events) → new.motion.percent ≡ flow.motion.percent
-      → new.motion.room ≡ flow.motion.room → CanRest new.motion.square new.motion.known → IsStreamed next limits (timed ++ times) new
-  goes_on timed times flow new events here run most times_are late same same_room rests =
+      → new.motion.capacity ≡ flow.motion.capacity → CanRest new.motion.square new.motion.known → IsStreamed next limits (timed ++ times) new
+  goes_on timed times flow new events here run most times_are late same same_capacity rests =
       record {
         first = here.first;
         events = here.events ++ events;
@@ -99,7 +99,7 @@ module _ (limits : Limits) where
         run = run_on here.first here.events events flow new here.run run;
         haste = most_on here.events events here.haste most;
         late = late;
-        room_is = same_room ∙ here.room_is;
+        capacity_is = same_capacity ∙ here.capacity_is;
         times = ap (λ (l : List Timed). l ++ times) here.times ∙ ap (λ (l : List Timed). times_of (lines_given here.events) ++ l) times_are
             ∙ sym (times_on (lines_given here.events) (lines_given events)) ∙ ap times_of (sym (given_on here.events events));
         percent = same ∙ here.percent;
@@ -110,47 +110,48 @@ module _ (limits : Limits) where
   goes_quietly : {ended next : Bool} (timed : List Timed) (flow new : Flow) (events : List Event)
       → (here : IsStreamed ended limits timed flow) → IsRun flow events new → AskForMost events
       → [] ≡ times_of (lines_given events) → AskLateSoFar next (here.events ++ events) → new.motion.percent ≡ flow.motion.percent
-      → new.motion.room ≡ flow.motion.room → CanRest new.motion.square new.motion.known → IsStreamed next limits timed new
-  goes_quietly {ended} {next} timed flow new events here run most none late same same_room rests =
-      subst (λ (l : List Timed). IsStreamed next limits l new) (none_more timed) (goes_on timed [] flow new events here run most none late same same_room rests)
+      → new.motion.capacity ≡ flow.motion.capacity → CanRest new.motion.square new.motion.known → IsStreamed next limits timed new
+  goes_quietly {ended} {next} timed flow new events here run most none late same same_capacity rests =
+      subst (λ (l : List Timed). IsStreamed next limits l new) (none_more timed)
+      (goes_on timed [] flow new events here run most none late same same_capacity rests)
     where
       none_more : (l : List Timed) → l ++ [] ≡ l
       none_more [] = refl
       none_more (t ∷ ts) = ap (λ (l : List Timed). t ∷ l) (none_more ts)
 
-  -- so many are known as there is room for
+  -- so many are known as fit
   is_full : {ended : Bool} (timed : List Timed) (flow : Flow) → (here : IsStreamed ended limits timed flow)
-      → flow.motion.room ≤ length flow.motion.known + length flow.waiting
-      → room ≤ length (all_items flow)
-  is_full timed flow here full = omega (arith, here.room_is, items_count flow, full)
+      → flow.motion.capacity ≤ length flow.motion.known + length flow.waiting
+      → capacity ≤ length (all_items flow)
+  is_full timed flow here full = omega (arith, here.capacity_is, items_count flow, full)
 
-  none_first : (first : Flow) → IsEmpty first limits room → 0 ≡ length (all_items first)
+  none_first : (first : Flow) → IsEmpty first limits capacity → 0 ≡ length (all_items first)
   none_first first empty = omega (arith, items_count first, ap length empty.known, ap length empty.waiting)
 
   pub puts : (timed : List Timed) (flow new : Flow) (item : Item) → IsStreamed false limits timed flow → IsPut flow new item → IsStreamed false limits timed new
   puts timed flow new item here h =
       goes_quietly timed flow new (put item ∷ []) here (new, (h, refl)) tt refl
       (full_on 0 false here.events (put item ∷ []) here.first flow here.run (none_first here.first here.empty) here.late (λ last. tt))
-      h.settles.percent h.settles.room h.rests
+      h.settles.percent h.settles.capacity h.rests
 
-  -- no line has its limits, and there is no room for more: the end is told
+  -- no line has its limits, and no more fit: the end is told
   pub tells : (timed : List Timed) (flow new : Flow) → IsStreamed false limits timed flow → flow.motion.known ≡ []
-      → flow.motion.room ≤ length flow.motion.known + length flow.waiting → IsEnded flow new → IsStreamed false limits timed new
+      → flow.motion.capacity ≤ length flow.motion.known + length flow.waiting → IsEnded flow new → IsStreamed false limits timed new
   tells timed flow new here none full h =
       goes_quietly timed flow new (ask (2 ^ 64 - 1) None ∷ (end ∷ [])) here (inl none, (new, (h, refl))) (refl, tt) refl
       (full_on 0 false here.events (ask (2 ^ 64 - 1) None ∷ (end ∷ [])) here.first flow here.run (none_first here.first here.empty) here.late
       (λ last. (is_full timed flow here full, (refl, tt))))
-      h.settles.percent h.settles.room h.rests
+      h.settles.percent h.settles.capacity h.rests
 
   -- no more lines come: the end is told
   pub ends : (timed : List Timed) (flow new : Flow) → IsStreamed false limits timed flow → IsEnded flow new → IsStreamed true limits timed new
   ends timed flow new here h =
       goes_quietly timed flow new (end ∷ []) here (new, (h, refl)) tt refl
       (record { before = here.events; rest = []; parts = refl; full = here.late; asks = tt })
-      h.settles.percent h.settles.room h.rests
+      h.settles.percent h.settles.capacity h.rests
 
   asked : (ended : Bool) (timed : List Timed) (flow : Flow) (given : Given) → (here : IsStreamed ended limits timed flow)
-      → (IsFalse ended → flow.motion.room ≤ length flow.motion.known + length flow.waiting)
+      → (IsFalse ended → flow.motion.capacity ≤ length flow.motion.known + length flow.waiting)
       → AskLateSoFar ended (here.events ++ ask (2 ^ 64 - 1) (Some given) ∷ [])
   asked false timed flow given here full =
       full_on 0 false here.events (ask (2 ^ 64 - 1) (Some given) ∷ []) here.first flow here.run (none_first here.first here.empty) here.late
@@ -165,14 +166,14 @@ module _ (limits : Limits) where
   }
 
   pub gives_out : (ended : Bool) (timed : List Timed) (flow new : Flow) (given : Given) → IsStreamed ended limits timed flow
-      → (IsFalse ended → flow.motion.room ≤ length flow.motion.known + length flow.waiting) → IsFlowGiven flow new (2 ^ 64 - 1) given
+      → (IsFalse ended → flow.motion.capacity ≤ length flow.motion.known + length flow.waiting) → IsFlowGiven flow new (2 ^ 64 - 1) given
       → IsStreamed ended limits (timed ++ (record { item = given.line.item; ns = given.ns }) ∷ []) new
   gives_out ended timed flow new given here full h =
       goes_on timed _ flow new (ask (2 ^ 64 - 1) (Some given) ∷ []) here (new, (h, refl)) (refl, tt) refl (asked ended timed flow given here full)
-      h.given_out.percent h.given_out.room h.given_out.rests
+      h.given_out.percent h.given_out.capacity h.given_out.rests
 
   -- before the first line
-  pub begins : (flow : Flow) → IsEmpty flow limits room → IsStreamed false limits [] flow
+  pub begins : (flow : Flow) → IsEmpty flow limits capacity → IsStreamed false limits [] flow
   begins flow empty =
       record {
         first = flow;
@@ -181,7 +182,7 @@ module _ (limits : Limits) where
         run = refl;
         haste = tt;
         late = tt;
-        room_is = empty.room_is;
+        capacity_is = empty.capacity_is;
         times = refl;
         percent = empty.percent;
         rests = subst (λ (known : List Line). CanRest flow.motion.square known) (sym empty.known) empty.rest;
@@ -205,7 +206,7 @@ module _ (limits : Limits) where
             (lines_given here.events) flow.motion.square) here.empty.percent
             (subst (λ (start : ℕ). ArePassed start here.first.motion.percent here.first.motion.square
             (lines_given here.events) flow.motion.square) here.empty.start passed));
-        axes = keeps-to-paths here.first limits room here.events flow here.empty here.run;
+        axes = keeps-to-paths here.first limits capacity here.events flow here.empty here.run;
       }
 
   -- nothing is known any more: everything stands still

@@ -51,17 +51,17 @@ AskForMost (put item ∷ rest) = AskForMost rest
 AskForMost (end ∷ rest) = AskForMost rest
 AskForMost (ask wanted answer ∷ rest) = (wanted ≡ 2 ^ 64 - 1) × AskForMost rest
 
--- for so many lines there is room
-abbrev pub room : ℕ
-room = 8192
+-- so many lines fit
+abbrev pub capacity : ℕ
+capacity = 8192
 
--- as long as lines come, one is asked for only where there is no room for more; so many are known. And where none has
+-- as long as lines come, one is asked for only where no more fit; so many are known. And where none has
 -- its limits then, since one was just asked for in vain, the end is told, so that what is known comes to rest
 abbrev pub AskWhereFull : ℕ → Bool → List Event → Type 0
 AskWhereFull known in_vain [] = Unit {0}
 AskWhereFull known in_vain (put item ∷ rest) = AskWhereFull (known + 1) false rest
-AskWhereFull known in_vain (ask wanted (Some given) ∷ rest) = (room ≤ known) × AskWhereFull (known - 1) false rest
-AskWhereFull known in_vain (ask wanted None ∷ rest) = (room ≤ known) × AskWhereFull known true rest
+AskWhereFull known in_vain (ask wanted (Some given) ∷ rest) = (capacity ≤ known) × AskWhereFull (known - 1) false rest
+AskWhereFull known in_vain (ask wanted None ∷ rest) = (capacity ≤ known) × AskWhereFull known true rest
 AskWhereFull known in_vain (end ∷ rest) = IsTrue in_vain × AskWhereFull known false rest
 
 -- once no more lines come, the end is told, and lines are asked for alone
@@ -82,7 +82,7 @@ pub record ArePaced (limits : Limits) (timed : List Timed) (left : ℕ) : Type 0
   pub first : Flow
   pub events : List Event
   pub last : Flow
-  pub empty : IsEmpty first limits room
+  pub empty : IsEmpty first limits capacity
   pub run : IsRun first events last
   pub haste : AskForMost events
   pub late : AskLate events

@@ -114,12 +114,12 @@ impl<A: Allocator + Copy + Drop> LineSplitter<A> {
 
     /// Ends the run: there are no more bytes.
     pub(crate) fn close<W: Write>(&mut self, writer: &mut W) -> Result<Ended, ScheduleFault>
-        requires { HasNoNewline self.old.kept.items }
+        requires { HasNoNewline self.old.partial.items }
         ensures { (limits : Limits) (start : Option (List ℕ)) (bytes : List ℕ)
-            → IsUnderWay limits start (W.contents writer.old) bytes self.old.kept.items self.old.schedule
+            → IsUnderWay limits start (W.contents writer.old) bytes self.old.partial.items self.old.schedule
             → ScheduleSpec limits self.old.schedule.shown bytes start (W.contents writer.new) result }
     {
-        if self.kept.is_empty() {
+        if self.partial.is_empty() {
             return self.schedule.finish(writer);
         }
         self.schedule.refuse(writer)

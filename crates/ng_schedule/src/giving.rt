@@ -6,7 +6,7 @@ ghost use Rattle.ng_pace.specs.Stream.{all_items};
 ghost use Rattle.ng_pace.specs.declared.limits.Limits.{Limits};
 ghost use Rattle.ng_schedule.specs.Flush.{FlushSpec};
 ghost use Rattle.ng_schedule.specs.Schedule.{due_text};
-ghost use Rattle.ng_schedule.specs.Private.Parts.{GiveSpec, HasRoom, IsAt, IsFull, IsUnderWay};
+ghost use Rattle.ng_schedule.specs.Private.Parts.{GiveSpec, IsNotFull, IsAt, IsFull, IsUnderWay};
 
 use crate::ending::{Halt, ScheduleFault, Shown};
 use crate::output::put_due;
@@ -50,9 +50,9 @@ impl<A: Allocator + Copy + Drop> Schedule<A> {
     /// Gives the next line whose limits are final. False if there is none.
     #[inline(always)]
     fn give_next<W: Write>(&mut self, writer: &mut W) -> Result<bool, Halt>
-        ensures step { (ended : Bool) (limits : Limits) (start : Option (List ℕ)) (bytes kept : List ℕ)
-            → IsAt ended limits start (W.contents writer.old) bytes kept self.old → (IsFalse ended → IsFull self.old)
-            → GiveSpec ended limits start (W.contents writer.new) bytes kept self.new result }
+        ensures step { (ended : Bool) (limits : Limits) (start : Option (List ℕ)) (bytes partial : List ℕ)
+            → IsAt ended limits start (W.contents writer.old) bytes partial self.old → (IsFalse ended → IsFull self.old)
+            → GiveSpec ended limits start (W.contents writer.new) bytes partial self.new result }
         ensures one { IfOk result (λ gave. IsTrue gave → length (all_items self.new.stream) + 1 ≡ length (all_items self.old.stream)) }
         ensures none { IfOk result (λ gave. IsFalse gave → self.old.stream.motion.known ≡ []) }
         ensures same { IfOk result (λ gave. IsFalse gave → self.new.stream ≡ self.old.stream) }
@@ -88,9 +88,9 @@ impl<A: Allocator + Copy + Drop> Schedule<A> {
     /// Gives one line. If the limits of none are final, all that are known come to rest at their end.
     #[inline(always)]
     fn give_one<W: Write>(&mut self, writer: &mut W) -> Result<(), Halt>
-        ensures step { (limits : Limits) (start : Option (List ℕ)) (bytes kept : List ℕ)
-            → IsUnderWay limits start (W.contents writer.old) bytes kept self.old → IsFull self.old
-            → GiveSpec false limits start (W.contents writer.new) bytes kept self.new result }
+        ensures step { (limits : Limits) (start : Option (List ℕ)) (bytes partial : List ℕ)
+            → IsUnderWay limits start (W.contents writer.old) bytes partial self.old → IsFull self.old
+            → GiveSpec false limits start (W.contents writer.new) bytes partial self.new result }
         ensures one { OnOk result (length (all_items self.new.stream) + 1 ≡ length (all_items self.old.stream)) }
         ensures shown { self.new.shown ≡ self.old.shown }
     {
@@ -108,13 +108,13 @@ impl<A: Allocator + Copy + Drop> Schedule<A> {
         }
     }
 
-    /// Gives lines until there is room for one more.
+    /// Gives lines until one more fits.
     #[inline(always)]
-    fn make_room<W: Write>(&mut self, writer: &mut W) -> Result<(), Halt>
-        ensures step { (limits : Limits) (start : Option (List ℕ)) (bytes kept : List ℕ)
-            → IsUnderWay limits start (W.contents writer.old) bytes kept self.old
-            → GiveSpec false limits start (W.contents writer.new) bytes kept self.new result }
-        ensures room { OnOk result (HasRoom self.new) }
+    fn give_while_full<W: Write>(&mut self, writer: &mut W) -> Result<(), Halt>
+        ensures step { (limits : Limits) (start : Option (List ℕ)) (bytes partial : List ℕ)
+            → IsUnderWay limits start (W.contents writer.old) bytes partial self.old
+            → GiveSpec false limits start (W.contents writer.new) bytes partial self.new result }
+        ensures not_full { OnOk result (IsNotFull self.new) }
         ensures shown { self.new.shown ≡ self.old.shown }
     {
         while self.stream.is_full() {
@@ -134,7 +134,7 @@ impl<A: Allocator + Copy + Drop> Schedule<A> {
             → GiveSpec false limits start (W.contents writer.new) (bytes ++ item_line item) [] self.new result }
         ensures shown { self.new.shown ≡ self.old.shown }
     {
-        match self.make_room(writer) {
+        match self.give_while_full(writer) {
             Ok(()) => {
                 self.stream.push(item);
                 Ok(())
@@ -145,9 +145,9 @@ impl<A: Allocator + Copy + Drop> Schedule<A> {
 
     /// Gives all lines: nothing more comes.
     pub(crate) fn give_all<W: Write>(&mut self, writer: &mut W) -> Result<(), Halt>
-        ensures step { (limits : Limits) (start : Option (List ℕ)) (bytes kept : List ℕ)
-            → IsUnderWay limits start (W.contents writer.old) bytes kept self.old
-            → GiveSpec true limits start (W.contents writer.new) bytes kept self.new result }
+        ensures step { (limits : Limits) (start : Option (List ℕ)) (bytes partial : List ℕ)
+            → IsUnderWay limits start (W.contents writer.old) bytes partial self.old
+            → GiveSpec true limits start (W.contents writer.new) bytes partial self.new result }
         ensures all { OnOk result (all_items self.new.stream ≡ []) }
         ensures shown { self.new.shown ≡ self.old.shown }
     {

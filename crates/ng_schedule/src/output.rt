@@ -29,8 +29,8 @@ fn write_out<W: Write>(writer: &mut W, bytes: &[u8]) -> Result<(), ScheduleFault
 /// The text that waits is written once it has this many bytes.
 const FULL: usize = 65_536;
 
-/// Room for all text that ever waits, so that no line allocates: text that isn't long yet, and one line.
-pub(crate) const ROOM: usize = FULL + 128;
+/// A capacity for all text that ever waits, so that no line allocates: text that isn't long yet, and one line.
+pub(crate) const CAPACITY: usize = FULL + 128;
 
 /// Writes the text that waits.
 #[inline(never)]

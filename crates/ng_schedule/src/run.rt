@@ -5,14 +5,14 @@ ghost use Rattle.ng_schedule.specs.Schedule.{ScheduleSpec};
 
 use crate::ending::{Ended, ScheduleFault, Shown};
 use crate::giving::Schedule;
-use crate::output::ROOM;
+use crate::output::CAPACITY;
 use crate::splitting::LineSplitter;
 use arrayvec::ArrayVec;
 use ng_pace::{Limits, PaceFault, Stream};
 use std::alloc::Allocator;
 use std::io::{Read, Write};
 
-/// For how many lines there is room: so many are known ahead of the one that is given.
+/// How many lines fit: so many are known ahead of the one that is given.
 const LINES: usize = 8192;
 
 /// The most reads that a run makes.
@@ -22,7 +22,7 @@ const READS: u64 = 1_000_000_000;
 const BUFFER: usize = 65_536;
 
 impl<A: Allocator + Copy + Drop> Schedule<A> {
-    /// A run before its first line, with all the room that it ever takes.
+    /// A run before its first line, with all the memory that it ever takes.
     fn new(alloc: A, limits: Limits, shown: Shown) -> Result<Schedule<A>, ScheduleFault>
         ensures empty { IfOk result (λ s. IsEmpty s.stream limits 8192) }
         ensures text { IfOk result (λ s. s.text.items ≡ []) }
@@ -35,7 +35,7 @@ impl<A: Allocator + Copy + Drop> Schedule<A> {
             Err(PaceFault::OutOfMemory) => return Err(ScheduleFault::Memory),
             Err(_) => return Err(ScheduleFault::Limits),
         };
-        match Vec::with_capacity(alloc, ROOM) {
+        match Vec::with_capacity(alloc, CAPACITY) {
             Ok(text) => Ok(Schedule {
                 stream,
                 shown,
@@ -59,7 +59,7 @@ impl<A: Allocator + Copy + Drop> Schedule<A> {
 /// that would be over after more than 584 years, 2^64 - 2 nanoseconds, ends it with another such line. Where a run ends
 /// so, no total is written.
 ///
-/// The lines are read through a buffer of fixed size, by at most 1,000,000,000 reads; room for 8,192 lines is made
+/// The lines are read through a buffer of fixed size, by at most 1,000,000,000 reads; memory for 8,192 lines is taken
 /// once, and memory doesn't grow. After a `ScheduleFault` a beginning of the text has been written; `Limits` and
 /// `Memory` come before the first read. Source: own.
 pub fn schedule<R: Read, W: Write, A: Allocator + Copy + Drop>(
@@ -78,10 +78,10 @@ pub fn schedule<R: Read, W: Write, A: Allocator + Copy + Drop>(
     };
     let mut splitter = LineSplitter {
         schedule,
-        kept: ArrayVec::new(),
+        partial: ArrayVec::new(),
     };
     let mut buffer = [0u8; BUFFER];
-    for turn in 0..READS {
+    for pass in 0..READS {
         match reader.read(&mut buffer) {
             Err(_) => return Err(ScheduleFault::Reader),
             Ok(0) => return splitter.close(writer),

@@ -15,13 +15,13 @@ use std::alloc::Allocator;
 use std::io::Write;
 
 /// The most bytes that are kept of a line without its end; no line has as many.
-const KEPT: usize = 128;
+const LONGEST_PARTIAL: usize = 128;
 
 /// Splits bytes into the lines of a run, and keeps the beginning of a line until its end comes.
 #[derive(Drop)]
 pub(crate) struct LineSplitter<A: Allocator> {
     pub(crate) schedule: Schedule<A>,
-    pub(crate) kept: ArrayVec<u8, KEPT>,
+    pub(crate) partial: ArrayVec<u8, LONGEST_PARTIAL>,
 }
 
 impl<A: Allocator + Copy + Drop> Schedule<A> {
@@ -59,35 +59,37 @@ impl<A: Allocator + Copy + Drop> LineSplitter<A> {
     /// Takes the end of a line: the bytes before its newline.
     #[inline(never)]
     fn end_line<W: Write>(&mut self, writer: &mut W, line: &[u8]) -> Result<(), Stop>
-        requires kept { HasNoNewline self.old.kept.items }
+        requires partial { HasNoNewline self.old.partial.items }
         requires line { HasNoNewline line.now }
         ensures step { (limits : Limits) (start : Option (List ℕ)) (bytes : List ℕ)
-            → IsUnderWay limits start (W.contents writer.old) bytes self.old.kept.items self.old.schedule
-            → TakeSpec limits start (W.contents writer.new) (bytes ++ (line.now ++ 10 ∷ [])) self.new.kept.items self.new.schedule result }
-        ensures kept { HasNoNewline self.new.kept.items }
+            → IsUnderWay limits start (W.contents writer.old) bytes self.old.partial.items self.old.schedule
+            → TakeSpec limits start (W.contents writer.new) (bytes ++
+            (line.now ++ 10 ∷ [])) self.new.partial.items self.new.schedule result }
+        ensures partial { HasNoNewline self.new.partial.items }
         ensures shown { self.new.schedule.shown ≡ self.old.schedule.shown }
     {
-        if self.kept.is_empty() {
+        if self.partial.is_empty() {
             return self.schedule.take_line(writer, line);
         }
-        self.end_kept(writer, line)
+        self.end_partial(writer, line)
     }
 
     /// The same where the beginning of the line is kept.
-    fn end_kept<W: Write>(&mut self, writer: &mut W, line: &[u8]) -> Result<(), Stop>
-        requires kept { HasNoNewline self.old.kept.items }
+    fn end_partial<W: Write>(&mut self, writer: &mut W, line: &[u8]) -> Result<(), Stop>
+        requires partial { HasNoNewline self.old.partial.items }
         requires line { HasNoNewline line.now }
         ensures step { (limits : Limits) (start : Option (List ℕ)) (bytes : List ℕ)
-            → IsUnderWay limits start (W.contents writer.old) bytes self.old.kept.items self.old.schedule
-            → TakeSpec limits start (W.contents writer.new) (bytes ++ (line.now ++ 10 ∷ [])) self.new.kept.items self.new.schedule result }
-        ensures kept { HasNoNewline self.new.kept.items }
+            → IsUnderWay limits start (W.contents writer.old) bytes self.old.partial.items self.old.schedule
+            → TakeSpec limits start (W.contents writer.new) (bytes ++
+            (line.now ++ 10 ∷ [])) self.new.partial.items self.new.schedule result }
+        ensures partial { HasNoNewline self.new.partial.items }
         ensures shown { self.new.schedule.shown ≡ self.old.schedule.shown }
     {
-        match self.kept.try_extend_from_slice(line) {
+        match self.partial.try_extend_from_slice(line) {
             Err(_) => Err(Stop::NotALine),
             Ok(()) => {
-                let taken = self.schedule.take_line(writer, self.kept.as_slice());
-                self.kept.clear();
+                let taken = self.schedule.take_line(writer, self.partial.as_slice());
+                self.partial.clear();
                 taken
             }
         }
@@ -95,15 +97,15 @@ impl<A: Allocator + Copy + Drop> LineSplitter<A> {
 
     /// Keeps the beginning of a line.
     fn keep(&mut self, bytes: &[u8]) -> Result<(), Stop>
-        requires kept { HasNoNewline self.old.kept.items }
+        requires partial { HasNoNewline self.old.partial.items }
         requires bytes { HasNoNewline bytes.now }
         ensures step { (limits : Limits) (start now : Option (List ℕ)) (before : List ℕ)
-            → IsUnderWay limits start now before self.old.kept.items self.old.schedule
-            → TakeSpec limits start now (before ++ bytes.now) self.new.kept.items self.new.schedule result }
-        ensures kept { HasNoNewline self.new.kept.items }
+            → IsUnderWay limits start now before self.old.partial.items self.old.schedule
+            → TakeSpec limits start now (before ++ bytes.now) self.new.partial.items self.new.schedule result }
+        ensures partial { HasNoNewline self.new.partial.items }
         ensures shown { self.new.schedule.shown ≡ self.old.schedule.shown }
     {
-        match self.kept.try_extend_from_slice(bytes) {
+        match self.partial.try_extend_from_slice(bytes) {
             Ok(()) => Ok(()),
             Err(_) => Err(Stop::NotALine),
         }
@@ -112,16 +114,16 @@ impl<A: Allocator + Copy + Drop> LineSplitter<A> {
     /// Takes the next bytes, and writes the lines that are given. Nearly all are lines of pulses: where none is kept,
     /// no end of a line is looked for before it is read.
     pub(crate) fn take<W: Write>(&mut self, writer: &mut W, bytes: &[u8]) -> Result<(), Stop>
-        requires { HasNoNewline self.old.kept.items }
+        requires { HasNoNewline self.old.partial.items }
         ensures step { (limits : Limits) (start : Option (List ℕ)) (before : List ℕ)
-            → IsUnderWay limits start (W.contents writer.old) before self.old.kept.items self.old.schedule
-            → TakeSpec limits start (W.contents writer.new) (before ++ bytes.now) self.new.kept.items self.new.schedule result }
-        ensures kept { HasNoNewline self.new.kept.items }
+            → IsUnderWay limits start (W.contents writer.old) before self.old.partial.items self.old.schedule
+            → TakeSpec limits start (W.contents writer.new) (before ++ bytes.now) self.new.partial.items self.new.schedule result }
+        ensures partial { HasNoNewline self.new.partial.items }
         ensures shown { self.new.schedule.shown ≡ self.old.schedule.shown }
     {
         let mut left = bytes;
         loop {
-            if self.kept.is_empty()
+            if self.partial.is_empty()
                 && let Some((pulse, after)) = take_pulse(left)
             {
                 match self.schedule.take_read(writer, Item::Pulse(pulse)) {

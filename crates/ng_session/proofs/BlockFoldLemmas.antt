@@ -11,7 +11,7 @@ use Rattle.ng_text.specs.Programs.{next_line_start}
 use Rattle.ng_layout.specs.Stored.{HalfModel, StoredModel, DurableState}
 use Rattle.ng_layout.specs.declared.half.Opened.TheVariants as open_part
 use Rattle.ng_canon.specs.declared.geometry.Geometry.{Geometry}
-use Rattle.ng_session.specs.Entries.{Approached, done_again, place_after, after_block, reached, reached_by, stance_before, hand_approach}
+use Rattle.ng_session.specs.Entries.{Approached, done_again, place_after, after_block, reached, reached_by, motion_state_before, hand_approach}
 use Rattle.ng_session.specs.Session.{CurrentBlockModel, greatest_index, half_open, after_current_block, after_current_approach, is_idle}
 use Rattle.ng_session.specs.Fold.{first_to_do, still_to_do, approach_in, approach_to, approach_from, durable_state_reached, after, hand_all, IsBlock}
 use Rattle.ng_session.specs.Cuts.{number_after}
@@ -71,7 +71,7 @@ pub record IsResumed (q : Geometry) (p : DurableState) (c : CurrentBlockModel) (
   pub done : Done
   pub does : done_again q p.saved half.text ≡ Ok done
   pub from : half.at ≡ Some a.from
-  pub to : a.to ≡ stance_before p.saved.setup done half.index
+  pub to : a.to ≡ motion_state_before p.saved.setup done half.index
   pub source : c.source ≡ half.source
   pub text : c.text ≡ half.text
   pub block_delete : c.block_delete ≡ false
@@ -220,17 +220,17 @@ all_given q p given x c done (inr m) =
 
 -- the state after the block
 leaves_block : (p : DurableState) (x : StoredModel) (c : CurrentBlockModel) (done : Done)
-    → x.entries ≡ p.saved.entries → x.length ≡ p.saved.length → x.tools ≡ p.saved.tools → x.room ≡ p.saved.room
+    → x.entries ≡ p.saved.entries → x.length ≡ p.saved.length → x.tools ≡ p.saved.tools → x.program_limit ≡ p.saved.program_limit
     → Leaves p c done
     → after_current_block x c ≡ after_block (next_line_start p.program p.saved.place) p.saved c.source done
-leaves_block p x c done entries length tools room l = λ i.
+leaves_block p x c done entries length tools program_limit l = λ i.
     record {
       entries = entries i + 1;
       setup = l.setup i;
       tools = tools i;
       place = l.place i;
       length = length i;
-      room = room i;
+      program_limit = program_limit i;
       half = None;
     }
 
@@ -239,10 +239,10 @@ pub after_is_it : (q : Geometry) (p : DurableState) (given : List Item) (x : Sto
     → after_current_block x c ≡ after_block (next_line_start p.program p.saved.place) p.saved c.source done
 after_is_it q p given x c done l (inl f) = leaves_block p x c done (ap (λ (y : StoredModel). y.entries) f.stands)
     (ap (λ (y : StoredModel). y.length) f.stands) (ap (λ (y : StoredModel). y.tools) f.stands)
-    (ap (λ (y : StoredModel). y.room) f.stands) l
+    (ap (λ (y : StoredModel). y.program_limit) f.stands) l
 after_is_it q p given x c done l (inr m) = leaves_block p x c done (ap (λ (y : StoredModel). y.entries) m.stands)
     (ap (λ (y : StoredModel). y.length) m.stands) (ap (λ (y : StoredModel). y.tools) m.stands)
-    (ap (λ (y : StoredModel). y.room) m.stands) l
+    (ap (λ (y : StoredModel). y.program_limit) m.stands) l
 
 -- ---- the approach
 

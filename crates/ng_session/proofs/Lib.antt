@@ -10,6 +10,6 @@ pub mod StorableStateLemmas
 pub mod RefusalLemmas
 pub mod OwnFaultLemmas
 pub mod OwnReplyLemmas
-pub mod KeptBlockLemmas
+pub mod BareBlockLemmas
 pub mod NextEntryLemmas
 pub mod PlannedLineLemmas

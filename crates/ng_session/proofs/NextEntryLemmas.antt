@@ -17,13 +17,13 @@ use Rattle.ng_layout.specs.Stored.{HalfModel, StoredModel}
 use Rattle.ng_layout.specs.Tools.{takes_slot}
 use Rattle.ng_layout.specs.Update.{UpdateModel, updated}
 use Rattle.ng_session.specs.Entries.{abandoned, after_abandon, after_tool}
-use Rattle.ng_session.specs.KeptBlock.{KeptBlock, block_on, IsReady}
+use Rattle.ng_session.specs.BareBlock.{BareBlock, block_on, IsReady}
 use Rattle.ng_session.specs.Planned.{base_on}
 use Rattle.ng_session.specs.Session.{CurrentBlockModel, SessionModel, after_current_block, after_current_approach, committed_on}
 use Rattle.ng_session.specs.SessionInvariant.{IsNextEntry}
 use Rattle.ng_session.specs.declared.stage.Stage.{Stage}
 use Rattle.ng_session.specs.declared.stage.Stage.TheVariants as stage
-use Rattle.ng_session.proofs.KeptBlockLemmas.{block_storable, approach_storable}
+use Rattle.ng_session.proofs.BareBlockLemmas.{block_storable, approach_storable}
 use Rattle.ng_session.proofs.StorableStateLemmas.{abandon_storable, tool_storable}
 use Rattle.ng_session.proofs.ToolSlotLemmas.{slot_valid, slot_most, tool_within}
 
@@ -31,9 +31,9 @@ pub no_slot : {T : Type 0} (o : Option T) (P : T → Type 0) → o ≡ None → 
 no_slot {T} o P none x some = let e : None ≡ Some x = sym none ∙ some in cc
 
 -- an update that leaves the parameters and the tools
-pub kept_next : (x : StoredModel) (u : UpdateModel) → u.changes ≡ [] → u.slot ≡ None → (updated x u).entries ≡ x.entries + 1
+pub holds_next : (x : StoredModel) (u : UpdateModel) → u.changes ≡ [] → u.slot ≡ None → (updated x u).entries ≡ x.entries + 1
     → IsStorable (updated x u) → IsNextEntry x u
-kept_next x u changes slot count storable = record {
+holds_next x u changes slot count storable = record {
   count = count;
   settled =
       (let P : List Change → Type 0 = λ l. l ≡ differences x.setup.params (with_changes x.setup.params l) in
@@ -44,7 +44,7 @@ kept_next x u changes slot count storable = record {
 
 -- ---- the current block
 
-module _ (x : StoredModel) (b : KeptBlock) (u : UpdateModel) (was : IsStorable x) (ready : IsReady x b) (slot : u.slot ≡ None) where
+module _ (x : StoredModel) (b : BareBlock) (u : UpdateModel) (was : IsStorable x) (ready : IsReady x b) (slot : u.slot ≡ None) where
   pub block_next : u.changes ≡ b.changes → updated x u ≡ after_current_block x (block_on x.setup.params b) → IsNextEntry x u
   block_next changes is = record {
     count = ap (λ (y : StoredModel). y.entries) is;
@@ -57,7 +57,7 @@ module _ (x : StoredModel) (b : KeptBlock) (u : UpdateModel) (was : IsStorable x
 
   pub approach_next : (point : Point) → u.changes ≡ [] → updated x u ≡ after_current_approach x (block_on x.setup.params b) point → IsNextEntry x u
   approach_next point changes is =
-      kept_next x u changes slot (ap (λ (y : StoredModel). y.entries) is) (subst IsStorable (sym is) (approach_storable x b point was ready))
+      holds_next x u changes slot (ap (λ (y : StoredModel). y.entries) is) (subst IsStorable (sym is) (approach_storable x b point was ready))
 
 -- what the block is committed as, at its stage
 pub on_approach : (s : SessionModel) (x : StoredModel) (c : CurrentBlockModel) (point : Point) (g : Stage) (a : Stage)
@@ -72,7 +72,7 @@ on_block s x c g same is =
     ap (λ (y : StoredModel). after_current_block y c) (sym same) ∙ ap (λ (h : Stage). (committed_on s c h).stored) (sym is)
 
 -- once nothing is left of the block, nor of its approach
-pub finished_is : (x : StoredModel) (b : KeptBlock) (g : Stage) (entries : ℕ) (u : UpdateModel)
+pub finished_is : (x : StoredModel) (b : BareBlock) (g : Stage) (entries : ℕ) (u : UpdateModel)
     → (g ≡ stage.OnBlock → entries ≡ x.entries) → (g ≢ stage.OnBlock → entries ≡ x.entries + 1)
     → ((y : StoredModel) → y.entries ≡ entries → updated y u ≡ after_current_block y (block_on y.setup.params b))
     → updated x u ≡ base_on x (block_on x.setup.params b) g
@@ -86,12 +86,12 @@ finished_is x b stage.OnBlock entries u block approach by = by x (sym (block ref
 
 pub abandon_next : (x : StoredModel) (u : UpdateModel) (half : HalfModel) → IsStorable x → x.half ≡ Some half → u.changes ≡ [] → u.slot ≡ None
     → updated x u ≡ after_abandon x → IsNextEntry x u
-abandon_next x u half was there changes slot is = kept_next x u changes slot
+abandon_next x u half was there changes slot is = holds_next x u changes slot
     (ap (λ (y : StoredModel). y.entries) is ∙ ap (λ (o : Option HalfModel). (abandoned x o).entries) there)
     (abandon_storable x (updated x u) was is)
 
-tools_kept : (lengths : List ℤ) (change : SlotChange) → AreTools lengths → IsStorableChange lengths change → AreTools (with_slot change lengths)
-tools_kept lengths change tools valid = by (change.slot == length lengths + 1) refl
+tools_hold : (lengths : List ℤ) (change : SlotChange) → AreTools lengths → IsStorableChange lengths change → AreTools (with_slot change lengths)
+tools_hold lengths change tools valid = by (change.slot == length lengths + 1) refl
   where
     by : (b : Bool) → (change.slot == length lengths + 1) ≡ b
         → AreTools (if b then lengths ++ change.length ∷ [] else set lengths (change.slot - 1) change.length)
@@ -118,7 +118,7 @@ tool_next x u slot nm was takes short changes put is =
           (let P : List Change → Type 0 = λ l. l ≡ differences x.setup.params (with_changes x.setup.params l) in
           subst P (sym changes) (sym (differences-none x.setup.params)));
       slot = (let Q : Option SlotChange → Type 0 = λ o. ForSome o (IsStorableChange x.tools) in subst Q (sym put) (some_slot change valid));
-      storable = subst IsStorable (sym is) (tool_storable x (with_slot change x.tools) (x.entries + 1) was (tools_kept x.tools change was.tools valid));
+      storable = subst IsStorable (sym is) (tool_storable x (with_slot change x.tools) (x.entries + 1) was (tools_hold x.tools change was.tools valid));
     }
   where
     some_slot : (change : SlotChange) → IsStorableChange x.tools change → ForSome (Some change) (IsStorableChange x.tools)

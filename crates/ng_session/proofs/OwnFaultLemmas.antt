@@ -215,9 +215,9 @@ are_of_words ws m slots = (
   ),
 )
 
-are_in_turn : (values words arc cycle end : List (Bool × Fault)) (far : Bool) → AreOwn values → AreOwn words → AreOwn arc → AreOwn cycle → AreOwn end
+are_in_order : (values words arc cycle end : List (Bool × Fault)) (far : Bool) → AreOwn values → AreOwn words → AreOwn arc → AreOwn cycle → AreOwn end
     → AreOwn (values ++ (words ++ ((far, OutOfRange) ∷ (arc ++ (cycle ++ end)))))
-are_in_turn values words arc cycle end far v w a c e =
+are_in_order values words arc cycle end far v w a c e =
     let computed : AreOwn ((far, OutOfRange) ∷ (arc ++ (cycle ++ end))) = (refl, are_both arc (cycle ++ end) a (are_both cycle end c e)) in
     are_both values (words ++ ((far, OutOfRange) ∷ (arc ++ (cycle ++ end)))) v (are_both words ((far, OutOfRange) ∷ (arc ++ (cycle ++ end))) w computed)
 
@@ -233,7 +233,7 @@ own_causes s tools geometry text =
       refl,
       (
         refl,
-        are_in_turn (value_causes pieces s.params) (faults values.words s.modal.modes (length tools)) (arc_faults move) (cycle_faults move)
+        are_in_order (value_causes pieces s.params) (faults values.words s.modal.modes (length tools)) (arc_faults move) (cycle_faults move)
             ((has_no_feed move, NoFeed) ∷ ((goes_outside move geometry, OutsideTravel) ∷ [])) (computes_beyond b s.modal table tools)
             (are_values pieces s.params) (are_of_words values.words s.modal.modes (length tools)) (are_of_arc move) (are_of_cycle move) end,
       ),

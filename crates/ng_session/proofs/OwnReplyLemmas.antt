@@ -85,7 +85,7 @@ own_load_unless program s text (Some fault) own = own
 own_load : (program : List ℕ) (s : SessionModel) (text : List ℕ) → TellsOwn (load program s text).reply
 own_load program s text =
     own_load_unless program s text (load_refusal s text)
-    (own_unless (not (accepts_load s)) _ _ refl (own_unless (nat_lt s.stored.room (length text)) _ _ refl tt))
+    (own_unless (not (accepts_load s)) _ _ refl (own_unless (nat_lt s.stored.program_limit (length text)) _ _ refl tt))
 
 own_reference_unless : (program : List ℕ) (s : SessionModel) (point : Point) (o : Option Fault) → IsOwn o → TellsOwn (reference_unless program s point o).reply
 own_reference_unless program s point None own = tt

@@ -24,8 +24,8 @@ use Rattle.ng_session.specs.Entries.{terms_of, done_of}
 use Rattle.ng_session.specs.Session.{CurrentBlockModel, SessionModel, Transition, accepts_load, is_running, is_idle}
 use Rattle.ng_session.specs.Session.{step, answers, begin, begun, begin_by, IsQuiet, after_current_block, opened_on}
 use Rattle.ng_session.specs.Session.{next_opened, opened, handed, committed_on, committed}
-use Rattle.ng_session.specs.KeptBlock.{block_on, IsReady}
-use Rattle.ng_session.proofs.KeptBlockLemmas.{block_storable}
+use Rattle.ng_session.specs.BareBlock.{block_on, IsReady}
+use Rattle.ng_session.proofs.BareBlockLemmas.{block_storable}
 use Rattle.ng_session.specs.Planned.{PlannedModel, KnownModel, IsLineOf, AreLinesOf, Base, IsBegunAhead, base_on}
 use Rattle.ng_session.specs.Planned.{base_after, base_of, base_then, base_at_end, ends_at_end, drops_plan}
 use Rattle.ng_session.specs.Planned.{IsPlannedOn, ArePlannedOn, IsPlan}
@@ -284,10 +284,10 @@ found_base geometry base old new known plan first later =
   where
     by : (ps : List PlannedModel) → (ps ≡ [] → new.base ≡ base.stored) → (ps ≢ [] → new.base ≡ old.base)
         → (ps ≢ [] → old.base ≡ (base_at_end base ps).stored) → new.base ≡ (base_at_end base ps).stored
-    by [] first later kept = first refl
-    by (p ∷ ps) first later kept =
+    by [] first later valid = first refl
+    by (p ∷ ps) first later valid =
         let some : p ∷ ps ≢ [] = λ e. cc in
-        later some ∙ kept some
+        later some ∙ valid some
 
 -- one more line, planned on that, or none
 abbrev pub IsOneMore : KnownModel → PlannedModel → KnownModel → Type 0

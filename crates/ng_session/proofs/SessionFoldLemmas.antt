@@ -225,12 +225,13 @@ next_load q lines p given P s text is t = by_refusal (load_refusal s text) refl
     by_refusal : (o : Option Fault) → load_refusal s text ≡ o → Next q lines p given (load_unless P s text o)
     by_refusal (Some f) h = stays q lines p given P _ s is t
     by_refusal None h =
-        let free = free_of (accepts_load s) (nat_lt s.stored.room (length text)) h in
-        let short = short_of (accepts_load s) (nat_lt s.stored.room (length text)) h in
+        let free = free_of (accepts_load s) (nat_lt s.stored.program_limit (length text)) h in
+        let short = short_of (accepts_load s) (nat_lt s.stored.program_limit (length text)) h in
         let none = rest_none s (and_left _ _ free) in
         let at = stands_at q lines p given s none t in
         let half : p.saved.half ≡ None = ap (λ (x : StoredModel). x.half) (sym at.0) ∙ none_of s.stored.half (and_right _ _ free) in
-        let fits : length text ≤ p.saved.room = subst (λ (x : StoredModel). length text ≤ x.room) at.0 (within s.stored.room (length text) short) in
+        let fits : length text ≤ p.saved.program_limit = subst (λ (x : StoredModel). length text ≤ x.program_limit) at.0 (within s.stored.program_limit
+        (length text) short) in
         Adds (Loaded text) refl refl (fits, half) refl at.1
         (subst (Tied q lines (after q p (Loaded text)) [] (after_load s.stored (length text)) activity.Idle)
         (sym none) (ap (λ (x : StoredModel). after_load x (length text)) at.0, refl, inl refl))

@@ -1,4 +1,4 @@
--- The invariant of a session is kept, with a block and without one.
+-- The invariant of a session holds, with a block and without one.
 use Rattle.std.proofs.Common.{◌≡◌, ◌≢◌, refl, ◌<◌, ℕ, Bool, true, not, ◌&&◌, List, Option, None, Some, sym, subst, arith}
 use Rattle.std.specs.Option.{is_none, option_map}
 use Rattle.ng_canon.specs.declared.item.Item.{Item}
@@ -7,51 +7,51 @@ use Rattle.ng_num.specs.declared.point.Point.{Point}
 use Rattle.ng_layout.specs.Storable.{IsStorableHalf}
 use Rattle.ng_layout.specs.Stored.{HalfModel, StoredModel}
 use Rattle.ng_layout.specs.Update.{UpdateModel, updated}
-use Rattle.ng_session.specs.KeptBlock.{KeptBlock, block_on, IsReady}
+use Rattle.ng_session.specs.BareBlock.{BareBlock, block_on, IsReady}
 use Rattle.ng_session.specs.Session.{CurrentBlockModel, SessionModel, after_current_approach, committed_on}
 use Rattle.ng_session.specs.SessionInvariant.{IsNextEntry, IsSessionInvariant}
 use Rattle.ng_session.specs.declared.stage.Stage.{Stage}
 use Rattle.ng_session.specs.declared.stage.Stage.TheVariants as stage
 use Rattle.ng_session.proofs.StorableStateLemmas.{half_storable}
 
-pub kept_free : (f : KeptBlock → CurrentBlockModel) (x : StoredModel) (o : Option KeptBlock) (runs held half : Bool)
+pub holds_free : (f : BareBlock → CurrentBlockModel) (x : StoredModel) (o : Option BareBlock) (runs held half : Bool)
     → is_none (option_map f o) && not runs && not held && half ≡ true → IsSessionInvariant x None → IsSessionInvariant x o
-kept_free f x None runs held half free kept = kept
-kept_free f x (Some b) runs held half free kept = cc
+holds_free f x None runs held half free valid = valid
+holds_free f x (Some b) runs held half free valid = cc
 
 -- a block was begun
-pub kept_ready : (x : StoredModel) (o : Option KeptBlock) (b : KeptBlock) → IsSessionInvariant x o → IsReady x b → IsSessionInvariant x (Some b)
-kept_ready x o b kept ready = record { count = kept.count; storable = kept.storable; ready = ready }
+pub holds_ready : (x : StoredModel) (o : Option BareBlock) (b : BareBlock) → IsSessionInvariant x o → IsReady x b → IsSessionInvariant x (Some b)
+holds_ready x o b valid ready = record { count = valid.count; storable = valid.storable; ready = ready }
 
 -- the approach or a segment of the block is opened
-pub kept_open : (x : StoredModel) (half : HalfModel) (b c : KeptBlock) (g : Stage) (index : ℕ) (left : List Segment) (items : List Item)
+pub holds_open : (x : StoredModel) (half : HalfModel) (b c : BareBlock) (g : Stage) (index : ℕ) (left : List Segment) (items : List Item)
     → IsSessionInvariant x (Some b) → IsStorableHalf half
     → c ≡ record b { stage = g; index = index; left = left; items = items }
     → IsSessionInvariant (record x { half = Some half }) (Some c)
-kept_open x half b c g index left items kept waits is = record {
-  count = kept.count;
-  storable = half_storable x half kept.storable waits;
-  ready = subst (λ (z : KeptBlock). IsReady (record x { half = Some half }) z) (sym is)
-      (record { settled = kept.ready.settled; modal = kept.ready.modal; place = kept.ready.place; text = kept.ready.text });
+holds_open x half b c g index left items valid waits is = record {
+  count = valid.count;
+  storable = half_storable x half valid.storable waits;
+  ready = subst (λ (z : BareBlock). IsReady (record x { half = Some half }) z) (sym is)
+      (record { settled = valid.ready.settled; modal = valid.ready.modal; place = valid.ready.place; text = valid.ready.text });
 }
 
 -- an update is taken, and no block is left
-pub kept_alone : (x y : StoredModel) (u : UpdateModel) → x.entries < 1_000_000_000_000 → IsNextEntry x u → y ≡ updated x u → IsSessionInvariant y None
-kept_alone x y u count next is =
+pub holds_alone : (x y : StoredModel) (u : UpdateModel) → x.entries < 1_000_000_000_000 → IsNextEntry x u → y ≡ updated x u → IsSessionInvariant y None
+holds_alone x y u count next is =
     let P : StoredModel → Type 0 = λ z. IsSessionInvariant z None in
     subst P (sym is) (record { count = omega (arith, count, next.count); storable = next.storable; ready = tt })
 
-pub kept_update : (f : KeptBlock → CurrentBlockModel) (x y : StoredModel) (o : Option KeptBlock) (u : UpdateModel)
+pub holds_update : (f : BareBlock → CurrentBlockModel) (x y : StoredModel) (o : Option BareBlock) (u : UpdateModel)
     → option_map f o ≡ None → x.entries < 1_000_000_000_000 → IsNextEntry x u → y ≡ updated x u → IsSessionInvariant y o
-kept_update f x y None u free count next is = kept_alone x y u count next is
-kept_update f x y (Some b) u free count next is = cc
+holds_update f x y None u free count next is = holds_alone x y u count next is
+holds_update f x y (Some b) u free count next is = cc
 
 -- the approach is committed, and its block goes on
-pub kept_approach : (s : SessionModel) (y : StoredModel) (b : KeptBlock) (u : UpdateModel) (g : Stage)
+pub holds_approach : (s : SessionModel) (y : StoredModel) (b : BareBlock) (u : UpdateModel) (g : Stage)
     → s.stored.entries < 1_000_000_000_000 → IsNextEntry s.stored u → y ≡ updated s.stored u
     → updated s.stored u ≡ (committed_on s (block_on s.stored.setup.params b) g).stored → g ≢ stage.OnBlock
     → IsReady s.stored b → IsSessionInvariant y (Some (record b { stage = stage.OnBlock }))
-kept_approach s y b u g count next is made off ready = by g made off
+holds_approach s y b u g count next is made off ready = by g made off
   where
     there : (point : Point) → updated s.stored u ≡ after_current_approach s.stored (block_on s.stored.setup.params b) point
         → IsSessionInvariant y (Some (record b { stage = stage.OnBlock }))

@@ -25,7 +25,7 @@ use Rattle.ng_block.specs.declared.shifts.Shown.{Shown}
 use Rattle.ng_block.specs.Action.{coolant_outputs, action_outputs, outputs_after}
 use Rattle.ng_block.specs.Actions.{slot_changed, dwell_on, with_value, actions_of}
 use Rattle.ng_block.specs.Motion.{time_word, feed_by, feed_word, feed_of, feed_mode_after}
-use Rattle.ng_block.specs.Ends.{ends, turned_off, stop_outputs}
+use Rattle.ng_block.specs.Ends.{ends, switched_off, stop_outputs}
 use Rattle.ng_state.specs.declared.modal_state.ModalState.{ModalState}
 use Rattle.ng_layout.specs.Limits.{greatest_slot}
 use Rattle.ng_layout.specs.Storable.{IsStorableModalState}
@@ -125,7 +125,7 @@ any to (Some x) later can others = (can x, others)
 stops : (word : Option StopWord) (o : Outputs) → Fits o → Fits (stop_outputs word o)
 stops word o fits = by (ends word)
   where
-    by : (t : Bool) → Fits (cond t (turned_off o) o)
+    by : (t : Bool) → Fits (cond t (switched_off o) o)
     by true = record { speed = fits.speed; selected = fits.selected; held = fits.held }
     by false = fits
 

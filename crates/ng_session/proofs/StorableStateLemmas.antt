@@ -105,24 +105,24 @@ after-keeps t first s text few = by (percent_by first text)
     by None = alone-keeps t s text few
     by (Some stop) = idle-keeps s stop
 
-kept : {T : Type 0} (r : Result T Fault) (s : StateModel) (does : Result Done Fault) (done : Done) → Keeps s does
+stays_storable : {T : Type 0} (r : Result T Fault) (s : StateModel) (does : Result Done Fault) (done : Done) → Keeps s does
     → MatchResult r (λ x. does ≡ Ok done) (λ fault. does ≡ Err fault) → OnOk r (IsStorableModalState s.modal → IsStorableModalState done.setup.modal)
-kept (Ok x) s does done keeps e = keeps done e
-kept (Err fault) s does done keeps e = tt
+stays_storable (Ok x) s does done keeps e = keeps done e
+stays_storable (Err fault) s does done keeps e = tt
 
 -- a line by itself, and one after others
 pub alone-stands : {T : Type 0} (r : Result T Fault) (t : TermsModel) (s : StateModel) (text : List ℕ) (done : Done) → length t.tools ≤ greatest_slot
     → MatchResult r (λ x. executed_unless_deleted t s text ≡ Ok done)
     (λ fault. executed_unless_deleted t s text ≡ Err fault)
     → OnOk r (IsStorableModalState s.modal → IsStorableModalState done.setup.modal)
-alone-stands r t s text done few = kept r s (executed_unless_deleted t s text) done (alone-keeps t s text few)
+alone-stands r t s text done few = stays_storable r s (executed_unless_deleted t s text) done (alone-keeps t s text few)
 
 pub after-stands : {T : Type 0} (r : Result T Fault) (t : TermsModel) (first : LineKind) (s : StateModel)
     (text : List ℕ) (done : Done) → length t.tools ≤ greatest_slot
     → MatchResult r (λ x. executed_after t first s text ≡ Ok done)
     (λ fault. executed_after t first s text ≡ Err fault)
     → OnOk r (IsStorableModalState s.modal → IsStorableModalState done.setup.modal)
-after-stands r t first s text done few = kept r s (executed_after t first s text) done (after-keeps t first s text few)
+after-stands r t first s text done few = stays_storable r s (executed_after t first s text) done (after-keeps t first s text few)
 
 -- a half-done block
 pub again-stands : {T : Type 0} (r : Result T Fault) (s : StateModel) (tools : List ℤ) (geometry : Geometry)
@@ -130,7 +130,7 @@ pub again-stands : {T : Type 0} (r : Result T Fault) (s : StateModel) (tools : L
     → MatchResult r (λ x. executed s tools geometry text ≡ Ok done)
     (λ fault. executed s tools geometry text ≡ Err fault)
     → OnOk r (IsStorableModalState s.modal → IsStorableModalState done.setup.modal)
-again-stands r s tools geometry text done few = kept r s (executed s tools geometry text) done (line-keeps s tools geometry text few)
+again-stands r s tools geometry text done few = stays_storable r s (executed s tools geometry text) done (line-keeps s tools geometry text few)
 
 -- ---- what is stored after a block and after a load
 
@@ -146,14 +146,14 @@ place-within next place limit source stop first second = by (is_end stop) source
     by false Program = first
     by false Mdi = second
 
-pub load_storable : (x : StoredModel) (length_new : ℕ) → IsStorable x → length_new ≤ x.room → IsStorable (after_load x length_new)
+pub load_storable : (x : StoredModel) (length_new : ℕ) → IsStorable x → length_new ≤ x.program_limit → IsStorable (after_load x length_new)
 load_storable x length_new was short = record {
   table = length-map (enumerate_from 1 x.setup.params) _ ∙ length-enumerate_from 1 x.setup.params ∙ was.table;
   modal = was.modal;
   half = tt;
   place = omega arith;
   program = short;
-  room = was.room;
+  program_limit = was.program_limit;
   tools = was.tools;
 }
 
@@ -165,7 +165,7 @@ half_storable x half was waits = record {
   half = waits;
   place = was.place;
   program = was.program;
-  room = was.room;
+  program_limit = was.program_limit;
   tools = was.tools;
 }
 
@@ -186,8 +186,8 @@ reference_storable x y point was is = subst IsStorable (sym is) (by x.half refl)
       half = tt;
       place = was.place;
       program = was.program;
-      room =
-          was.room;
+      program_limit =
+          was.program_limit;
       tools = was.tools;
     }
     by (Some half) held =
@@ -199,7 +199,7 @@ reference_storable x y point was is = subst IsStorable (sym is) (by x.half refl)
               record { unknown = λ none. let e : false ≡ true = none in cc; text = waits.text };
           place = was.place;
           program = was.program;
-          room = was.room;
+          program_limit = was.program_limit;
           tools = was.tools;
         }
 
@@ -221,8 +221,8 @@ abandon_storable x y was is = subst IsStorable (sym is) (by x.half)
       half = tt;
       place = was.place;
       program = was.program;
-      room =
-          was.room;
+      program_limit =
+          was.program_limit;
       tools = was.tools;
     }
 
@@ -236,6 +236,6 @@ tool_storable x tools entries was few = record {
   place =
       was.place;
   program = was.program;
-  room = was.room;
+  program_limit = was.program_limit;
   tools = few;
 }

@@ -8,12 +8,12 @@ use Rattle.ng_canon.specs.declared.item.Item.{Item}
 use Rattle.ng_canon.specs.declared.pace.Pace.TheVariants as pace
 use Rattle.ng_canon.specs.declared.segment.Segment.TheVariants as segment
 use Rattle.ng_cycles.specs.Segments.{after_segments, line_to}
-use Rattle.ng_cycles.specs.declared.motion_state.MotionState.{MotionState as Stance}
+use Rattle.ng_cycles.specs.declared.motion_state.MotionState.{MotionState}
 use Rattle.ng_step.specs.Hands.{hand}
 use Rattle.ng_params.specs.Lasting.{cleared}
 use Rattle.ng_block.specs.Program.{TermsModel, executed_in_program, executed_unless_deleted, is_end}
 use Rattle.ng_block.specs.Effects.{Done, executed}
-use Rattle.ng_block.specs.Ends.{turned_off}
+use Rattle.ng_block.specs.Ends.{switched_off}
 use Rattle.ng_state.specs.State.{StateModel}
 use Rattle.ng_block.specs.declared.effect.ProgramFlow.{ProgramFlow}
 use Rattle.ng_state.specs.declared.modal_state.ModalState.{ModalState}
@@ -71,8 +71,8 @@ after_load x length =
 -- ---- a half-done block
 
 -- the machine's position and outputs before a given segment of a block, if the block begins in a given state
-abbrev pub stance_before : StateModel → Done → ℕ → Stance
-stance_before setup done n = after_segments (record { point = setup.modal.point; outputs = done.before }) (take n done.segments)
+abbrev pub motion_state_before : StateModel → Done → ℕ → MotionState
+motion_state_before setup done n = after_segments (record { point = setup.modal.point; outputs = done.before }) (take n done.segments)
 
 -- what an approach hands out: a switch with the outputs there, then a line at the traverse rate
 abbrev pub hand_approach : Geometry → Approach → List Item
@@ -107,7 +107,7 @@ after_approach x point = reached_by x x.half point
 
 -- the machine after a half-done block is given up: at the point of that block's machine, if that is known
 abbrev pub given_up : ModalState → HalfModel → ModalState
-given_up m half = record m { outputs = turned_off m.outputs; point = unwrap_or half.at m.point; point_known = is_some half.at }
+given_up m half = record m { outputs = switched_off m.outputs; point = unwrap_or half.at m.point; point_known = is_some half.at }
 
 abbrev pub abandoned : StoredModel → Option HalfModel → StoredModel
 abandoned x None = x

@@ -16,7 +16,7 @@ use Rattle.ng_layout.specs.declared.half.Source.TheVariants as source
 use Rattle.ng_text.specs.Programs.{ProgramLineModel, program_line_at, next_line_start}
 use Rattle.ng_canon.specs.declared.geometry.Geometry.{Geometry}
 use Rattle.ng_session.specs.Entries.{Entry, Block, Loaded, Referenced, Approached, Abandoned, Tooled, done_of}
-use Rattle.ng_session.specs.Entries.{done_again, after_block, after_load, stance_before, hand_approach}
+use Rattle.ng_session.specs.Entries.{done_again, after_block, after_load, motion_state_before, hand_approach}
 use Rattle.ng_session.specs.Entries.{after_reference, after_approach, after_abandon, after_tool}
 use Rattle.ng_session.specs.declared.stage.Approach.{Approach}
 
@@ -41,7 +41,7 @@ still_to_do x done = drop (first_to_do x.saved.half) done.segments
 abbrev pub approach_from : StoredModel → HalfModel → Option Point → Result Done Fault → Option Approach
 approach_from x half None done = None
 approach_from x half (Some from) (Err fault) = None
-approach_from x half (Some from) (Ok done) = Some (record { from = from; to = stance_before x.setup done half.index })
+approach_from x half (Some from) (Ok done) = Some (record { from = from; to = motion_state_before x.setup done half.index })
 
 abbrev pub approach_to : Geometry → StoredModel → Option HalfModel → Option Approach
 approach_to geometry x None = None
@@ -104,7 +104,7 @@ items_all geometry x (entry ∷ entries) = items geometry x entry ++ items_all g
 
 -- a half-done block goes on if its machine is at the point before its next segment
 abbrev pub ResumesHalf : StoredModel → HalfModel → List ℕ → Done → Type 0
-ResumesHalf x half text done = (text ≡ half.text) × (half.at ≡ Some (stance_before x.setup done half.index).point)
+ResumesHalf x half text done = (text ≡ half.text) × (half.at ≡ Some (motion_state_before x.setup done half.index).point)
 
 abbrev pub IsLineAt : Option ProgramLineModel → List ℕ → Type 0
 IsLineAt None text = ⊥
@@ -128,7 +128,7 @@ pub record IsBlock (geometry : Geometry) (lines : List (List ℕ)) (x : DurableS
 
 abbrev pub FollowsFold : Geometry → List (List ℕ) → DurableState → Entry → Type 0
 FollowsFold geometry lines x (Block source text block_delete) = (done : Done) × IsBlock geometry lines x source text block_delete done
-FollowsFold geometry lines x (Loaded text) = (length text ≤ x.saved.room) × (x.saved.half ≡ None)
+FollowsFold geometry lines x (Loaded text) = (length text ≤ x.saved.program_limit) × (x.saved.half ≡ None)
 FollowsFold geometry lines x (Referenced point) = is_inside geometry point ≡ true
 FollowsFold geometry lines x Approached = (a : Approach) × (approach_in geometry x ≡ Some a)
 FollowsFold geometry lines x Abandoned = (half : HalfModel) × (x.saved.half ≡ Some half)

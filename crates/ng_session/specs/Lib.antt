@@ -1,6 +1,6 @@
 pub mod Entries
 pub mod Session
-pub mod KeptBlock
+pub mod BareBlock
 pub mod SessionInvariant
 pub mod Fold
 pub mod Runs

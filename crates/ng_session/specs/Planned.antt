@@ -12,7 +12,7 @@ use Rattle.ng_layout.specs.Stored.{StoredModel}
 use Rattle.ng_layout.specs.declared.half.Source.TheVariants as source
 use Rattle.ng_canon.specs.declared.geometry.Geometry.{Geometry}
 use Rattle.ng_session.specs.Entries.{terms_of}
-use Rattle.ng_session.specs.KeptBlock.{KeptBlock, block_on, IsReady}
+use Rattle.ng_session.specs.BareBlock.{BareBlock, block_on, IsReady}
 use Rattle.ng_session.specs.Session.{CurrentBlockModel, SessionModel, after_current_block, after_current_approach, begin, begun}
 use Rattle.ng_session.specs.declared.event.Event.{Event}
 use Rattle.ng_session.specs.declared.event.Event.TheVariants as event
@@ -26,7 +26,7 @@ pub record PlannedModel : Type 0 where
   pub place : ℕ
   pub first : LineKind
   pub next : ℕ
-  pub block : KeptBlock
+  pub block : BareBlock
 
 -- what is known of a program's lines: of those before a place, and those that were read ahead, in order; and while there
 -- are any of these, what will be stored after the last

@@ -24,7 +24,7 @@ use Rattle.ng_layout.specs.declared.half.Opened.{Opened}
 use Rattle.ng_layout.specs.declared.half.Opened.TheVariants as open_part
 use Rattle.ng_text.specs.Programs.{ProgramLineModel, lines_before, program_line_at, next_line_start}
 use Rattle.ng_session.specs.Entries.{Entry, Block, Loaded, Referenced, Approached, Abandoned, Tooled, done_of}
-use Rattle.ng_session.specs.Entries.{done_again, place_after, after_load, stance_before, hand_approach}
+use Rattle.ng_session.specs.Entries.{done_again, place_after, after_load, motion_state_before, hand_approach}
 use Rattle.ng_session.specs.Entries.{after_reference, after_abandon, after_tool}
 use Rattle.ng_session.specs.declared.activity.Activity.{Activity}
 use Rattle.ng_session.specs.declared.activity.Activity.TheVariants as activity
@@ -175,7 +175,7 @@ mdi geometry program s text =
 abbrev pub load_refusal : SessionModel → List ℕ → Option Fault
 load_refusal s text =
     if not (accepts_load s) then Some fault.Busy
-    else if nat_lt s.stored.room (length text) then Some fault.ProgramTooLong
+    else if nat_lt s.stored.program_limit (length text) then Some fault.ProgramTooLong
     else None
 
 abbrev pub loaded : SessionModel → StoredModel → SessionModel
@@ -225,7 +225,7 @@ begun_again x half from next done = record {
   source = half.source;
   text = half.text;
   block_delete = false;
-  stage = stage.ToApproach (record { from = from; to = stance_before x.setup done half.index });
+  stage = stage.ToApproach (record { from = from; to = motion_state_before x.setup done half.index });
   index = half.index;
   left = drop half.index done.segments;
   items = [];

@@ -7,7 +7,7 @@ use Rattle.ng_layout.specs.Limits.{greatest_count}
 use Rattle.ng_layout.specs.Storable.{IsStorable, IsStorableChange}
 use Rattle.ng_layout.specs.Stored.{StoredModel}
 use Rattle.ng_layout.specs.Update.{UpdateModel, updated}
-use Rattle.ng_session.specs.KeptBlock.{KeptBlock, IsReady}
+use Rattle.ng_session.specs.BareBlock.{BareBlock, IsReady}
 
 -- The update is that of one more entry, which can be stored: its changes are the differences that they make, each
 -- parameter once.
@@ -18,7 +18,7 @@ pub record IsNextEntry (x : StoredModel) (update : UpdateModel) : Type 0 where
   pub storable : IsStorable (updated x update)
 
 -- the state can be stored, and so can that after the current block
-pub record IsSessionInvariant (x : StoredModel) (current : Option KeptBlock) : Type 0 where
+pub record IsSessionInvariant (x : StoredModel) (current : Option BareBlock) : Type 0 where
   pub count : x.entries ≤ greatest_count
   pub storable : IsStorable x
   pub ready : IfSome current (IsReady x)

@@ -98,7 +98,7 @@ impl<A: Allocator + Copy + Drop> Session<A> {
     /// Begins a line of the operator. If the session was held, the hold ends, and a program that ran waits. K1 if a
     /// block is current or half-done, or if the program runs and isn't held; K3 if the machine's point isn't known;
     /// then the line's own faults. In all these cases nothing is changed. It doesn't allocate.
-    #[tactic(auto, using(crate::proofs::SessionInvariantLemmas::kept_ready))]
+    #[tactic(auto, using(crate::proofs::SessionInvariantLemmas::holds_ready))]
     pub(crate) fn mdi(&mut self, text: &[u8], geometry: &Geometry) -> Reply
         ensures reply { (program : List ℕ) → result ≡ (mdi geometry.now program self.old text.now).reply }
         ensures next { (program : List ℕ) → self.new ≡ (mdi geometry.now program self.old text.now).next }

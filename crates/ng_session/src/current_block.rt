@@ -7,7 +7,7 @@ ghost use Rattle.ng_layout.specs.Limits.{greatest_count};
 ghost use Rattle.ng_layout.specs.Storable.{IsStorableModalState, IsStorable};
 ghost use Rattle.ng_canon.specs.declared.pace.Pace.TheVariants as pace;
 ghost use Rattle.ng_cycles.specs.Segments.{line_to};
-ghost use Rattle.ng_session.specs.Entries.{place_by, place_after, stance_before, hand_approach};
+ghost use Rattle.ng_session.specs.Entries.{place_by, place_after, motion_state_before, hand_approach};
 ghost use Rattle.ng_layout.specs.Stored.{StoredModel};
 ghost use Rattle.ng_layout.specs.Update.{updated};
 ghost use Rattle.ng_session.specs.Session.{half_open, next_opened};
@@ -25,7 +25,7 @@ use ng_step::Stepper;
 use std::alloc::Allocator;
 use std::marker::Model;
 
-/// The current block, as it was begun, and what is left of it (own). Contracts see a `KeptBlock`.
+/// The current block, as it was begun, and what is left of it (own). Contracts see a `BareBlock`.
 #[derive(Drop)]
 pub(crate) struct CurrentBlock {
     pub source: Source,
@@ -56,9 +56,9 @@ pub(crate) struct CurrentBlock {
 
 impl Model for CurrentBlock {
     ghost use Rattle.std.specs.Prelude.{[], unwrap_or};
-    ghost use Rattle.ng_session.specs.KeptBlock.{KeptBlock, left_of, onto};
+    ghost use Rattle.ng_session.specs.BareBlock.{BareBlock, left_of, onto};
 
-    ghost Value = { KeptBlock };
+    ghost Value = { BareBlock };
 
     ghost view = { λ c. record {
       source = c.source;
@@ -134,7 +134,7 @@ impl CurrentBlock {
     ghost use Rattle.std.specs.Prelude.{[], drop, IfSome, MatchBool};
     ghost use Rattle.ng_layout.specs.Storable.{IsStorableHalf};
     ghost use Rattle.ng_session.specs.declared.stage.Stage.TheVariants.{OnApproach, OnBlock};
-    ghost use Rattle.ng_session.specs.KeptBlock.{block_on, IsReady};
+    ghost use Rattle.ng_session.specs.BareBlock.{block_on, IsReady};
     ghost use Rattle.ng_session.specs.SessionInvariant.{IsNextEntry};
     ghost use Rattle.ng_session.specs.Session.{SessionModel, after_current_block, after_current_approach, committed_on};
     ghost use Rattle.ng_session.specs.Session.{begun, begun_again, first_of, rest_of, opening_on, opened_on};
@@ -194,7 +194,7 @@ impl CurrentBlock {
     {
         let Resumed {
             block_segments: mut left,
-            standing: to,
+            motion_state: to,
         } = effect.block_segments_from(start_of(stored), half.index);
         let upcoming = left.next();
         CurrentBlock {
@@ -355,7 +355,7 @@ impl CurrentBlock {
     pub fn open(&mut self, geometry: &Geometry)
         ensures opened { (params : List ℤ) → block_on params self.new
             ≡ opened_on geometry.now (block_on params self.old) self.old.stage }
-        ensures kept { self.new ≡ record self.old {
+        ensures unchanged { self.new ≡ record self.old {
           stage = self.new.stage;
           index = self.new.index;
           left = self.new.left;
@@ -399,7 +399,7 @@ impl CurrentBlock {
     fn open_segment(&mut self, geometry: &Geometry)
         ensures opened { (params : List ℤ) → block_on params self.new
             ≡ next_opened geometry.now (block_on params self.old) self.old.left }
-        ensures kept { self.new ≡ record self.old {
+        ensures unchanged { self.new ≡ record self.old {
           index = self.new.index;
           left = self.new.left;
           items = self.new.items;

@@ -38,7 +38,7 @@ impl<A: Allocator + Drop> Text<A> {
 /// What happens to a session (own).
 #[derive(Drop)]
 pub enum Event<A: Allocator> {
-    /// A program to be stored. It is refused with J5 if the device has no room for it.
+    /// A program to be stored. It is refused with J5 if it is longer than the device takes.
     Load(Text<A>),
     /// The program is to run from its place on.
     Start,

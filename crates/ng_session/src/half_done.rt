@@ -13,7 +13,7 @@ use crate::beginning::terms_over;
 use crate::current_block::CurrentBlock;
 use crate::reply::Reply;
 use crate::session::Session;
-use ng_block::{Effect, Scratch, turned_off};
+use ng_block::{Effect, Scratch, switched_off};
 use ng_canon::Geometry;
 use ng_layout::{DecodedState, GREATEST_COUNT, Half, Source, Stored, Update};
 use ng_num::{Fault, Point};
@@ -45,7 +45,7 @@ fn given_up(modal: &ModalState, half: &Half) -> ModalState
     ensures { result ≡ given_up modal.now half.now }
 {
     ModalState {
-        outputs: turned_off(modal.outputs),
+        outputs: switched_off(modal.outputs),
         point: half.at.unwrap_or(modal.point),
         point_known: half.at.is_some(),
         ..*modal
@@ -214,7 +214,7 @@ impl<A: Allocator + Copy + Drop> Session<A> {
     }
 
     /// Goes on with an update, once that is stored.
-    #[tactic(auto, using(crate::proofs::SessionInvariantLemmas::kept_update))]
+    #[tactic(auto, using(crate::proofs::SessionInvariantLemmas::holds_update))]
     pub fn take(&mut self, update: &Update<'_>) -> Reply
         requires free { self.old.current ≡ None }
         requires count { self.old.stored.entries < greatest_count }
@@ -239,7 +239,7 @@ impl<A: Allocator + Copy + Drop> Session<A> {
     /// Makes the half-done block go on, beginning with its approach. The next line of the program begins at the byte
     /// `next`. K1 if the session isn't at rest, K4 if no block is half-done, K3 if the point of its machine isn't
     /// known, then its line's own faults. In all these cases nothing is changed. It doesn't allocate.
-    #[tactic(auto, using(crate::proofs::SessionInvariantLemmas::kept_ready))]
+    #[tactic(auto, using(crate::proofs::SessionInvariantLemmas::holds_ready))]
     pub fn resume(&mut self, next: u64, geometry: &Geometry) -> Reply
         requires { next ≤ self.old.stored.length }
         ensures stored { self.new.stored ≡ self.old.stored }

@@ -42,12 +42,12 @@ impl<A: Allocator> Model for KnownLines<A> {
 }
 
 impl<A: Allocator + Copy + Drop> KnownLines<A> {
-    ghost use Rattle.ng_session.specs.KeptBlock.{block_on};
+    ghost use Rattle.ng_session.specs.BareBlock.{block_on};
     ghost use Rattle.ng_session.specs.Planned.{PlannedModel, IsKnownOf, base_after, forgotten, forgotten_for};
     ghost use Rattle.ng_session.specs.Session.{after_current_block};
     ghost use Rattle.ng_session.specs.SessionInvariant.{IsSessionInvariant};
 
-    /// What is known of every program, with room for all lines that are read ahead and for the table that they are
+    /// What is known of every program, with memory for all lines that are read ahead and the table that they are
     /// planned in. `AllocError` if there is no memory for that; nothing is allocated later.
     pub fn none(alloc: A) -> Result<KnownLines<A>, AllocError>
         ensures ahead { IfOk result (λ k. k.ahead ≡ []) }
@@ -101,7 +101,7 @@ impl<A: Allocator + Copy + Drop> KnownLines<A> {
         self.forget_ahead();
     }
 
-    /// Whether no more lines can be planned: there is no room, or the next line can't be.
+    /// Whether no more lines can be planned: they are full, or the next line can't be.
     pub(crate) fn is_done(&self) -> bool {
         self.ended || self.ahead.is_full()
     }
@@ -145,7 +145,7 @@ impl<A: Allocator + Copy + Drop> KnownLines<A> {
         }
     }
 
-    /// Adds a line that was planned on the base, if there is room: then the next one is planned on what will be stored
+    /// Adds a line that was planned on the base, if it fits: then the next one is planned on what will be stored
     /// after it.
     pub(crate) fn push(&mut self, planned: Planned)
         requires { self.old.base.entries ≤ greatest_count }

@@ -26,7 +26,7 @@ fn after_load<A: Allocator + Copy + Drop>(
         state,
         place: 0,
         length,
-        room: stored.room,
+        program_limit: stored.program_limit,
         half: None,
         tools: stored.tools.copy(),
     })
@@ -38,15 +38,15 @@ impl<A: Allocator + Copy + Drop> Session<A> {
     ghost use Rattle.ng_session.specs.Session.{accepts_load, load, load_refusal, loaded};
 
     /// Why a program of these bytes can't be loaded now: K1 if the session isn't at rest or a block is half-done, J5 if
-    /// the device has no room for them.
+    /// the device takes fewer.
     pub fn load_refusal(&self, text: &[u8]) -> Option<Fault>
         ensures value { result ≡ load_refusal self.now text.now }
-        ensures none { IfNone result ((accepts_load self.now ≡ true) × (length text.now ≤ self.now.stored.room)) }
+        ensures none { IfNone result ((accepts_load self.now ≡ true) × (length text.now ≤ self.now.stored.program_limit)) }
     {
         if !self.accepts_load() {
             return Some(Fault::Busy);
         }
-        if text.len() as u64 > self.stored.room {
+        if text.len() as u64 > self.stored.program_limit {
             return Some(Fault::ProgramTooLong);
         }
         None
@@ -57,16 +57,16 @@ impl<A: Allocator + Copy + Drop> Session<A> {
     #[tactic(auto, using(crate::proofs::StorableStateLemmas::load_storable))]
     pub fn loading(&self, text: &[u8]) -> Result<Stored<A>, AllocError>
         ensures value { IfOk result (λ x. x ≡ after_load self.now.stored (length text.now)) }
-        ensures storable { IfOk result (λ x. length text.now ≤ self.now.stored.room → IsStorable x) }
+        ensures storable { IfOk result (λ x. length text.now ≤ self.now.stored.program_limit → IsStorable x) }
     {
         after_load(&self.stored, text.len() as u64)
     }
 
     /// Goes on with a program, once that is stored.
-    #[tactic(auto, using(crate::proofs::SessionInvariantLemmas::kept_free))]
+    #[tactic(auto, using(crate::proofs::SessionInvariantLemmas::holds_free))]
     pub fn load(&mut self, stored: Stored<A>) -> Reply
         requires free { accepts_load self.old ≡ true }
-        requires kept { IsSessionInvariant stored None }
+        requires valid { IsSessionInvariant stored None }
         ensures reply { result ≡ Reply.Done stored.entries }
         ensures next { self.new ≡ loaded self.old stored }
     {

@@ -4,7 +4,7 @@ ghost use Rattle.std.specs.Option.{option_map};
 ghost use Rattle.ng_words.specs.declared.start.LineKind.TheVariants.{Blank};
 ghost use Rattle.ng_layout.specs.Storable.{IsStorable};
 ghost use Rattle.ng_session.specs.Planned.{IsPlannedOn, base_after, base_at_end, ends_after, ends_at_end};
-ghost use Rattle.ng_session.specs.KeptBlock.{block_on};
+ghost use Rattle.ng_session.specs.BareBlock.{block_on};
 
 use crate::beginning::execute_after_lines;
 use crate::current_block::CurrentBlock;

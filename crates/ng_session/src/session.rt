@@ -31,7 +31,7 @@ pub struct Session<A: Allocator> {
 impl<A: Allocator> Model for Session<A> {
     ghost use Rattle.std.specs.Option.{option_map};
     ghost use Rattle.ng_session.specs.Session.{SessionModel};
-    ghost use Rattle.ng_session.specs.KeptBlock.{block_on};
+    ghost use Rattle.ng_session.specs.BareBlock.{block_on};
     ghost use Rattle.ng_session.specs.SessionInvariant.{IsSessionInvariant};
 
     ghost Value = { SessionModel };

@@ -59,7 +59,7 @@ impl<A: Allocator + Copy + Drop> Session<A> {
 
     /// Opens that approach or segment, after the half-done block is stored. The reply is Approaching, or Opened with
     /// the segment's number.
-    #[tactic(auto, using(crate::proofs::SessionInvariantLemmas::kept_open))]
+    #[tactic(auto, using(crate::proofs::SessionInvariantLemmas::holds_open))]
     pub fn open(&mut self, half: Half, geometry: &Geometry) -> Reply
         requires { IsStorableHalf half }
         ensures reply { result ≡ opening_reply half.index half.opened }

@@ -14,7 +14,7 @@ use Rattle.ng_step.specs.Arcs.{plane_steps_within, spots, IsAtMostInSize, IsNear
 use Rattle.ng_step.specs.Arcs.{IsLargeArc}
 use Rattle.ng_step.specs.declared.circle.Circle.{Circle}
 use Rattle.ng_canon.specs.declared.plane_point.PlanePoint.{PlanePoint}
-use Rattle.ng_step.specs.Turned.{point_of_quadrant, in_step, out_step, norm, Sound, Roomy, room, budget}
+use Rattle.ng_step.specs.Turned.{point_of_quadrant, in_step, out_step, norm, Sound, Bounded, distance_left, budget}
 use Rattle.ng_step.proofs.TurnLemmas.{Below, below_outward, below_inward, below_crossing, sound_outward, sound_inward, sound_crossing}
 use Rattle.ng_step.proofs.QuadrantStepLemmas.{quadrant-place, excess-place, moved_inward, moved_crossing, moved_outward}
 use Rattle.ng_step.proofs.QuadrantStepLemmas.{next_outside, next_inside, in_step_le, same_quadrant-self}
@@ -29,7 +29,7 @@ pub record Onward (c : Circle) (radius k : ℕ) (q : Quadrant) (i o : ℕ) : Typ
   pub sound : Sound c.square radius (larger c) k i' o'
   pub below : (w f0 : ℕ) → i ≤ w → o ≤ w → i' ≤ w → o' ≤ w
       → Below c.square (2 * (larger c * w) + f0) (larger c) i o → Below c.square (2 * (larger c * w) + f0) (larger c) i' o'
-  pub smaller : ((same_quadrant q q' ≡ true) × (room k i' o' < room k i o)) ⊎ (same_quadrant q q' ≡ false)
+  pub smaller : ((same_quadrant q q' ≡ true) × (distance_left k i' o' < distance_left k i o)) ⊎ (same_quadrant q q' ≡ false)
 
 pub in_step_some : (c : Circle) (q : Quadrant) → HasSteps c → 0 < in_step c q
 in_step_some c First h = h.a
@@ -37,14 +37,14 @@ in_step_some c Second h = h.b
 in_step_some c Third h = h.a
 in_step_some c Fourth h = h.b
 
-onward_outward : (c : Circle) (radius k : ℕ) (q : Quadrant) (i o : ℕ) → HasSteps c → Roomy c.square radius (larger c) k
+onward_outward : (c : Circle) (radius k : ℕ) (q : Quadrant) (i o : ℕ) → HasSteps c → Bounded c.square radius (larger c) k
     → Sound c.square radius (larger c) k i o → norm i o ≤ c.square → Onward c radius k q i o
-onward_outward c radius k q i o has roomy sound inside =
+onward_outward c radius k q i o has bounded sound inside =
     let some = in_step_some c (quadrant_after q) has in
     let small : out_step c q ≤ larger c = in_step_le c (quadrant_after q) in
     let after : Sound c.square radius (larger c) k i (o + out_step c q) = sound_outward c.square radius (larger c) k
-    i o (out_step c q) roomy inside small sound in
-    let less : room k i (o + out_step c q) < room k i o = omega (arith, after.outer) in
+    i o (out_step c q) bounded inside small sound in
+    let less : distance_left k i (o + out_step c q) < distance_left k i o = omega (arith, after.outer) in
     record {
       q' = q;
       i' = i;
@@ -55,14 +55,14 @@ onward_outward c radius k q i o has roomy sound inside =
       smaller = inl (same_quadrant-self q, less);
     }
 
-onward_inward : (c : Circle) (radius k : ℕ) (q : Quadrant) (i o j : ℕ) → i ≡ in_step c q + j → 0 < j → HasSteps c → Roomy c.square radius (larger c) k
+onward_inward : (c : Circle) (radius k : ℕ) (q : Quadrant) (i o j : ℕ) → i ≡ in_step c q + j → 0 < j → HasSteps c → Bounded c.square radius (larger c) k
     → Sound c.square radius (larger c) k i o → c.square < norm i o → Onward c radius k q i o
-onward_inward c radius k q i o j e some has roomy sound outside =
+onward_inward c radius k q i o j e some has bounded sound outside =
     let step = in_step_some c q has in
     let small : in_step c q ≤ larger c = in_step_le c q in
     let sound' : Sound c.square radius (larger c) k (in_step c q + j) o = rw (← e) sound in
     let outside' : c.square < norm (in_step c q + j) o = rw (← e) outside in
-    let less : room k j o < room k i o = omega arith in
+    let less : distance_left k j o < distance_left k i o = omega arith in
     record {
       q' = q;
       i' = j;
@@ -75,27 +75,27 @@ onward_inward c radius k q i o j e some has roomy sound outside =
       smaller = inl (same_quadrant-self q, less);
     }
 
-onward_crossing : (c : Circle) (radius k : ℕ) (q : Quadrant) (i o j : ℕ) → i + j ≡ in_step c q → HasSteps c → Roomy c.square radius (larger c) k
+onward_crossing : (c : Circle) (radius k : ℕ) (q : Quadrant) (i o j : ℕ) → i + j ≡ in_step c q → HasSteps c → Bounded c.square radius (larger c) k
     → Sound c.square radius (larger c) k i o → c.square < norm i o → Onward c radius k q i o
-onward_crossing c radius k q i o j e has roomy sound outside =
+onward_crossing c radius k q i o j e has bounded sound outside =
     let small : i + j ≤ larger c = rw e (in_step_le c q) in
     record {
       q' = quadrant_after q;
       i' = o;
       o' = j;
       is = next_outside c q i o sound.some outside ∙ moved_crossing c q i o j e;
-      sound = sound_crossing c.square radius (larger c) k i o j roomy outside small sound;
-      below = λ w f0 a b x y h. below_crossing c.square w (larger c) f0 i o j outside sound.some small a roomy.large h;
+      sound = sound_crossing c.square radius (larger c) k i o j bounded outside small sound;
+      below = λ w f0 a b x y h. below_crossing c.square w (larger c) f0 i o j outside sound.some small a bounded.large h;
       smaller = inr (same_quadrant-quadrant_after q);
     }
 
-pub onward : (c : Circle) (radius k : ℕ) (q : Quadrant) (i o : ℕ) → HasSteps c → Roomy c.square radius (larger c) k
+pub onward : (c : Circle) (radius k : ℕ) (q : Quadrant) (i o : ℕ) → HasSteps c → Bounded c.square radius (larger c) k
     → Sound c.square radius (larger c) k i o → Onward c radius k q i o
-onward c radius k q i o has roomy sound = elim (cases_lt c.square (norm i o)) [
-  | inr inside ↦ onward_outward c radius k q i o has roomy sound inside
+onward c radius k q i o has bounded sound = elim (cases_lt c.square (norm i o)) [
+  | inr inside ↦ onward_outward c radius k q i o has bounded sound inside
   | inl outside ↦ elim (cases_lt (in_step c q) i) [
-    | inr near ↦ onward_crossing c radius k q i o (in_step c q - i) (omega arith) has roomy sound outside
-    | inl far ↦ onward_inward c radius k q i o (i - in_step c q) (omega arith) (omega arith) has roomy sound outside
+    | inr near ↦ onward_crossing c radius k q i o (in_step c q - i) (omega arith) has bounded sound outside
+    | inl far ↦ onward_inward c radius k q i o (i - in_step c q) (omega arith) (omega arith) has bounded sound outside
   ]
 ]
 
@@ -106,7 +106,8 @@ unfolding stops
 left_some e zero p h = absurd (cc)
 left_some e (suc left) p h = omega arith
 
-pub budget_same : (k left i o i' o' : ℕ) (t : Bool) → t ≡ true → room k i' o' < room k i o → budget k (if t then left else left - 1) i' o' < budget k left i o
+pub budget_same : (k left i o i' o' : ℕ) (t : Bool) → t ≡ true → distance_left k i' o' < distance_left k i o
+    → budget k (if t then left else left - 1) i' o' < budget k left i o
 budget_same k left i o i' o' t e h = rw e (omega arith)
 
 pub budget_next : (k left i o i' o' : ℕ) (t : Bool) → t ≡ false → 0 < left → i' ≤ k → budget k (if t then left else left - 1) i' o' < budget k left i o
@@ -128,15 +129,15 @@ IsArc_step : (c : Circle) (e : PlanePoint) (left : ℕ) (p : PlanePoint) (t : Bo
 IsArc_step c e left p true ms is h = rw is refl
 IsArc_step c e left p false ms is h = (is, refl, h refl)
 
-pub arc_complete : (c : Circle) (e : PlanePoint) (radius k : ℕ) → HasSteps c → Roomy c.square radius (larger c) k → (fuel left : ℕ) (q : Quadrant) (i o : ℕ)
+pub arc_complete : (c : Circle) (e : PlanePoint) (radius k : ℕ) → HasSteps c → Bounded c.square radius (larger c) k → (fuel left : ℕ) (q : Quadrant) (i o : ℕ)
     → Sound c.square radius (larger c) k i o → budget k left i o ≤ fuel
     → IsArc c e left (point_of_quadrant q i o) (plane_steps_within fuel c e left (point_of_quadrant q i o))
-arc_complete c e radius k has roomy zero left q i o sound enough = absurd (omega (arith, sound.some))
-arc_complete c e radius k has roomy (suc fuel) left q i o sound enough =
-    let n = onward c radius k q i o has roomy sound in
+arc_complete c e radius k has bounded zero left q i o sound enough = absurd (omega (arith, sound.some))
+arc_complete c e radius k has bounded (suc fuel) left q i o sound enough =
+    let n = onward c radius k q i o has bounded sound in
     IsArc_step c e left (point_of_quadrant q i o) (stops e left (point_of_quadrant q i o)) _ refl (λ go.
     let falls = budget_falls c radius k left q i o sound (left_some e left (point_of_quadrant q i o) go) n in
-    rw n.is (arc_complete c e radius k has roomy fuel (left_after c left (point_of_quadrant q i o)) n.q' n.i' n.o' n.sound (omega arith)))
+    rw n.is (arc_complete c e radius k has bounded fuel (left_after c left (point_of_quadrant q i o)) n.q' n.i' n.o' n.sound (omega arith)))
 
 -- ---- a bound for the number of steps
 
@@ -197,15 +198,15 @@ next_is : (c : Circle) (p : PlanePoint) (m : PlaneStep) (x : PlanePoint) → m �
 unfolding next_spot
 next_is c p m x e h = rw e h
 
-pub near_circle : (c : Circle) (e : PlanePoint) (radius k : ℕ) → HasSteps c → Roomy c.square radius (larger c) k
+pub near_circle : (c : Circle) (e : PlanePoint) (radius k : ℕ) → HasSteps c → Bounded c.square radius (larger c) k
     → (w f0 left : ℕ) (q : Quadrant) (i o : ℕ) (ms : List PlaneStep)
     → Sound c.square radius (larger c) k i o → Below c.square (2 * (larger c * w) + f0) (larger c) i o
     → IsArc c e left (point_of_quadrant q i o) ms → All (IsAtMostInSize w) (spots c (point_of_quadrant q i o) ms)
     → All (NearBy c w f0) (spots c (point_of_quadrant q i o) ms)
-near_circle c e radius k has roomy w f0 left q i o [] sound below walk within =
+near_circle c e radius k has bounded w f0 left q i o [] sound below walk within =
     All-cons (NearBy c w f0) (point_of_quadrant q i o) [] (near_place c q i o w f0 below) (All-nil (NearBy c w f0))
-near_circle c e radius k has roomy w f0 left q i o (m ∷ ms) sound below walk within =
-    let n = onward c radius k q i o has roomy sound in
+near_circle c e radius k has bounded w f0 left q i o (m ∷ ms) sound below walk within =
+    let n = onward c radius k q i o has bounded sound in
     let to : moved c m (point_of_quadrant q i o) ≡ point_of_quadrant n.q' n.i' n.o' = next_is c (point_of_quadrant q i o) m _ walk.1 n.is in
     let here = sizes_place w q i o (All-head (IsAtMostInSize w) (point_of_quadrant q i o) _ within) in
     let rest : All (IsAtMostInSize w) (spots c (point_of_quadrant n.q' n.i' n.o') ms) =
@@ -213,15 +214,15 @@ near_circle c e radius k has roomy w f0 left q i o (m ∷ ms) sound below walk w
     (All-tail (IsAtMostInSize w) (point_of_quadrant q i o) _ within) in
     let there = sizes_place w n.q' n.i' n.o' (first_within w c (point_of_quadrant n.q' n.i' n.o') ms rest) in
     let walk' : IsArc c e (left_after c left (point_of_quadrant q i o)) (point_of_quadrant n.q' n.i' n.o') ms = rw n.is at walk.2 in
-    let others = near_circle c e radius k has roomy w f0 (left_after c left (point_of_quadrant q i o)) n.q' n.i'
+    let others = near_circle c e radius k has bounded w f0 (left_after c left (point_of_quadrant q i o)) n.q' n.i'
     n.o' ms n.sound (n.below w f0 here.0 here.1 there.0 there.1 below) walk' rest in
     All-cons (NearBy c w f0) (point_of_quadrant q i o) _ (near_place c q i o w f0 below)
     (subst (λ (x : PlanePoint). All (NearBy c w f0) (spots c x ms)) (sym to) others)
 
 -- ---- from any point except the centre
 
-roomy_of : (c : Circle) (radius k : ℕ) → IsLargeArc c radius → radius + larger c ≤ k → Roomy c.square radius (larger c) k
-roomy_of c radius k arc h = record { large = arc.large; within = arc.within; room = h }
+bounded_of : (c : Circle) (radius k : ℕ) → IsLargeArc c radius → radius + larger c ≤ k → Bounded c.square radius (larger c) k
+bounded_of c radius k arc h = record { large = arc.large; within = arc.within; fits = h }
 
 sizes_le : (q : Quadrant) (i o : ℕ) → i + o ≡ unsigned_abs (point_of_quadrant q i o).a + unsigned_abs (point_of_quadrant q i o).b
 sizes_le First i o = refl
@@ -238,7 +239,7 @@ is_arc_of c e radius left q i o arc some =
     let k = reach radius c (point_of_quadrant q i o) in
     let sizes = sizes_le q i o in
     let sound = sound_of c radius q i o some in
-    arc_complete c e radius k arc.has (roomy_of c radius k arc (omega arith))
+    arc_complete c e radius k arc.has (bounded_of c radius k arc (omega arith))
     (most_steps radius c left (point_of_quadrant q i o)) left q i o sound (omega (arith, sound.inner))
 
 -- the steps are an arc's
@@ -269,7 +270,7 @@ is_near_circle c e radius left p ms arc some walk =
     let is : p ≡ point_of_quadrant at.q at.i at.o = at.is in
     let k = reach radius c (point_of_quadrant at.q at.i at.o) in
     subst (λ (x : PlanePoint). IsNearCircle c x ms) (sym is) (λ w within.
-    near_circle c e radius k arc.has (roomy_of c radius k arc (omega arith)) w
+    near_circle c e radius k arc.has (bounded_of c radius k arc (omega arith)) w
     (unsigned_abs (excess c (point_of_quadrant at.q at.i at.o))) left at.q at.i at.o ms
     (sound_of c radius at.q at.i at.o at.some) (below_first c w at.q at.i at.o) (rw is at walk) within)
 

@@ -60,8 +60,8 @@ starts_lying p q n m some is h e f =
     (f ∙ ap (λ (x : PlanePoint). unsigned_abs x.b) here) in
     record { some = rw sizes.0 at.some; is = rw (same, sizes.0, sizes.1) (sym here) }
 
-pub size_kept : (z : ℤ) (n : ℕ) → unsigned_abs z ≤ 2 ^ 48 → n ≡ unsigned_abs (to_z w64 (of_z w64 z)) → n ≡ unsigned_abs z
-size_kept z n h e = omega (arith, ints)
+pub size_same : (z : ℤ) (n : ℕ) → unsigned_abs z ≤ 2 ^ 48 → n ≡ unsigned_abs (to_z w64 (of_z w64 z)) → n ≡ unsigned_abs z
+size_same z n h e = omega (arith, ints)
 
 pub placed_pulse : (frame : Frame) (m m' : PlaneStep) (p : AxisSteps) → p ≡ pulse_with frame m Still → m ≡ m' → p ≡ pulse_with frame m' Still
 placed_pulse frame m m' p e f = e ∙ ap (λ x. pulse_with frame x Still) f

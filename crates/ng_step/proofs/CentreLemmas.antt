@@ -53,26 +53,26 @@ of_third_small Xz d m h = h.y
 of_third_small Yz d m h = h.x
 
 -- the closing line from the distances of the code
-pub of_a_kept : (plane : Plane) (d : Distances) (r : ℤ) → AreSized d (2 ^ 50)
+pub of_a_same : (plane : Plane) (d : Distances) (r : ℤ) → AreSized d (2 ^ 50)
     → r ≡ pick_a plane (to_z w64 (of_z w64 d.x)) (to_z w64 (of_z w64 d.y)) (to_z w64 (of_z w64 d.z))
     → r ≡ pick_a plane d.x d.y d.z
-of_a_kept Xy d r h e = e ∙ stored d.x (omega (arith, h.x))
-of_a_kept Xz d r h e = e ∙ stored d.z (omega (arith, h.z))
-of_a_kept Yz d r h e = e ∙ stored d.y (omega (arith, h.y))
+of_a_same Xy d r h e = e ∙ stored d.x (omega (arith, h.x))
+of_a_same Xz d r h e = e ∙ stored d.z (omega (arith, h.z))
+of_a_same Yz d r h e = e ∙ stored d.y (omega (arith, h.y))
 
-pub of_b_kept : (plane : Plane) (d : Distances) (r : ℤ) → AreSized d (2 ^ 50)
+pub of_b_same : (plane : Plane) (d : Distances) (r : ℤ) → AreSized d (2 ^ 50)
     → r ≡ pick_b plane (to_z w64 (of_z w64 d.x)) (to_z w64 (of_z w64 d.y)) (to_z w64 (of_z w64 d.z))
     → r ≡ pick_b plane d.x d.y d.z
-of_b_kept Xy d r h e = e ∙ stored d.y (omega (arith, h.y))
-of_b_kept Xz d r h e = e ∙ stored d.x (omega (arith, h.x))
-of_b_kept Yz d r h e = e ∙ stored d.z (omega (arith, h.z))
+of_b_same Xy d r h e = e ∙ stored d.y (omega (arith, h.y))
+of_b_same Xz d r h e = e ∙ stored d.x (omega (arith, h.x))
+of_b_same Yz d r h e = e ∙ stored d.z (omega (arith, h.z))
 
-pub of_third_kept : (plane : Plane) (d : Distances) (r : ℤ) → AreSized d (2 ^ 50)
+pub of_third_same : (plane : Plane) (d : Distances) (r : ℤ) → AreSized d (2 ^ 50)
     → r ≡ of_third plane (to_z w64 (of_z w64 d.x)) (to_z w64 (of_z w64 d.y)) (to_z w64 (of_z w64 d.z))
     → r ≡ of_third plane d.x d.y d.z
-of_third_kept Xy d r h e = e ∙ stored d.z (omega (arith, h.z))
-of_third_kept Xz d r h e = e ∙ stored d.y (omega (arith, h.y))
-of_third_kept Yz d r h e = e ∙ stored d.x (omega (arith, h.x))
+of_third_same Xy d r h e = e ∙ stored d.z (omega (arith, h.z))
+of_third_same Xz d r h e = e ∙ stored d.y (omega (arith, h.y))
+of_third_same Yz d r h e = e ∙ stored d.x (omega (arith, h.x))
 
 abbrev pub placed : Plane → ℤ → ℤ → Distances
 placed q a b = record { x = at_x q a b (pos 0); y = at_y q a b (pos 0); z = at_z q a b (pos 0) }

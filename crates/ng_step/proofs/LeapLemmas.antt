@@ -13,7 +13,7 @@ use Rattle.ng_step.specs.declared.sweep.SweepSteps.{SweepSteps}
 use Rattle.ng_step.specs.declared.walk.ArcWalk.{ArcWalk}
 use Rattle.ng_canon.specs.Quadrant.{quadrant_after}
 use Rattle.ng_step.specs.Arcs.{next_spot, left_after, larger, stops, IsArc, HasSteps}
-use Rattle.ng_step.specs.Turned.{Walks, point_of_quadrant, in_step, out_step, norm, Sound, Roomy, farthest, beyond, budget}
+use Rattle.ng_step.specs.Turned.{Walks, point_of_quadrant, in_step, out_step, norm, Sound, Bounded, farthest, beyond, budget}
 use Rattle.ng_step.specs.Private.Sweeps.{inner_at, outer_at, OnWay, IsLast}
 use Rattle.ng_step.specs.Private.Leaps.{reach_a, reach_b, Leads, WalkLeads, PassesFrom, NeverStopsUntil}
 use Rattle.ng_step.proofs.TurnLemmas.{sound_outward, sound_inward, sound_crossing}
@@ -55,7 +55,7 @@ above : {j n m : ℕ} → (j ≡ 0) ⊎ (n < m) → 0 < j → n < m
 above (inl none) some = absurd (omega arith)
 above (inr over) some = over
 
-module _ (c : Circle) (e : PlanePoint) (has : HasSteps c) (roomy : Roomy c.square farthest (larger c) beyond) where
+module _ (c : Circle) (e : PlanePoint) (has : HasSteps c) (bounded : Bounded c.square farthest (larger c) beyond) where
   -- no step
   pub leads_none : (q : Quadrant) (i o left : ℕ) → Sound c.square farthest (larger c) beyond i o → Leads c e q i o left q i o left 0
   leads_none q i o left sound = record { sound = sound; rest = λ ms arc. (omega arith, arc); net = λ ms arc. (refl, refl); bound = omega arith }
@@ -111,7 +111,7 @@ module _ (c : Circle) (e : PlanePoint) (has : HasSteps c) (roomy : Roomy c.squar
   outward_leads q i o left go inside sound =
       let step = in_step_some c (quadrant_after q) has in
       let next = next_inside c q i o sound.some inside ∙ moved_outward c q i o in
-      let sound' = sound_outward c.square farthest (larger c) beyond i o (out_step c q) roomy inside (in_step_le c (quadrant_after q)) sound in
+      let sound' = sound_outward c.square farthest (larger c) beyond i o (out_step c q) bounded inside (in_step_le c (quadrant_after q)) sound in
       let outer = sound'.outer in
       leads_one q i o left q i (o + out_step c q) left go next (left_same c left q i o i (o + out_step c q) sound.some sound.some next) sound' (omega arith)
 
@@ -132,7 +132,7 @@ module _ (c : Circle) (e : PlanePoint) (has : HasSteps c) (roomy : Roomy c.squar
   crossing_leads q i o j left is some go outside sound =
       let small : i + j ≤ larger c = rw is (in_step_le c q) in
       let next = next_outside c q i o sound.some outside ∙ moved_crossing c q i o j is in
-      let sound' = sound_crossing c.square farthest (larger c) beyond i o j roomy outside small sound in
+      let sound' = sound_crossing c.square farthest (larger c) beyond i o j bounded outside small sound in
       leads_one q i o left (quadrant_after q) o j (left - 1) go next
       (left_next c left q i o o j sound.some sound'.some next) sound'
       (budget_crossing left i o o j some sound.outer)
@@ -142,7 +142,7 @@ module _ (c : Circle) (e : PlanePoint) (has : HasSteps c) (roomy : Roomy c.squar
       → ((j ≡ 0) ⊎ (c.square < norm (x + in_step c q) y)) → ((k : ℕ) → k < m → norm x (o + k * out_step c q) ≤ c.square)
       → ((i' o' : ℕ) → x ≤ i' → i' ≤ i → o ≤ o' → o' ≤ y → stops e left (point_of_quadrant q i' o') ≡ false)
       → Sound c.square farthest (larger c) beyond i o → Leads c e q i o left q x y left t
-  run zero j m q left i o x y et ei ey some entered kept going sound =
+  run zero j m q left i o x y et ei ey some entered stayed going sound =
       let j_none : j ≡ 0 = omega arith in
       let m_none : m ≡ 0 = omega arith in
       let down : j * in_step c q ≡ 0 = rw j_none (omega arith) in
@@ -150,14 +150,14 @@ module _ (c : Circle) (e : PlanePoint) (has : HasSteps c) (roomy : Roomy c.squar
       let ex : x ≡ i = omega arith in
       let ey' : y ≡ o = omega arith in
       rw (ex, ey') (leads_none q i o left sound)
-  run (suc t) j m q left i o x y et ei ey some entered kept going sound = elim (cases_lt c.square (norm i o)) [
+  run (suc t) j m q left i o x y et ei ey some entered stayed going sound = elim (cases_lt c.square (norm i o)) [
     | inl outside ↦ elim (cases_lt 0 j) [
       | inl more ↦ (
           let split = less_one j (in_step c q) more in
           let first = inward_leads q i o (x + (j - 1) * in_step c q) left (omega arith) (omega arith)
           (going i o (omega arith) (omega arith) (omega arith) (omega arith)) outside sound in
           let entered' : (j - 1 ≡ 0) ⊎ (c.square < norm (x + in_step c q) y) = inr (above entered more) in
-          let others = run t (j - 1) m q left (x + (j - 1) * in_step c q) o x y (omega arith) refl ey some entered' kept
+          let others = run t (j - 1) m q left (x + (j - 1) * in_step c q) o x y (omega arith) refl ey some entered' stayed
           (λ i' o' low high near far. going i' o' low (omega arith) near far) first.sound in
           let one_more : suc t ≡ 1 + t = omega arith in
           rw one_more (leads_then q i o left q (x + (j - 1) * in_step c q) o left 1 q x y left t first others))
@@ -166,16 +166,16 @@ module _ (c : Circle) (e : PlanePoint) (has : HasSteps c) (roomy : Roomy c.squar
           let down : j * in_step c q ≡ 0 = rw j_none (omega arith) in
           let ex : x ≡ i = omega arith in
           let square : x * x ≡ i * i = ap (λ v. v * v) ex in
-          let within = kept 0 (omega arith) in
+          let within = stayed 0 (omega arith) in
           absurd (omega arith))
     ]
     | inr inside ↦ elim (cases_lt 0 m) [
       | inl more ↦ (
           let split = less_one m (out_step c q) more in
           let first = outward_leads q i o left (going i o (omega arith) (omega arith) (omega arith) (omega arith)) inside sound in
-          let kept' : (k : ℕ) → k < m - 1 → norm x (o + out_step c q + k * out_step c q) ≤ c.square =
-          λ k few. (let shift : o + out_step c q + k * out_step c q ≡ o + (k + 1) * out_step c q = omega arith in rw shift (kept (k + 1) (omega arith))) in
-          let others = run t j (m - 1) q left i (o + out_step c q) x y (omega arith) ei (omega arith) some entered kept'
+          let stayed' : (k : ℕ) → k < m - 1 → norm x (o + out_step c q + k * out_step c q) ≤ c.square =
+          λ k few. (let shift : o + out_step c q + k * out_step c q ≡ o + (k + 1) * out_step c q = omega arith in rw shift (stayed (k + 1) (omega arith))) in
+          let others = run t j (m - 1) q left i (o + out_step c q) x y (omega arith) ei (omega arith) some entered stayed'
           (λ i' o' low high near far. going i' o' low high (omega arith) far) first.sound in
           let one_more : suc t ≡ 1 + t = omega arith in
           rw one_more (leads_then q i o left q i (o + out_step c q) left 1 q x y left t first others))
@@ -199,9 +199,9 @@ module _ (c : Circle) (e : PlanePoint) (has : HasSteps c) (roomy : Roomy c.squar
       let inside = on.inside in
       let down : j * p.inner_step ≡ j * in_step c q = ap (λ s. j * s) eis in
       let out : m * p.outer_step ≡ m * out_step c q = ap (λ s. m * s) eos in
-      let kept' : (k : ℕ) → k < m → norm (inner_at p j) (o + k * out_step c q) ≤ c.square =
-      λ k few. rw (← es, ← eo, ← eos) (on.kept k few) in
-      run (j + m) j m q left i o (inner_at p j) (outer_at p m) refl (omega arith) (omega arith) (omega arith) (entered on.entered) kept' going sound
+      let stayed' : (k : ℕ) → k < m → norm (inner_at p j) (o + k * out_step c q) ≤ c.square =
+      λ k few. rw (← es, ← eo, ← eos) (on.stayed k few) in
+      run (j + m) j m q left i o (inner_at p j) (outer_at p m) refl (omega arith) (omega arith) (omega arith) (entered on.entered) stayed' going sound
     where
       entered : (j ≡ 0) ⊎ (p.square < norm (inner_at p (j - 1)) (outer_at p m)) → (j ≡ 0) ⊎ (c.square < norm (inner_at p j + in_step c q) (outer_at p m))
       entered h = elim (cases_lt 0 j) [
@@ -226,8 +226,8 @@ pub last_some : (w : ArcWalk) (p : QuadrantSweep) (last : SweepSteps) → Walks 
 last_some w p last h from is =
     let inner_le : w.inner_step ≤ larger w.circle = rw h.inner_step (in_step_le w.circle w.quadrant) in
     let near : inner_at p last.inward ≤ larger w.circle = (let axis = near_axis p last is in let same = from.inner_step in omega arith) in
-    let roomy = h.roomy in
-    let large : 4 * (larger w.circle * larger w.circle) ≤ p.square = rw from.square roomy.large in
+    let bounded = h.bounded in
+    let large : 4 * (larger w.circle * larger w.circle) ≤ p.square = rw from.square bounded.large in
     rw (← from.outer, ← from.outer_step) (far_out (inner_at p last.inward) (outer_at p last.outward) (larger w.circle) p.square is.outside near large)
 
 pub walk_across : (w w' : ArcWalk) (p : QuadrantSweep) (last : SweepSteps) → Walks w → PassesFrom w p → IsLast p last → w'.quadrant ≡ quadrant_after w.quadrant
@@ -241,16 +241,16 @@ walk_across w w' p last h from is eq ei eo e left some going =
     let inside = on.inside in
     let axis = near_axis p last is in
     let step : p.inner_step ≡ in_step w.circle w.quadrant = from.inner_step ∙ h.inner_step in
-    let first = way_leads w.circle e h.has h.roomy w.quadrant left w.inner w.outer p last.inward last.outward
+    let first = way_leads w.circle e h.has h.bounded w.quadrant left w.inner w.outer p last.inward last.outward
     from.square from.inner from.outer step (from.outer_step ∙ h.outer_step) on going h.sound in
     let here : stops e left (point_of_quadrant w.quadrant x y) ≡ false =
     (let low : x ≤ w.inner = (let same = from.inner in omega arith) in let far : w.outer ≤ y =
     (let same = from.outer in omega arith) in going x y (omega arith) low far (omega arith)) in
     let outside : w.circle.square < norm x y = rw (← from.square) is.outside in
-    let then = crossing_leads w.circle e h.has h.roomy w.quadrant x y (p.inner_step - x) left
+    let then = crossing_leads w.circle e h.has h.bounded w.quadrant x y (p.inner_step - x) left
     (let sum : x + (p.inner_step - x) ≡ p.inner_step = omega arith in sum ∙ step) some here outside
     first.sound in
-    let all = leads_then w.circle e h.has h.roomy w.quadrant w.inner w.outer left w.quadrant x y left
+    let all = leads_then w.circle e h.has h.bounded w.quadrant w.inner w.outer left w.quadrant x y left
     (last.inward + last.outward) (quadrant_after w.quadrant) y (p.inner_step - x) (left - 1) 1 first then in
     let ey : w'.inner ≡ y = rw (from.outer, from.outer_step) ei in
     let ex : w'.outer ≡ p.inner_step - x = rw (from.inner_step, from.inner) eo in

@@ -252,8 +252,8 @@ line_start total d x y z e a b c d' f g = rw (← e) (starts total d x y z total
 pub axis_first : (n : ℕ) (a : Spread) → IsSpread n 0 a → IsSpread n (n - n) a
 axis_first n a h = let e : n - n ≡ 0 = omega arith in rw e h
 
-pub count_kept : (z : ℤ) (n : ℕ) → unsigned_abs z < 2 ^ 61 → n ≡ unsigned_abs (to_z w64 (of_z w64 z)) → n ≡ unsigned_abs z
-count_kept z n h e = omega (arith, ints)
+pub count_same : (z : ℤ) (n : ℕ) → unsigned_abs z < 2 ^ 61 → n ≡ unsigned_abs (to_z w64 (of_z w64 z)) → n ≡ unsigned_abs z
+count_same z n h e = omega (arith, ints)
 
-pub forward_kept : (z : ℤ) (b : Bool) → unsigned_abs z < 2 ^ 61 → b ≡ int_le (pos 0) (to_z w64 (of_z w64 z)) → b ≡ int_le (pos 0) z
-forward_kept z b h e = let fits : SFits w64 z = search (rules, ints) in simp to_z-of_z at e
+pub forward_same : (z : ℤ) (b : Bool) → unsigned_abs z < 2 ^ 61 → b ≡ int_le (pos 0) (to_z w64 (of_z w64 z)) → b ≡ int_le (pos 0) z
+forward_same z b h e = let fits : SFits w64 z = search (rules, ints) in simp to_z-of_z at e

@@ -39,9 +39,9 @@ rounded_near (pos n) s some = let e = nearest_is n s some in omega (arith, ints)
 rounded_near (negsuc n) s some = let e = nearest_is (suc n) s some in simp neg_scaled (omega (arith, ints))
 
 -- a product of machine integers is the product
-pub product_kept : (q p z : ℤ) (s : ℕ) → q ≡ in_steps z s → unsigned_abs q < 2 ^ 45 → 0 < s → s ≤ 1_000_000 → unsigned_abs z ≤ greatest
+pub product_same : (q p z : ℤ) (s : ℕ) → q ≡ in_steps z s → unsigned_abs q < 2 ^ 45 → 0 < s → s ≤ 1_000_000 → unsigned_abs z ≤ greatest
     → p ≡ to_z w64 (of_z w64 q) *ℤ to_z w64 s → (p ≡ in_steps z s *ℤ pos s) × (unsigned_abs p < 2 ^ 44) × (2 * unsigned_abs (p -ℤ z) ≤ s)
-product_kept q p z s is small some most range e =
+product_same q p z s is small some most range e =
     let fits_q : SFits w64 q = search (rules, ints) in
     let step : to_z w64 s ≡ pos s = omega (arith, ints) in
     let same : p ≡ in_steps z s *ℤ pos s = (simp (to_z-of_z, step) at e) ∙ ap (λ x. x *ℤ pos s) is in

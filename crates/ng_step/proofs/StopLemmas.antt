@@ -17,7 +17,7 @@ use Rattle.ng_step.specs.declared.sweep.SweepSteps.{SweepSteps}
 use Rattle.ng_step.specs.declared.walk.ArcWalk.{ArcWalk}
 use Rattle.ng_canon.specs.Plane.{cross}
 use Rattle.ng_step.specs.Arcs.{larger, stops, IsArc, HasSteps, net_a, net_b}
-use Rattle.ng_step.specs.Turned.{spot_of, Walks, point_of_quadrant, turned, in_step, out_step, Roomy, farthest, beyond, budget}
+use Rattle.ng_step.specs.Turned.{spot_of, Walks, point_of_quadrant, turned, in_step, out_step, Bounded, farthest, beyond, budget}
 use Rattle.ng_step.specs.Private.Sweeps.{inner_at, outer_at, ComesInward, ComesOutward}
 use Rattle.ng_step.specs.Private.Leaps.{reach_a, reach_b, Leads, WalkLeads, EndsArc, PassesFrom, NeverStopsUntil, IsAhead, StopsAt}
 use Rattle.ng_step.proofs.WalkLemmas.{cross-place}
@@ -195,32 +195,32 @@ walk_stops w p way e h from s = comes s.first.comes
     comes (inl down) =
         let x = inner_at p (way.inward - 1) in
         let y = outer_at p way.outward in
-        let first = way_leads w.circle e h.has h.roomy w.quadrant 1 w.inner w.outer p (way.inward - 1) way.outward
+        let first = way_leads w.circle e h.has h.bounded w.quadrant 1 w.inner w.outer p (way.inward - 1) way.outward
         from.square from.inner from.outer step out down.on
         (goes_on_up_to e w s.ahead x y s.is_ahead down.before) h.sound in
         let some = down.some in
         let split = less_one way.inward p.inner_step some in
         let inside = s.first.inside in
         let is : x ≡ in_step w.circle w.quadrant + inner_at p way.inward = omega arith in
-        let then = inward_leads w.circle e h.has h.roomy w.quadrant x y (inner_at p way.inward) 1 is (omega arith)
+        let then = inward_leads w.circle e h.has h.bounded w.quadrant x y (inner_at p way.inward) 1 is (omega arith)
         (goes_on_to w.quadrant e s.ahead x y s.is_ahead down.before) (rw (← from.square) down.outside)
         first.sound in
-        let all = leads_then w.circle e h.has h.roomy w.quadrant w.inner w.outer 1 w.quadrant x y 1
+        let all = leads_then w.circle e h.has h.bounded w.quadrant w.inner w.outer 1 w.quadrant x y 1
         (way.inward - 1 + way.outward) w.quadrant (inner_at p way.inward) y 1 1 first then in
         let count : way.inward - 1 + way.outward + 1 ≡ way.inward + way.outward = omega arith in
         rw count at all
     comes (inr outward) =
         let x = inner_at p way.inward in
         let y = outer_at p (way.outward - 1) in
-        let first = way_leads w.circle e h.has h.roomy w.quadrant 1 w.inner w.outer p way.inward (way.outward - 1)
+        let first = way_leads w.circle e h.has h.bounded w.quadrant 1 w.inner w.outer p way.inward (way.outward - 1)
         from.square from.inner from.outer step out outward.on
         (goes_on_up_to e w s.ahead x y s.is_ahead outward.before) h.sound in
         let some = outward.some in
         let split = less_one way.outward p.outer_step some in
-        let then = outward_leads w.circle e h.has h.roomy w.quadrant x y 1
+        let then = outward_leads w.circle e h.has h.bounded w.quadrant x y 1
         (goes_on_to w.quadrant e s.ahead x y s.is_ahead outward.before) (rw (← from.square) outward.within)
         first.sound in
-        let all = leads_then w.circle e h.has h.roomy w.quadrant w.inner w.outer 1 w.quadrant x y 1
+        let all = leads_then w.circle e h.has h.bounded w.quadrant w.inner w.outer 1 w.quadrant x y 1
         (way.inward + (way.outward - 1)) w.quadrant x (y + out_step w.circle w.quadrant) 1 1 first then in
         let count : way.inward + (way.outward - 1) + 1 ≡ way.inward + way.outward = omega arith in
         let to : y + out_step w.circle w.quadrant ≡ outer_at p way.outward = omega arith in
@@ -233,7 +233,7 @@ pub record Reached (e : PlanePoint) (first : ArcWalk) (quadrants : ℕ) (w : Arc
   pub leads : WalkLeads e first quadrants w left n
 
 pub reached_none : (e : PlanePoint) (w : ArcWalk) (quadrants : ℕ) → Walks w → Reached e w quadrants w quadrants 0
-reached_none e w quadrants h = record { walks = h; circle = refl; leads = leads_none w.circle e h.has h.roomy w.quadrant w.inner w.outer quadrants h.sound }
+reached_none e w quadrants h = record { walks = h; circle = refl; leads = leads_none w.circle e h.has h.bounded w.quadrant w.inner w.outer quadrants h.sound }
 
 pub reached_more : (e : PlanePoint) (first : ArcWalk) (quadrants : ℕ) (w w' : ArcWalk) (left left' n m : ℕ)
     → Reached e first quadrants w left n → Walks w' → w'.circle ≡ w.circle → WalkLeads e w left w' left' m
@@ -241,11 +241,11 @@ pub reached_more : (e : PlanePoint) (first : ArcWalk) (quadrants : ℕ) (w w' : 
 reached_more e first quadrants w w' left left' n m h walks circle leads =
     let all = h.walks in
     let has : HasSteps first.circle = rw (← h.circle) all.has in
-    let roomy : Roomy first.circle.square farthest (larger first.circle) beyond = rw (← h.circle) all.roomy in
+    let bounded : Bounded first.circle.square farthest (larger first.circle) beyond = rw (← h.circle) all.bounded in
     record {
       walks = walks;
       circle = circle ∙ h.circle;
-      leads = leads_then first.circle e has roomy first.quadrant first.inner first.outer quadrants w.quadrant
+      leads = leads_then first.circle e has bounded first.quadrant first.inner first.outer quadrants w.quadrant
           w.inner w.outer left n w'.quadrant w'.inner w'.outer left' m h.leads (rw (← h.circle) leads);
     }
 
@@ -307,7 +307,7 @@ across_ends w w' e left n one leads =
 pub stands_ends : (w : ArcWalk) (e : PlanePoint) (left : ℕ) → Walks w → stops e left (spot_of w) ≡ true
     → EndsArc w.circle e w.quadrant w.inner w.outer left (spot_of w) 0
 stands_ends w e left h stop = ends_here w.circle e w.quadrant w.inner w.outer left w.quadrant w.inner w.outer left 0
-    (leads_none w.circle e h.has h.roomy w.quadrant w.inner w.outer left h.sound) stop
+    (leads_none w.circle e h.has h.bounded w.quadrant w.inner w.outer left h.sound) stop
 
 -- a bound for the number of an arc's steps
 pub few_steps : (w : ArcWalk) (quadrants : ℕ) → Walks w → quadrants ≤ 6 → budget beyond quadrants w.inner w.outer < 2 ^ 52

@@ -79,7 +79,7 @@ on_way-leaving p j m inside h = record {
   inside = inside;
   entered = inr (let more = norm_le (inner_at p j) (outer_at p m) (inner_at p (j - 1)) (outer_at p m)
       (level_above p (j - 1) j (omega arith)) (omega arith) in let outside = h.outside in omega arith);
-  kept = h.least;
+  stayed = h.least;
 }
 
 pub last_is : (p : QuadrantSweep) (way : SweepSteps) → way.inward ≡ (p.inner - 1) / p.inner_step
@@ -136,7 +136,7 @@ comes p e j m (suc more) h enters leaves past before =
       on = rw one (record {
         inside = h.inside;
         entered = enters_entered p e j m (m + more) (omega arith) h;
-        kept = λ k few. leaving.least k (omega arith);
+        stayed = λ k few. leaving.least k (omega arith);
       });
       within = rw one (leaving.least (m + more) less);
       before = rw one open_at;
@@ -237,35 +237,35 @@ pub halves_inside : (p : QuadrantSweep) (e : QuadrantEnd) (last first levels lev
 halves_inside p e last first levels level inside h less = let product = scaled_le level last p.inner_step (omega (arith, h.within)) in omega arith
 
 -- at most the root and one step away
-pub root_room : (square i o s r q : ℕ) → 0 < s → s ≤ 2 ^ 47 → square ≤ 2 ^ 94 → norm i o ≤ square
+pub root_fits : (square i o s r q : ℕ) → 0 < s → s ≤ 2 ^ 47 → square ≤ 2 ^ 94 → norm i o ≤ square
     → r * r ≤ square - i * i → square - i * i < (r + 1) * (r + 1) → q ≡ (r - o) / s → o + (q + 1) * s ≤ 2 ^ 48
-root_room square i o s r q some small few inside low high is =
+root_fits square i o s r q some small few inside low high is =
     let parts = quotient (r - o) s q some is in
     let above : o ≤ r = root_ge o r (omega arith) in
     let root : r ≤ 2 ^ 47 = root_small r (omega arith) in
     omega arith
 
 -- a point inside the circle, and one more step
-within_room : (p : QuadrantSweep) (i m : ℕ) → norm i (outer_at p m) ≤ p.square → outer_at p (m + 1) ≤ 2 ^ 48
-within_room p i m h =
+within_fits : (p : QuadrantSweep) (i m : ℕ) → norm i (outer_at p m) ≤ p.square → outer_at p (m + 1) ≤ 2 ^ 48
+within_fits p i m h =
     let few = p.square_in_range in
     let step = p.outer_step_in_range.1 in
     let root : outer_at p m ≤ 2 ^ 47 = root_small (outer_at p m) (omega arith) in
     omega arith
 
-on_way_room : (p : QuadrantSweep) (j m : ℕ) → OnWay p j m → outer_at p m ≤ 2 ^ 48
-on_way_room p j zero h = let small = p.outer_in_range in omega arith
-on_way_room p j (suc m) h = let e : m + 1 ≡ suc m = omega arith in rw (← e) (within_room p (inner_at p j) m (h.kept m (omega arith)))
+on_way_fits : (p : QuadrantSweep) (j m : ℕ) → OnWay p j m → outer_at p m ≤ 2 ^ 48
+on_way_fits p j zero h = let small = p.outer_in_range in omega arith
+on_way_fits p j (suc m) h = let e : m + 1 ≡ suc m = omega arith in rw (← e) (within_fits p (inner_at p j) m (h.stayed m (omega arith)))
 
-pub comes_room : (p : QuadrantSweep) (e : QuadrantEnd) (way : SweepSteps) → IsFirstPast p e way → outer_at p way.outward ≤ 2 ^ 48
-comes_room p e way h = either h.comes
+pub comes_fits : (p : QuadrantSweep) (e : QuadrantEnd) (way : SweepSteps) → IsFirstPast p e way → outer_at p way.outward ≤ 2 ^ 48
+comes_fits p e way h = either h.comes
   where
     either : ComesInward p e way.inward way.outward ⊎ ComesOutward p e way.inward way.outward → outer_at p way.outward ≤ 2 ^ 48
-    either (inl down) = on_way_room p (way.inward - 1) way.outward down.on
+    either (inl down) = on_way_fits p (way.inward - 1) way.outward down.on
     either (inr out) =
         let some = out.some in
         let one : way.outward - 1 + 1 ≡ way.outward = omega arith in
-        rw one at (within_room p (inner_at p way.inward) (way.outward - 1) out.within)
+        rw one at (within_fits p (inner_at p way.inward) (way.outward - 1) out.within)
 
-pub room_few : (p : QuadrantSweep) (m : ℕ) → outer_at p m ≤ 2 ^ 48 → m ≤ 2 ^ 48
-room_few p m h = let product = mul-le m 1 m p.outer_step (omega arith) p.outer_step_in_range.0 in omega arith
+pub fits_few : (p : QuadrantSweep) (m : ℕ) → outer_at p m ≤ 2 ^ 48 → m ≤ 2 ^ 48
+fits_few p m h = let product = mul-le m 1 m p.outer_step (omega arith) p.outer_step_in_range.0 in omega arith

@@ -43,12 +43,12 @@ pub small : (w : ArcWalk) → Walks w → Small w
 small w h =
     let inner_le : w.inner_step ≤ larger w.circle = rw h.inner_step (in_step_le w.circle w.quadrant) in
     let outer_le : w.outer_step ≤ larger w.circle = rw h.outer_step (in_step_le w.circle (quadrant_after w.quadrant)) in
-    let step : larger w.circle ≤ 2 ^ 47 = omega (arith, h.roomy.room) in
+    let step : larger w.circle ≤ 2 ^ 47 = omega (arith, h.bounded.fits) in
     let inner = h.sound.inner in
     let outer = h.sound.outer in
     let ii = product_small w.inner w.inner inner inner in
     let oo = product_small w.outer w.outer outer outer in
-    let square : w.circle.square ≤ 2 ^ 96 = omega (arith, h.roomy.within) in
+    let square : w.circle.square ≤ 2 ^ 96 = omega (arith, h.bounded.within) in
     let si = product_small w.inner_step w.inner_step (omega arith) (omega arith) in
     let so = product_small w.outer_step w.outer_step (omega arith) (omega arith) in
     let isi = product_small w.inner w.inner_step inner (omega arith) in
@@ -110,8 +110,8 @@ outward_is w h excess_low =
     record {
       walks = record {
         has = h.has;
-        roomy = h.roomy;
-        sound = sound_outward _ _ _ _ w.inner w.outer w.outer_step h.roomy inside outer_le h.sound;
+        bounded = h.bounded;
+        sound = sound_outward _ _ _ _ w.inner w.outer w.outer_step h.bounded inside outer_le h.sound;
         inward_made = h.inward_made;
         outward_made = h.outward_made;
         inner_step = h.inner_step;
@@ -140,7 +140,7 @@ inward_is w h excess_high far =
     record {
       walks = record {
         has = h.has;
-        roomy = h.roomy;
+        bounded = h.bounded;
         sound = sound_inward _ _ _ _ j w.outer w.inner_step (omega arith)
             (subst (λ x. Sound w.circle.square farthest (larger w.circle) beyond x w.outer) split h.sound);
         inward_made = h.inward_made;
@@ -183,8 +183,8 @@ crossing_is w h excess_high near =
     record {
       walks = record {
         has = h.has;
-        roomy = h.roomy;
-        sound = sound_crossing _ _ _ _ w.inner w.outer j h.roomy outside (omega arith) h.sound;
+        bounded = h.bounded;
+        sound = sound_crossing _ _ _ _ w.inner w.outer j h.bounded outside (omega arith) h.sound;
         inward_made = refl;
         outward_made = refl;
         inner_step = h.outer_step;
@@ -219,8 +219,8 @@ crossing_is w h excess_high near =
         omega (arith, ints)
 
 -- a number as a machine integer is the number
-pub kept : (z : ℤ) → unsigned_abs z < 2 ^ 100 → unsigned_abs (to_z w128 (of_z w128 z)) < 2 ^ 100
-kept z h = omega (arith, ints)
+pub in_range : (z : ℤ) → unsigned_abs z < 2 ^ 100 → unsigned_abs (to_z w128 (of_z w128 z)) < 2 ^ 100
+in_range z h = omega (arith, ints)
 
 -- a step outward, in the code's terms
 pub step_outward : (w : ArcWalk) (excess change : ℤ) (m : AxisSteps) → Walks w → w.excess ≤ℤ pos 0 → m ≡ flat w (outward w.quadrant)

@@ -39,10 +39,10 @@ pub record Sound (square radius s k i o : ℕ) : Type 0 where
   pub outer : o ≤ k
 
 -- the numbers of a circle, and a bound for every coordinate
-pub record Roomy (square radius s k : ℕ) : Type 0 where
+pub record Bounded (square radius s k : ℕ) : Type 0 where
   pub large : 4 * (s * s) ≤ square
   pub within : square ≤ radius * radius
-  pub room : radius + s ≤ k
+  pub fits : radius + s ≤ k
 
 -- a bound for every radius
 abbrev pub farthest : ℕ
@@ -58,7 +58,7 @@ spot_of w = point_of_quadrant w.quadrant w.inner w.outer
 -- the differences are those of the point
 pub record Walks (w : ArcWalk) : Type 0 where
   pub has : HasSteps w.circle
-  pub roomy : Roomy w.circle.square farthest (larger w.circle) beyond
+  pub bounded : Bounded w.circle.square farthest (larger w.circle) beyond
   pub sound : Sound w.circle.square farthest (larger w.circle) beyond w.inner w.outer
   pub inner_step : w.inner_step ≡ in_step w.circle w.quadrant
   pub outer_step : w.outer_step ≡ out_step w.circle w.quadrant
@@ -71,12 +71,12 @@ pub record Walks (w : ArcWalk) : Type 0 where
   pub outward : w.outward ≡ pos (w.outer_step * w.outer_step) +ℤ pos (2 * (w.outer * w.outer_step))
 
 -- how far a point still has to go in its quadrant
-abbrev pub room : ℕ → ℕ → ℕ → ℕ
-room k i o = i + (k - o)
+abbrev pub distance_left : ℕ → ℕ → ℕ → ℕ
+distance_left k i o = i + (k - o)
 
 -- how far it still has to go in all; each step makes it smaller
 abbrev pub budget : ℕ → ℕ → ℕ → ℕ → ℕ
-budget k left i o = left * (2 * k + 1) + room k i o
+budget k left i o = left * (2 * k + 1) + distance_left k i o
 
 -- a walk has made a step by the rule
 pub record ArcStepSpec (w w' : ArcWalk) (made : AxisSteps) : Type 0 where

@@ -63,7 +63,7 @@ impl QuadrantSweep {
         requires outer { outer ≤ 2 ^ 48 }
         requires step { (0 < step) × (step ≤ 2 ^ 47) }
         ensures leaving { IsLeaving square inner outer step result }
-        ensures room { outer + result * step ≤ 2 ^ 48 }
+        ensures fits { outer + result * step ≤ 2 ^ 48 }
     {
         let inner_square = inner as u128 * inner as u128;
         if square < inner_square + outer as u128 * outer as u128 {
@@ -78,7 +78,7 @@ impl QuadrantSweep {
         requires { level * self.now.inner_step < self.now.inner }
         ensures leaving { IsLeaving self.now.square
             (self.now.inner - level * self.now.inner_step) self.now.outer self.now.outer_step result }
-        ensures room { self.now.outer + result * self.now.outer_step ≤ 2 ^ 48 }
+        ensures fits { self.now.outer + result * self.now.outer_step ≤ 2 ^ 48 }
     {
         let inner = self.inner - level * self.inner_step;
         QuadrantSweep::outward_steps(self.square, inner, self.outer, self.outer_step)
@@ -87,7 +87,7 @@ impl QuadrantSweep {
     /// Its last point: an inward step from there leaves the quadrant.
     pub(crate) fn last(&self) -> SweepSteps
         ensures last { IsLast self.now result }
-        ensures room { self.now.outer + result.outward * self.now.outer_step ≤ 2 ^ 48 }
+        ensures fits { self.now.outer + result.outward * self.now.outer_step ≤ 2 ^ 48 }
     {
         let inward = (self.inner - 1) / self.inner_step;
         SweepSteps {
@@ -138,7 +138,7 @@ impl QuadrantSweep {
         requires enters { self.now.outer * end.inner < self.now.inner * end.outer }
         requires past { LeavesPast self.now end last.inward }
         ensures first { IsFirstPast self.now end result }
-        ensures room { self.now.outer + result.outward * self.now.outer_step ≤ 2 ^ 48 }
+        ensures fits { self.now.outer + result.outward * self.now.outer_step ≤ 2 ^ 48 }
     {
         let inward = self.first_level_past(last.inward, end);
         let before = if inward == 0 {
@@ -162,7 +162,7 @@ impl QuadrantSweep {
     /// Whether its last point is level with an end or past it.
     pub(crate) fn ends_past(&self, last: SweepSteps, end: QuadrantEnd) -> bool
         requires last { IsLast self.now last }
-        requires room { self.now.outer + last.outward * self.now.outer_step ≤ 2 ^ 48 }
+        requires fits { self.now.outer + last.outward * self.now.outer_step ≤ 2 ^ 48 }
         ensures past { result ≡ true → LeavesPast self.now end last.inward }
         ensures before { result ≡ false → (self.now.outer + last.outward * self.now.outer_step) * end.inner
             < (self.now.inner - last.inward * self.now.inner_step) * end.outer }

@@ -43,10 +43,10 @@ fn refused_growth_leaves_the_text(rt: HostRuntime) -> Result<(), Fail> {
     }));
     let mut refused = 0u32;
     let mut printed = 0u32;
-    for room in 1..40usize {
-        let heap = LocalHeap::new(rt.alloc(), 16 * room)?;
+    for size in 1..40usize {
+        let heap = LocalHeap::new(rt.alloc(), 16 * size)?;
         let (whole, right) = grows(&heap, &arc);
-        assert!(rt; right, "{room}");
+        assert!(rt; right, "{size}");
         if whole {
             printed = 1;
         } else {

@@ -20,7 +20,7 @@ fn put<A: Allocator + Copy + Drop>(params: &mut Params<A>, number: i64, count: i
     }
 }
 
-/// Parameters, and whether they are kept after a program.
+/// Parameters, and whether they last after a program.
 const LASTING: &[(i64, bool)] = &[
     (5161, true),
     (5163, true),
@@ -70,7 +70,7 @@ fn filled<A: Allocator + Copy + Drop>(params: &Params<A>) -> u32 {
 }
 
 #[test]
-fn parameters_kept_after_a_program(rt: HostRuntime) -> Result<(), Fail> {
+fn parameters_that_last_after_a_program(rt: HostRuntime) -> Result<(), Fail> {
     let mut params = Params::new(rt.alloc())?;
     let fresh = [
         count(&params, 1),
@@ -80,8 +80,8 @@ fn parameters_kept_after_a_program(rt: HostRuntime) -> Result<(), Fail> {
     fill(&mut params);
     params.clear_passing();
     assert_eq!(rt; (fresh, filled(&params)), ([0, 1_000_000, 0], 37));
-    for (number, is_kept) in LASTING {
-        let want = if *is_kept { *number } else { 0 };
+    for (number, lasts) in LASTING {
+        let want = if *lasts { *number } else { 0 };
         assert_eq!(rt; count(&params, *number), want, "parameter {number}");
     }
     Ok(())
@@ -197,7 +197,7 @@ fn works<A: Allocator + Copy + Drop>(alloc: A) -> Result<bool, AllocError> {
     Ok(numbers && count(&again, 5399) == 3 && count(&again, 5220) == 0 && count(&again, 1) == 0)
 }
 
-/// Bytes of heaps: some have room for all tables, some don't.
+/// Bytes of heaps: some can hold all tables, some can't.
 const SIZES: &[usize] = &[
     1_000, 44_000, 60_000, 87_000, 90_000, 120_000, 131_000, 140_000,
 ];

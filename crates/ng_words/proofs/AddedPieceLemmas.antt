@@ -12,7 +12,7 @@ use Rattle.ng_words.specs.Grammar.{Tree, number, Piece, word, assignment, commen
 use Rattle.ng_words.specs.Scan.{letter_of, number_at}
 use Rattle.ng_words.specs.Value.{strip_prefix, value_at}
 use Rattle.ng_words.specs.Pieces.{comment_at, piece_at, pieces_at}
-use Rattle.ng_words.specs.Kept.{item_of, nodes_of, bytes_of, PieceStore, EncodesPieces, pieces_by}
+use Rattle.ng_words.specs.LineStorage.{item_of, nodes_of, bytes_of, PieceStore, EncodesPieces, pieces_by}
 use Rattle.ng_words.specs.Private.Items.{last_size}
 use Rattle.ng_words.specs.Private.Walks.{store_of, AddsWord, assignment_at, AddsAssignment, AddsComment, Adds}
 use Rattle.ng_words.specs.Private.Walks.{TakesPiece, TakesPieces, TakesValue, BeginsNumber}
@@ -21,7 +21,7 @@ use Rattle.ng_words.specs.declared.piece_entry.PieceEntry.{PieceEntry}
 use Rattle.ng_words.specs.declared.piece_entry.PieceEntry.TheVariants as item
 use Rattle.ng_words.specs.declared.tree.Node.{Node}
 use Rattle.ng_words.specs.declared.tree.Node.TheVariants as node
-use Rattle.ng_words.proofs.KeptLineLemmas.{word_kept, last_after_word, last_after_assignment, kept_is}
+use Rattle.ng_words.proofs.LineStorageLemmas.{word_stored, last_after_word, last_after_assignment, stored_is}
 use Rattle.ng_words.proofs.ValueWalkLemmas.{strip_prefix_is}
 use Rattle.ng_words.proofs.WalkPlaceLemmas.{number_value, value_begins}
 use Rattle.ng_words.proofs.PieceGrammarLemmas.{comment_sound, length-piece_at, found_before, found_before_start, found_before_more}
@@ -104,7 +104,7 @@ number_word letter bytes rest value items items_then nodes h e i = (number value
 pub walked_word : (letter : Letter) (bytes rest : List ℕ) (n : ℕ) (items items_then : List PieceEntry) (nodes nodes_then : List Node) → (BeginsNumber bytes → ⊥)
     → TakesValue bytes nodes (Some n) rest nodes_then → items_then ≡ items ++ item.Word letter n ∷ []
     → AddsWord letter bytes rest items items_then nodes nodes_then
-walked_word letter bytes rest n items items_then nodes nodes_then other h i = elim (word_kept letter h.0) [
+walked_word letter bytes rest n items items_then nodes nodes_then other h i = elim (word_stored letter h.0) [
   | inl k ↦ absurd (other (value_begins bytes rest k.0 (h.1 ∙ ap {B = Option (Tree × List ℕ)} (λ (t : Tree). Some (t, rest)) k.1)))
   | inr k ↦ (
     h.0,
@@ -191,4 +191,4 @@ one_item_more bytes rest false old new h t = absurd (cc)
 
 -- the pieces that were taken are those that the places keep
 pub pieces_taken : (bytes : List ℕ) (places : PieceStore) → TakesPieces bytes true places → pieces_at (length bytes) bytes ≡ Some (pieces_by places)
-pieces_taken bytes places h = h.1 ∙ ap {B = Option (List Piece)} Some (sym (kept_is places h.0 h.2))
+pieces_taken bytes places h = h.1 ∙ ap {B = Option (List Piece)} Some (sym (stored_is places h.0 h.2))

@@ -7,6 +7,6 @@ pub mod CommentLemmas
 pub mod WalkPlaceLemmas
 pub mod LineGrammarLemmas
 pub mod ReadLemmas
-pub mod KeptLineLemmas
+pub mod LineStorageLemmas
 pub mod AddedPieceLemmas
 pub mod BlanklessNumberLemmas

@@ -10,7 +10,7 @@ use Rattle.ng_words.specs.Scan.{number_at}
 use Rattle.ng_words.specs.Value.{strip_prefix, Waiting, index, brackets, function, left, openings, operations}
 use Rattle.ng_words.specs.Value.{entry_at, WalkPosition, before, after, settled_value, gathered, closed, opened}
 use Rattle.ng_words.specs.Value.{continued, step_at, value_from, value_at}
-use Rattle.ng_words.specs.Kept.{postfix}
+use Rattle.ng_words.specs.LineStorage.{postfix}
 use Rattle.ng_words.specs.Private.Walks.{mark, marks, waiting_nodes, HoldsBefore, HoldsAfter, Stands, nearest}
 use Rattle.ng_words.specs.Private.Walks.{is_index, operation_within, closing, IsOpening, function_openings}
 use Rattle.ng_words.specs.Private.Walks.{TakesValue, WalkStepSpec, Settles, Gathers, ClosesBrackets, BeginsNumber}

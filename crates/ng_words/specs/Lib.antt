@@ -4,7 +4,7 @@ pub mod Scan
 pub mod Value
 pub mod Pieces
 pub mod Reading
-pub mod Kept
+pub mod LineStorage
 pub mod Line
 pub mod Start
 pub mod Comment

@@ -2,7 +2,7 @@
 use Rattle.std.specs.Prelude.{ℕ, List, [], ◌∷◌, false, Option, Some, None}
 use Rattle.std.specs.Option.{option_or}
 use Rattle.ng_words.specs.Grammar.{Piece, word, assignment, comment, ParsedLine}
-use Rattle.ng_words.specs.Kept.{tree_by}
+use Rattle.ng_words.specs.LineStorage.{tree_by}
 use Rattle.ng_words.specs.declared.pieces.PieceRef.{PieceRef}
 use Rattle.ng_words.specs.declared.pieces.PieceRef.TheVariants.{Word, Assignment, Comment}
 

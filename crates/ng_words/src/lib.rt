@@ -1,7 +1,7 @@
 //! Lines of a program: the grammar of a line, and its words.
 //!
 //! A line is read in one pass into storage that its caller keeps, so reading doesn't allocate. What is accepted is
-//! exactly the grammar of `specs/Grammar.antt`, which covers the whole language. A value is kept as the list of its
+//! exactly the grammar of `specs/Grammar.antt`, which covers the whole language. A value is stored as the list of its
 //! tree's nodes, each after its parts. A number is rounded by `ng_num`'s rule. What words mean is left to the crates
 //! above.
 #![tactic(auto)]

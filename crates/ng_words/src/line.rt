@@ -2,7 +2,7 @@
 ghost use Rattle.std.specs.Prelude.{◌≡◌, ◌<◌, ◌≤◌, ◌↔◌, ◌⊎◌, [], false, length, None, Ok, Err, MatchResult, MatchOption, OnOk, OnErr, IfOk, IfErr, IfSome, IsErrOf};
 ghost use Rattle.ng_words.specs.Grammar.{ParsedLine, IsLineOf, is_too_long};
 ghost use Rattle.ng_words.specs.Reading.{read};
-ghost use Rattle.ng_words.specs.Kept.{pieces_by, written_by};
+ghost use Rattle.ng_words.specs.LineStorage.{pieces_by, written_by};
 ghost use Rattle.ng_words.specs.Line.{last_comment};
 
 use crate::comments::{BYTES, Comments};
@@ -36,7 +36,7 @@ pub struct Line {
 
 impl Model for Line {
     ghost use Rattle.std.specs.Prelude.{◌≡◌};
-    ghost use Rattle.ng_words.specs.Kept.{LineModel, AreEncodedPieces};
+    ghost use Rattle.ng_words.specs.LineStorage.{LineModel, AreEncodedPieces};
     ghost use Rattle.ng_words.specs.Private.Items.{last_size};
 
     ghost Value = { LineModel };

@@ -13,7 +13,7 @@ use ng_num::{Fault, Num};
 /// From this whole part on, every number is out of range.
 const WHOLE_LIMIT: u32 = 10_000_000;
 
-/// The whole part with one more digit. It is kept at its limit, so it never overflows.
+/// The whole part with one more digit. It stays at its limit, so it never overflows.
 #[inline]
 pub(crate) fn with_digit(whole: u32, digit: u8) -> u32
     requires small { whole ≤ 10_000_000 }

@@ -2,7 +2,7 @@
 use crate::letter::Letter;
 use crate::tree::Node;
 
-/// What is kept for a piece of a line. Its nodes or bytes come after those of the pieces before it.
+/// What is stored for a piece of a line. Its nodes or bytes come after those of the pieces before it.
 #[derive(Clone, Copy)]
 pub(crate) enum PieceEntry {
     /// A word whose value is a number alone: its letter and the only node, which is in no list.

@@ -1,6 +1,6 @@
 //! The pieces of a line, one by one.
 ghost use Rattle.std.specs.Prelude.{◌≡◌, ◌≤◌, [], ◌∷◌, length, take, drop, MatchOption};
-ghost use Rattle.ng_words.specs.Kept.{pieces_by, IsTree};
+ghost use Rattle.ng_words.specs.LineStorage.{pieces_by, IsTree};
 ghost use Rattle.ng_words.specs.Line.{piece_of};
 
 use crate::letter::Letter;
@@ -30,7 +30,7 @@ pub struct Pieces<'a> {
 
 impl<'a> Model for Pieces<'a> {
     ghost use Rattle.std.specs.Prelude.{length, ◌≤◌};
-    ghost use Rattle.ng_words.specs.Kept.{PieceStore, AreEncodedPieces};
+    ghost use Rattle.ng_words.specs.LineStorage.{PieceStore, AreEncodedPieces};
 
     ghost Value = { PieceStore };
 

@@ -44,11 +44,11 @@ fn word(
     stack: &mut WaitingList,
 ) -> bool
     requires few { length items.old.items < 128 }
-    requires room { length nodes.old.items + length cursor.old ≤ 256 }
+    requires fits { length nodes.old.items + length cursor.old ≤ 256 }
     ensures word { MatchBool result
         (AddsWord letter cursor.old cursor.new items.old.items items.new.items nodes.old.items nodes.new.items)
         (value_at cursor.old ≡ None) }
-    ensures room { IsTrue result → length nodes.new.items + length cursor.new ≤ length nodes.old.items + length cursor.old }
+    ensures fits { IsTrue result → length nodes.new.items + length cursor.new ≤ length nodes.old.items + length cursor.old }
 {
     if begins_number(cursor) {
         return match number(cursor) {
@@ -76,11 +76,11 @@ fn assignment(
     stack: &mut WaitingList,
 ) -> bool
     requires few { length items.old.items < 128 }
-    requires room { length nodes.old.items + length cursor.old ≤ 256 }
+    requires fits { length nodes.old.items + length cursor.old ≤ 256 }
     ensures assignment { MatchBool result
         (AddsAssignment cursor.old cursor.new items.old.items items.new.items nodes.old.items nodes.new.items)
         (assignment_at cursor.old ≡ None) }
-    ensures room { IsTrue result → length nodes.new.items + length cursor.new ≤ length nodes.old.items + length cursor.old }
+    ensures fits { IsTrue result → length nodes.new.items + length cursor.new ≤ length nodes.old.items + length cursor.old }
 {
     let index = match value(cursor, stack, nodes) {
         Some(index) => index,
@@ -102,11 +102,11 @@ fn assignment(
 fn comment(cursor: &mut Cursor<'_>, items: &mut Items, comments: &mut Comments) -> bool
     requires begins { StartsWithByte cursor.old 40 }
     requires few { length items.old.items < 128 }
-    requires room { length comments.old.bytes.items + length cursor.old ≤ 256 }
+    requires fits { length comments.old.bytes.items + length cursor.old ≤ 256 }
     ensures comment { MatchBool result
         (AddsComment cursor.old cursor.new items.old.items items.new.items comments.old.bytes.items comments.new.bytes.items)
         (comment_at (drop 1 cursor.old) ≡ None) }
-    ensures room { IsTrue result → length comments.new.bytes.items + length cursor.new
+    ensures fits { IsTrue result → length comments.new.bytes.items + length cursor.new
         ≤ length comments.old.bytes.items + length cursor.old }
     ensures last { IsTrue result → comments.new.last ≡ last_size items.new.items }
 {

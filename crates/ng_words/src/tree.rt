@@ -1,6 +1,6 @@
-//! Trees of values, kept as lists of nodes.
+//! Trees of values, stored as lists of nodes.
 ghost use Rattle.std.specs.Prelude.{◌≡◌, ◌≤◌, length};
-ghost use Rattle.ng_words.specs.Kept.{IsTree};
+ghost use Rattle.ng_words.specs.LineStorage.{IsTree};
 
 use ng_num::Num;
 use std::marker::Model;
@@ -29,7 +29,7 @@ pub enum Function {
     Sqrt,
 }
 
-/// A node of a tree. A tree is kept as the list of its nodes, each after its parts.
+/// A node of a tree. A tree is stored as the list of its nodes, each after its parts.
 #[derive(Clone, Copy)]
 pub enum Node {
     /// A number. `None` if the written number is out of range.
@@ -61,7 +61,7 @@ pub struct Tree<'a> {
 
 impl<'a> Model for Tree<'a> {
     ghost use Rattle.std.specs.Prelude.{List, length, ◌≤◌};
-    ghost use Rattle.ng_words.specs.Kept.{IsTree};
+    ghost use Rattle.ng_words.specs.LineStorage.{IsTree};
     ghost use Rattle.ng_words.specs.declared.tree.Node.{Node};
 
     ghost Value = { List Node };

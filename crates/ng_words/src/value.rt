@@ -184,7 +184,7 @@ fn push_node(nodes: &mut Nodes, node: Node)
 fn settle(stack: &mut WaitingList, nodes: &mut Nodes)
     requires { length stack.old.items + length nodes.old.items ≤ 256 }
     ensures settles { Settles stack.old.items nodes.old.items stack.new.items nodes.new.items }
-    ensures room { length stack.new.items + length nodes.new.items ≡ length stack.old.items + length nodes.old.items }
+    ensures fits { length stack.new.items + length nodes.new.items ≡ length stack.old.items + length nodes.old.items }
 {
     while is_index(nearest(stack)) {
         stack.pop();
@@ -197,7 +197,7 @@ fn settle(stack: &mut WaitingList, nodes: &mut Nodes)
 fn gather(most: u8, stack: &mut WaitingList, nodes: &mut Nodes)
     requires { length stack.old.items + length nodes.old.items ≤ 256 }
     ensures gathers { Gathers most stack.old.items nodes.old.items stack.new.items nodes.new.items }
-    ensures room { length stack.new.items + length nodes.new.items ≡ length stack.old.items + length nodes.old.items }
+    ensures fits { length stack.new.items + length nodes.new.items ≡ length stack.old.items + length nodes.old.items }
 {
     while let Some(operation) = operation_within(most, nearest(stack)) {
         stack.pop();
@@ -209,7 +209,7 @@ fn gather(most: u8, stack: &mut WaitingList, nodes: &mut Nodes)
 fn close(stack: &mut WaitingList, nodes: &mut Nodes) -> bool
     requires { length stack.old.items + length nodes.old.items ≤ 256 }
     ensures closes { ClosesBrackets stack.old.items nodes.old.items result stack.new.items nodes.new.items }
-    ensures room { length stack.new.items + length nodes.new.items ≡ length stack.old.items + length nodes.old.items }
+    ensures fits { length stack.new.items + length nodes.new.items ≡ length stack.old.items + length nodes.old.items }
 {
     match closing(nearest(stack)) {
         Some(node) => {
@@ -226,7 +226,7 @@ fn close(stack: &mut WaitingList, nodes: &mut Nodes) -> bool
 fn begin(cursor: &mut Cursor<'_>, stack: &mut WaitingList, nodes: &mut Nodes) -> Option<bool>
     requires { length stack.old.items + length nodes.old.items + length cursor.old ≤ 256 }
     ensures steps { WalkStepSpec false cursor.old stack.old.items nodes.old.items result cursor.new stack.new.items nodes.new.items }
-    ensures room { OnSome result (length stack.new.items + length nodes.new.items + length cursor.new
+    ensures fits { OnSome result (length stack.new.items + length nodes.new.items + length cursor.new
         ≤ length stack.old.items + length nodes.old.items + length cursor.old) }
 {
     if begins_number(cursor) {
@@ -248,7 +248,7 @@ fn begin(cursor: &mut Cursor<'_>, stack: &mut WaitingList, nodes: &mut Nodes) ->
 fn go_on(cursor: &mut Cursor<'_>, stack: &mut WaitingList, nodes: &mut Nodes) -> Option<bool>
     requires { length stack.old.items + length nodes.old.items + length cursor.old ≤ 256 }
     ensures steps { WalkStepSpec true cursor.old stack.old.items nodes.old.items result cursor.new stack.new.items nodes.new.items }
-    ensures room { OnSome result (length stack.new.items + length nodes.new.items + length cursor.new
+    ensures fits { OnSome result (length stack.new.items + length nodes.new.items + length cursor.new
         ≤ length stack.old.items + length nodes.old.items + length cursor.old) }
 {
     match cursor.first() {
@@ -281,7 +281,7 @@ fn step(
 ) -> Option<bool>
     requires { length stack.old.items + length nodes.old.items + length cursor.old ≤ 256 }
     ensures steps { WalkStepSpec after_value cursor.old stack.old.items nodes.old.items result cursor.new stack.new.items nodes.new.items }
-    ensures room { OnSome result (length stack.new.items + length nodes.new.items + length cursor.new
+    ensures fits { OnSome result (length stack.new.items + length nodes.new.items + length cursor.new
         ≤ length stack.old.items + length nodes.old.items + length cursor.old) }
 {
     if after_value {
@@ -307,7 +307,7 @@ pub(crate) fn walk(
 ) -> Option<u16>
     requires { length nodes.old.items + length cursor.old ≤ 256 }
     ensures value { TakesValue cursor.old nodes.old.items result cursor.new nodes.new.items }
-    ensures room { OnSome result (length nodes.new.items + length cursor.new ≤ length nodes.old.items + length cursor.old) }
+    ensures fits { OnSome result (length nodes.new.items + length cursor.new ≤ length nodes.old.items + length cursor.old) }
 {
     stack.clear();
     let start = nodes.len();
@@ -341,7 +341,7 @@ pub(crate) fn value(
 ) -> Option<u16>
     requires { length nodes.old.items + length cursor.old ≤ 256 }
     ensures value { TakesValue cursor.old nodes.old.items result cursor.new nodes.new.items }
-    ensures room { OnSome result (length nodes.new.items + length cursor.new ≤ length nodes.old.items + length cursor.old) }
+    ensures fits { OnSome result (length nodes.new.items + length cursor.new ≤ length nodes.old.items + length cursor.old) }
     ensures shorter { OnSome result (length cursor.new < length cursor.old) }
 {
     if !begins_number(cursor) {

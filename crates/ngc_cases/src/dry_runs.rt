@@ -1,6 +1,6 @@
 //! Programs, and what a dry run of each writes.
 use crate::cases::{Case, Head, Part};
-use crate::room::{Room, Wanted};
+use crate::workspace::{Wanted, Workspace};
 use anyhow::{Context, Result, bail, ensure};
 use ng_file::Hold;
 use std::rt::Files;
@@ -73,24 +73,28 @@ impl<'a> DryRun<'a> {
     }
 
     /// What is wrong with the run, if anything is.
-    pub fn wrong<R: Files + AllocGlobal>(&self, rt: &R, room: &Room) -> Result<Option<String>>
+    pub fn wrong<R: Files + AllocGlobal>(
+        &self,
+        rt: &R,
+        workspace: &Workspace,
+    ) -> Result<Option<String>>
     where
         R::File: Hold,
     {
         let writes = self.writes.context("what it writes isn't said")?;
-        room.put(rt, "program.ngc", self.program.unwrap_or_default())?;
+        workspace.put(rt, "program.ngc", self.program.unwrap_or_default())?;
         if let Some(settings) = self.settings {
-            room.put(rt, "settings.toml", settings)?;
+            workspace.put(rt, "settings.toml", settings)?;
         }
         let status = self.status(writes);
-        room.wrong_of_call(rt, self.words(), b"", Wanted { writes, status })
+        workspace.wrong_of_call(rt, self.words(), b"", Wanted { writes, status })
     }
 }
 
 /// What is wrong with the dry run of a case, if anything is.
 pub fn wrong_of<R: Files + AllocGlobal>(
     rt: &R,
-    room: &Room,
+    workspace: &Workspace,
     case: &Case<'_>,
 ) -> Result<Option<String>>
 where
@@ -100,5 +104,5 @@ where
     for part in &case.parts {
         run.put(part)?;
     }
-    run.wrong(rt, room)
+    run.wrong(rt, workspace)
 }

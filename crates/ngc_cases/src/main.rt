@@ -9,25 +9,25 @@ mod dry_runs;
 mod escapes;
 mod files;
 mod refusals;
-mod room;
 mod sectors;
 mod steps;
 mod tally;
+mod workspace;
 
 use anyhow::{Context, Result, ensure};
 use cases::{Case, read_cases};
 use files::{Kind, case_files, kind_of};
 use ng_file::Hold;
-use room::Room;
 use std::process::ExitCode;
 use std::rt::{Env, Files};
 use std::{env, fs};
 use tally::Tally;
+use workspace::Workspace;
 
 /// What is wrong with a case that isn't a row of refused lines, if anything is.
 fn wrong_of<R: Files + AllocGlobal>(
     rt: &R,
-    room: &Room,
+    workspace: &Workspace,
     kind: Kind,
     case: &Case<'_>,
 ) -> Result<Option<String>>
@@ -35,22 +35,22 @@ where
     R::File: Hold,
 {
     match kind {
-        Kind::Dry => return dry_runs::wrong_of(rt, room, case),
+        Kind::Dry => return dry_runs::wrong_of(rt, workspace, case),
         Kind::Run => {
-            let wrong = steps::wrong_of_mill(rt, room)?;
+            let wrong = steps::wrong_of_mill(rt, workspace)?;
             if wrong.is_some() {
                 return Ok(wrong);
             }
         }
         Kind::Refused | Kind::Words => {}
     }
-    steps::wrong_of(rt, room, case)
+    steps::wrong_of(rt, workspace, case)
 }
 
 /// Runs a case in a folder of its own, and counts it.
 fn count_case<R: Files + AllocGlobal + Eprint>(
     rt: &R,
-    room: &Room,
+    workspace: &Workspace,
     kind: Kind,
     case: &Case<'_>,
     tally: &mut Tally,
@@ -58,26 +58,30 @@ fn count_case<R: Files + AllocGlobal + Eprint>(
 where
     R::File: Hold,
 {
-    room.open(rt)?;
+    workspace.open(rt)?;
     match kind {
-        Kind::Refused => refusals::count_rows(rt, room, case, tally)?,
-        _ => tally.count(rt, case.title, wrong_of(rt, room, kind, case)?)?,
+        Kind::Refused => refusals::count_rows(rt, workspace, case, tally)?,
+        _ => tally.count(rt, case.title, wrong_of(rt, workspace, kind, case)?)?,
     }
-    room.clear(rt)
+    workspace.clear(rt)
 }
 
 /// Runs the cases of a file. Its name says what kind they are.
-fn run_file<R: Files + AllocGlobal + Eprint>(rt: &R, room: &Room, name: &str) -> Result<Tally>
+fn run_file<R: Files + AllocGlobal + Eprint>(
+    rt: &R,
+    workspace: &Workspace,
+    name: &str,
+) -> Result<Tally>
 where
     R::File: Hold,
 {
-    let folder = room.cases.as_str();
+    let folder = workspace.cases.as_str();
     let kind = kind_of(name).context("no file of cases by its name")?;
     let path = format!(in rt.alloc(); "{folder}/{name}")?;
     let text = fs::read_to_string(rt, path.as_str())?;
     let mut tally = Tally::default();
     for case in &read_cases(rt, folder, text.as_str())? {
-        count_case(rt, room, kind, case, &mut tally).context(format_args!("{}", case.title))?;
+        count_case(rt, workspace, kind, case, &mut tally).context(format_args!("{}", case.title))?;
     }
     Ok(tally)
 }
@@ -85,7 +89,7 @@ where
 /// Runs the cases of each file, and prints how many are right. Returns whether all are.
 fn run_files<R: Files + AllocGlobal + Print + Eprint>(
     rt: &R,
-    room: &Room,
+    workspace: &Workspace,
     names: &[String],
 ) -> Result<bool>
 where
@@ -93,7 +97,7 @@ where
 {
     let mut all_right = true;
     for name in names {
-        let tally = run_file(rt, room, name.as_str()).context(format_args!("{name}"))?;
+        let tally = run_file(rt, workspace, name.as_str()).context(format_args!("{name}"))?;
         println!(rt; "{name}: {} of {}", tally.right, tally.all)?;
         all_right = all_right && tally.right == tally.all;
     }
@@ -110,11 +114,11 @@ fn given_folder<R: Env + AllocGlobal>(rt: &R) -> Result<String> {
 
 fn main(rt: HostRuntime) -> Result<ExitCode> {
     let number = std::process::id(rt.process());
-    let room = Room::new(&rt, given_folder(&rt)?, number)?;
-    let names = case_files(&rt, room.cases.as_str())?;
+    let workspace = Workspace::new(&rt, given_folder(&rt)?, number)?;
+    let names = case_files(&rt, workspace.cases.as_str())?;
     ensure!(!names.is_empty(), "no file of cases");
-    let all_right = run_files(&rt, &room, names.as_slice());
-    room.clear(&rt)?;
+    let all_right = run_files(&rt, &workspace, names.as_slice());
+    workspace.clear(&rt)?;
     Ok(if all_right? {
         ExitCode::SUCCESS
     } else {

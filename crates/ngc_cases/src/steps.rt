@@ -1,8 +1,8 @@
 //! What a case does and checks, step by step: sessions of an operator, command lines, files.
 use crate::cases::{Case, Head, Part};
 use crate::compare::first_difference;
-use crate::room::{Room, Wanted};
 use crate::sectors;
+use crate::workspace::{Wanted, Workspace};
 use anyhow::{Result, bail, ensure};
 use ng_file::Hold;
 use std::alloc::Global;
@@ -90,14 +90,18 @@ fn steps_of<'b>(alloc: Global, case: &'b Case<'_>) -> Result<Vec<Step<'b>>> {
 }
 
 /// Holds a file, if a step names one.
-fn hold<R: Files + AllocGlobal>(rt: &R, room: &Room, name: Option<&str>) -> Result<Option<R::File>>
+fn hold<R: Files + AllocGlobal>(
+    rt: &R,
+    workspace: &Workspace,
+    name: Option<&str>,
+) -> Result<Option<R::File>>
 where
     R::File: Hold,
 {
     let Some(name) = name else {
         return Ok(None);
     };
-    let path = room.path(rt.alloc(), name)?;
+    let path = workspace.path(rt.alloc(), name)?;
     let file = fs::open(rt, path.as_str())?;
     ensure!(file.hold().is_ok(), "it can't be held: {name}");
     Ok(Some(file))
@@ -106,15 +110,15 @@ where
 /// What is wrong with a command line's answer, if anything is.
 fn wrong_of_call<R: Files + AllocGlobal>(
     rt: &R,
-    room: &Room,
+    workspace: &Workspace,
     line: &str,
     step: &Step<'_>,
 ) -> Result<Option<String>>
 where
     R::File: Hold,
 {
-    let other = hold(rt, room, step.held)?;
-    let wrong = room.wrong_of_call(rt, line, step.asked, step.wanted())?;
+    let other = hold(rt, workspace, step.held)?;
+    let wrong = workspace.wrong_of_call(rt, line, step.asked, step.wanted())?;
     drop(other);
     Ok(wrong)
 }
@@ -122,47 +126,47 @@ where
 /// What is wrong with a session, if anything is, given what was handed out before it.
 fn wrong_of_session<R: Files + AllocGlobal>(
     rt: &R,
-    room: &Room,
+    workspace: &Workspace,
     step: &Step<'_>,
     handed: &mut Vec<u8>,
 ) -> Result<Option<String>>
 where
     R::File: Hold,
 {
-    let wrong = wrong_of_call(rt, room, RUN, step)?;
+    let wrong = wrong_of_call(rt, workspace, RUN, step)?;
     if wrong.is_some() {
         return Ok(wrong);
     }
     handed.extend_from_slice(step.handed.unwrap_or_default())?;
-    let out = room.held(rt, "out")?;
+    let out = workspace.held(rt, "out")?;
     first_difference(rt.alloc(), handed.as_slice(), out.as_slice())
 }
 
 /// Does what a step says of a file. Returns what is wrong with it, if anything is.
 fn wrong_of_file<R: Files + AllocGlobal>(
     rt: &R,
-    room: &Room,
+    workspace: &Workspace,
     verb: &str,
     name: &str,
     text: &[u8],
 ) -> Result<Option<String>> {
     match verb {
-        "file" => room.put(rt, name, text)?,
-        "folder" => fs::create_dir(rt, room.path(rt.alloc(), name)?.as_str())?,
+        "file" => workspace.put(rt, name, text)?,
+        "folder" => fs::create_dir(rt, workspace.path(rt.alloc(), name)?.as_str())?,
         "overwritten" => {
-            let mut bytes = room.held(rt, name)?;
+            let mut bytes = workspace.held(rt, name)?;
             sectors::put_rows(&mut bytes, text)?;
-            room.put(rt, name, bytes.as_slice())?;
+            workspace.put(rt, name, bytes.as_slice())?;
         }
         "sectors" => {
-            let bytes = room.held(rt, name)?;
+            let bytes = workspace.held(rt, name)?;
             return sectors::first_difference(rt.alloc(), text, bytes.as_slice());
         }
         "leaves" => {
-            let bytes = room.held(rt, name)?;
+            let bytes = workspace.held(rt, name)?;
             return first_difference(rt.alloc(), text, bytes.as_slice());
         }
-        "absent" if fs::exists(rt, room.path(rt.alloc(), name)?.as_str())? => {
+        "absent" if fs::exists(rt, workspace.path(rt.alloc(), name)?.as_str())? => {
             return Ok(Some(format!(in rt.alloc(); "{name} is there")?));
         }
         "absent" => {}
@@ -174,7 +178,7 @@ fn wrong_of_file<R: Files + AllocGlobal>(
 /// Does a step. Returns what is wrong with it, if anything is.
 fn wrong_of_step<R: Files + AllocGlobal>(
     rt: &R,
-    room: &Room,
+    workspace: &Workspace,
     step: &Step<'_>,
     handed: &mut Vec<u8>,
 ) -> Result<Option<String>>
@@ -182,14 +186,14 @@ where
     R::File: Hold,
 {
     match step.head {
-        Head::Title | Head::Says("power", "on") => wrong_of_session(rt, room, step, handed),
+        Head::Title | Head::Says("power", "on") => wrong_of_session(rt, workspace, step, handed),
         Head::Call(line) => {
             ensure!(step.handed.is_none(), "no session hands out");
-            wrong_of_call(rt, room, line, step)
+            wrong_of_call(rt, workspace, line, step)
         }
         Head::Says(verb, name) => {
             ensure!(step.is_plain(), "no program runs: {verb}");
-            wrong_of_file(rt, room, verb, name, step.text)
+            wrong_of_file(rt, workspace, verb, name, step.text)
         }
     }
 }
@@ -197,7 +201,7 @@ where
 /// Does the steps of a case. Returns what is wrong with the first step that is wrong, if one is.
 pub fn wrong_of<R: Files + AllocGlobal>(
     rt: &R,
-    room: &Room,
+    workspace: &Workspace,
     case: &Case<'_>,
 ) -> Result<Option<String>>
 where
@@ -205,7 +209,7 @@ where
 {
     let mut handed = Vec::new(rt.alloc());
     for step in steps_of(rt.alloc(), case)? {
-        let wrong = wrong_of_step(rt, room, &step, &mut handed)?;
+        let wrong = wrong_of_step(rt, workspace, &step, &mut handed)?;
         if wrong.is_some() {
             return Ok(wrong);
         }
@@ -215,16 +219,19 @@ where
 
 /// Creates the files of a mill that an operator commands: its device, fresh, and its settings. Returns what is wrong
 /// with that, if anything is.
-pub fn wrong_of_mill<R: Files + AllocGlobal>(rt: &R, room: &Room) -> Result<Option<String>>
+pub fn wrong_of_mill<R: Files + AllocGlobal>(
+    rt: &R,
+    workspace: &Workspace,
+) -> Result<Option<String>>
 where
     R::File: Hold,
 {
-    let settings = format!(in rt.alloc(); "{}/default.toml", room.cases.as_str())?;
+    let settings = format!(in rt.alloc(); "{}/default.toml", workspace.cases.as_str())?;
     let settings = fs::read(rt, settings.as_str())?;
-    room.put(rt, "mill.toml", settings.as_slice())?;
+    workspace.put(rt, "mill.toml", settings.as_slice())?;
     let wanted = Wanted {
         writes: b"",
         status: 0,
     };
-    room.wrong_of_call(rt, FORMAT, b"", wanted)
+    workspace.wrong_of_call(rt, FORMAT, b"", wanted)
 }

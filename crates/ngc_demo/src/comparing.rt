@@ -68,9 +68,9 @@ fn spindle_text(spindle: Spindle) -> &'static str {
 
 /// The outputs as text.
 fn outputs_text(alloc: Global, outputs: &Outputs) -> Result<String> {
-    let turning = spindle_text(outputs.spindle);
+    let spinning = spindle_text(outputs.spindle);
     let speed = number_text(alloc, outputs.speed)?;
-    Ok(format!(in alloc; "spindle {turning}, speed {speed}")?)
+    Ok(format!(in alloc; "spindle {spinning}, speed {speed}")?)
 }
 
 /// Compares the switch at the start of the way back with the last one before the loss of power.

@@ -5,7 +5,7 @@ ghost use Rattle.ng_cycles.specs.Segments.{after_segments};
 ghost use Rattle.ng_block.specs.BlockSegments.{actions_left, rest_of};
 ghost use Rattle.ng_block.specs.Effects.{segments_by};
 ghost use Rattle.ng_block.specs.Path.{path_segments};
-ghost use Rattle.ng_block.specs.Resuming.{Stays, standing_at};
+ghost use Rattle.ng_block.specs.Resuming.{Stays, motion_state_at};
 
 use crate::block_segments::{BlockSegments, BlockSegmentsLeft};
 use crate::effect::Effect;
@@ -19,7 +19,7 @@ pub struct Resumed {
     /// The segments from there on.
     pub block_segments: BlockSegments,
     /// The machine's position and outputs before them.
-    pub standing: MotionState,
+    pub motion_state: MotionState,
 }
 
 /// What is left of a block, the machine's position and outputs before that, and how many segments are still to be
@@ -27,7 +27,7 @@ pub struct Resumed {
 #[derive(Drop)]
 struct Passing {
     rest: BlockSegmentsLeft,
-    standing: MotionState,
+    motion_state: MotionState,
     left: u64,
 }
 
@@ -52,7 +52,7 @@ impl Passing {
         while self.left > 0 {
             match self.rest.next_of_actions() {
                 Some(segment) => {
-                    self.standing = after_segment(self.standing, &segment);
+                    self.motion_state = after_segment(self.motion_state, &segment);
                     self.left -= 1;
                 }
                 None => return,
@@ -69,7 +69,7 @@ impl Passing {
         ensures moves { 0 < self.new.left → self.new.rest.moves ≡ [] }
     {
         self.rest.moves = PathSegments::later(path, self.left);
-        self.standing = path.motion_state_after(self.standing, self.left);
+        self.motion_state = path.motion_state_after(self.motion_state, self.left);
         self.left = left_after(self.left, path.count());
     }
 
@@ -79,10 +79,10 @@ impl Passing {
         requires actions { actions_left self.old.rest ≡ [] }
         requires moves { self.old.rest.moves ≡ [] }
         ensures rest { rest_of self.new.rest ≡ drop self.old.left (rest_of self.old.rest) }
-        ensures standing { self.new.standing ≡ after_segments self.old.standing (take self.old.left (rest_of self.old.rest)) }
+        ensures motion_state { self.new.motion_state ≡ after_segments self.old.motion_state (take self.old.left (rest_of self.old.rest)) }
     {
         if let Some(segment) = self.rest.next_of_stop() {
-            self.standing = after_segment(self.standing, &segment);
+            self.motion_state = after_segment(self.motion_state, &segment);
         }
     }
 
@@ -90,7 +90,7 @@ impl Passing {
     fn advance(&mut self, path: &Path)
         requires { self.old.rest.moves ≡ path_segments path.now }
         ensures rest { rest_of self.new.rest ≡ drop self.old.left (rest_of self.old.rest) }
-        ensures standing { self.new.standing ≡ after_segments self.old.standing (take self.old.left (rest_of self.old.rest)) }
+        ensures motion_state { self.new.motion_state ≡ after_segments self.old.motion_state (take self.old.left (rest_of self.old.rest)) }
     {
         self.pass_actions();
         if self.left == 0 {
@@ -111,11 +111,11 @@ impl Effect {
     /// segments, none is left, and the position is that after the block. The time doesn't grow with `n`.
     pub fn block_segments_from(&self, start: Point, n: u64) -> Resumed
         ensures block_segments { result.block_segments ≡ drop n (segments_by self.now) }
-        ensures standing { result.standing ≡ standing_at self.now start n }
+        ensures motion_state { result.motion_state ≡ motion_state_at self.now start n }
     {
         let mut passing = Passing {
             rest: self.block_segments_left(),
-            standing: MotionState {
+            motion_state: MotionState {
                 point: start,
                 outputs: self.plan.before,
             },
@@ -124,7 +124,7 @@ impl Effect {
         passing.advance(&self.plan.path);
         Resumed {
             block_segments: BlockSegments { rest: passing.rest },
-            standing: passing.standing,
+            motion_state: passing.motion_state,
         }
     }
 }

@@ -122,13 +122,13 @@ impl Read for Drip<'_> {
 #[derive(Drop)]
 struct Full {
     taken: Vec<u8>,
-    room: usize,
+    capacity: usize,
     takes_none: bool,
 }
 
 impl Write for Full {
     fn write(&mut self, buf: &[u8]) -> io::Result<usize> {
-        let n = self.room.min(buf.len());
+        let n = self.capacity.min(buf.len());
         if n == 0 {
             return if self.takes_none {
                 Ok(0)
@@ -136,7 +136,7 @@ impl Write for Full {
                 Err(io::Error::from(ErrorKind::Other))
             };
         }
-        self.room -= n;
+        self.capacity -= n;
         match self.taken.extend_from_slice(&buf[..n]) {
             Ok(()) => Ok(n),
             Err(_) => Err(io::Error::from(ErrorKind::OutOfMemory)),
@@ -187,35 +187,31 @@ fn ends_when_the_reader_fails(rt: HostRuntime) -> Result<(), Fail> {
     Ok(())
 }
 
-/// What is written for a move by hand, if there is room.
+/// What is written for a move by hand, if it fits.
 const MOVED: &str = "begun\ndone 1\nidle\nticks 5\n";
 
-/// What a console does with these lines over a writer with this much room: the status, what is written, and the device.
-fn written_in_room(
-    alloc: Global,
-    lines: &str,
-    room: usize,
-) -> Result<(u8, Vec<u8>, Device), Fault> {
+/// What a console does with these lines over a writer that takes so much: the status, what is written, and the device.
+fn written_in(alloc: Global, lines: &str, capacity: usize) -> Result<(u8, Vec<u8>, Device), Fault> {
     let mut reader = lines.as_bytes();
     let mut writer = Full {
         taken: Vec::new(alloc),
-        room,
-        takes_none: room % 2 == 0,
+        capacity,
+        takes_none: capacity % 2 == 0,
     };
     let rig = formatted(alloc)?;
     let (status, rig) = talk(alloc, &mut reader, &mut writer, rig);
     let Full {
         taken,
-        room: _,
+        capacity: _,
         takes_none: _,
     } = writer;
     Ok((status, taken, rig))
 }
 
-/// That move over a writer with this much room: the status, whether a beginning is written, its length, and the items
+/// That move over a writer that takes so much: the status, whether a beginning is written, its length, and the items
 /// handed out.
-fn moved_in_room(alloc: Global, room: usize) -> Result<(u8, bool, usize, usize), Fault> {
-    let (status, text, rig) = written_in_room(alloc, "mdi G0 X0.002\ntick 9\nquit\n", room)?;
+fn moved_in(alloc: Global, capacity: usize) -> Result<(u8, bool, usize, usize), Fault> {
+    let (status, text, rig) = written_in(alloc, "mdi G0 X0.002\ntick 9\nquit\n", capacity)?;
     let items = rig.handed(rig.calls())?;
     Ok((
         status,
@@ -228,13 +224,18 @@ fn moved_in_room(alloc: Global, room: usize) -> Result<(u8, bool, usize, usize),
 /// The writer fails in the middle: a beginning is written, the device isn't called any more, and the status is 2.
 #[test]
 fn ends_when_the_writer_fails(rt: HostRuntime) -> Result<(), Fail> {
-    for room in 0..30 {
-        let (status, is_beginning, length, items) = moved_in_room(rt.alloc(), room)?;
-        let handed = if room < 6 { 0 } else { 2 };
+    for capacity in 0..30 {
+        let (status, is_beginning, length, items) = moved_in(rt.alloc(), capacity)?;
+        let handed = if capacity < 6 { 0 } else { 2 };
         assert_eq!(rt;
             (status == 2, is_beginning, length, items),
-            (room < MOVED.len(), true, room.min(MOVED.len()), handed),
-            "{room}"
+            (
+                capacity < MOVED.len(),
+                true,
+                capacity.min(MOVED.len()),
+                handed
+            ),
+            "{capacity}"
         );
     }
     Ok(())
@@ -252,10 +253,10 @@ const BEHIND_MOVES: &[&str] = &[
     "status entries 3 place 20 at 0.003000 0.000000 0.000000 known half none idle\n",
 ];
 
-/// The same over a writer with this much room: the status, whether a beginning is written, its length, the items handed
+/// The same over a writer that takes so much: the status, whether a beginning is written, its length, the items handed
 /// out, and the place of what the status says once power is on again.
-fn two_moves_in_room(alloc: Global, room: usize) -> Result<(u8, bool, usize, usize, usize), Fault> {
-    let (status, text, rig) = written_in_room(alloc, TWO_MOVES, room)?;
+fn two_moves_in(alloc: Global, capacity: usize) -> Result<(u8, bool, usize, usize, usize), Fault> {
+    let (status, text, rig) = written_in(alloc, TWO_MOVES, capacity)?;
     let items = rig.handed(rig.calls())?;
     let (_, shown, _) = answered(alloc, "status\n", rig);
     Ok((
@@ -271,10 +272,10 @@ fn two_moves_in_room(alloc: Global, room: usize) -> Result<(u8, bool, usize, usi
 /// ends.
 #[test]
 fn makes_no_tick_after_a_line_that_is_not_written(rt: HostRuntime) -> Result<(), Fail> {
-    for room in 13..27 {
-        let found = two_moves_in_room(rt.alloc(), room)?;
-        let (items, moves) = if room < 20 { (1, 0) } else { (3, 1) };
-        assert_eq!(rt; found, (2, true, room, items, moves), "{room}");
+    for capacity in 13..27 {
+        let found = two_moves_in(rt.alloc(), capacity)?;
+        let (items, moves) = if capacity < 20 { (1, 0) } else { (3, 1) };
+        assert_eq!(rt; found, (2, true, capacity, items, moves), "{capacity}");
     }
     Ok(())
 }

@@ -1,4 +1,4 @@
-//! A program for which the device has no room.
+//! A program that is longer than the device takes.
 use crate::devices::{formatted_of, give, rig_of, shown, started};
 use crate::failures::counting::Counting;
 use crate::rows::{Order, event_of};
@@ -9,7 +9,7 @@ use std::cell::Cell;
 use std::test::Fail;
 
 /// A device's sectors and the bytes of a program; how many writes and syncs its load makes: a write for each 512 bytes,
-/// and 92 more calls. None if it is refused because the device has no room for it.
+/// and 92 more calls. None if it is refused because it is too long for the device.
 const PROGRAMS: &[(usize, usize, Option<u64>)] = &[
     (1_710, 131_072, Some(348)),
     (1_710, 131_073, None),

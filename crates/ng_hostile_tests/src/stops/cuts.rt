@@ -2,7 +2,9 @@
 use crate::devices::{Device, LARGE, stands_for};
 use crate::rows::{Does, Row};
 use crate::standing::{Found, Standing};
-use crate::stops::devices::{Kept, PoweredOn, left_on, played, powered_on, standing_on, stopped};
+use crate::stops::devices::{
+    Durable, PoweredOn, left_on, played, powered_on, standing_on, stopped,
+};
 use crate::stops::recorder::Notes;
 use ng_num::Fault;
 use std::alloc::{AllocError, Global};
@@ -96,7 +98,7 @@ pub const SIZES: &[(usize, Depth)] = &[(1_710, Depth::Deep), (LARGE, Depth::Ends
 
 /// The stop after which the device stands for something else: after how many calls, and what it keeps; and, if it is a
 /// stop in the power on after that, how many calls come before that one.
-pub type Mismatch = Option<(usize, Kept, Option<usize>)>;
+pub type Mismatch = Option<(usize, Durable, Option<usize>)>;
 
 /// A device with its calls, and the stops that are tried.
 #[derive(Drop)]
@@ -144,11 +146,11 @@ impl Played {
         let mut mismatch = None;
         if is_first || is_over || !is_new {
             let is_deep = is_first && is_deep;
-            mismatch = self.mismatch(alloc, calls, Kept::None, choice, is_over, is_deep)?;
+            mismatch = self.mismatch(alloc, calls, Durable::None, choice, is_over, is_deep)?;
         }
         if mismatch.is_none() && (is_first || is_over || is_new) {
             let is_deep = is_new && is_deep;
-            mismatch = self.mismatch(alloc, calls, Kept::All, choice, is_over, is_deep)?;
+            mismatch = self.mismatch(alloc, calls, Durable::All, choice, is_over, is_deep)?;
         }
         if mismatch.is_some() || !is_new || self.cuts.depth == Depth::Whole {
             return Ok(mismatch);
@@ -169,7 +171,7 @@ impl Played {
         let Some(sector) = self.notes.sector(calls.saturating_sub(1)) else {
             return Ok(None);
         };
-        let mismatch = self.mismatch(alloc, calls, Kept::Only(sector), choice, is_over, false)?;
+        let mismatch = self.mismatch(alloc, calls, Durable::Only(sector), choice, is_over, false)?;
         if mismatch.is_some() || self.depth_at(calls) == Depth::Ends {
             return Ok(mismatch);
         }
@@ -187,8 +189,8 @@ impl Played {
     ) -> Result<Mismatch, Fault> {
         for call in self.notes.synced(calls)..calls.saturating_sub(1) {
             if let Some(sector) = self.notes.sector(call) {
-                let kept = Kept::AllBut(sector);
-                let mismatch = self.mismatch(alloc, calls, kept, choice, is_over, false)?;
+                let durable = Durable::AllBut(sector);
+                let mismatch = self.mismatch(alloc, calls, durable, choice, is_over, false)?;
                 if mismatch.is_some() {
                     return Ok(mismatch);
                 }
@@ -203,14 +205,14 @@ impl Played {
         &self,
         alloc: Global,
         calls: usize,
-        kept: Kept,
+        durable: Durable,
         choice: &Choice,
         is_over: bool,
         is_deep: bool,
     ) -> Result<Mismatch, Fault> {
-        let powered = powered_on(alloc, stopped(&self.rig, calls, kept)?)?;
+        let powered = powered_on(alloc, stopped(&self.rig, calls, durable)?)?;
         let wrong = wrong_stop(alloc, &powered, choice, is_over, is_deep)?;
-        Ok(wrong.map(|stop| (calls, kept, stop)))
+        Ok(wrong.map(|stop| (calls, durable, stop)))
     }
 
     /// The first stop that leaves something else, after `first` to `over` calls, the last of power on, and in these
@@ -288,7 +290,7 @@ fn first_mismatch_in_power_on(
 ) -> Result<Option<usize>, Fault> {
     for calls in 1..=notes.count() {
         if notes.ends_in_write(calls)
-            && !stands_for(alloc, stopped(rig, calls, Kept::All)?, wanted)?
+            && !stands_for(alloc, stopped(rig, calls, Durable::All)?, wanted)?
         {
             return Ok(Some(calls));
         }

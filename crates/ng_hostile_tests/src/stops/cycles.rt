@@ -3,7 +3,7 @@ use crate::devices::{Device, LARGE, copy_of, formatted_of, found_on, give, power
 use crate::rows::{Does, MOVED, Order, Row, event_of, reply_to};
 use crate::standing::Standing;
 use crate::stops::cuts::Choice;
-use crate::stops::devices::{Kept, stopped};
+use crate::stops::devices::{Durable, stopped};
 use ng_core::{Controller, Reply, Source};
 use ng_num::Fault;
 use ng_rig::{FuseRig, Rig};
@@ -104,13 +104,13 @@ fn left_after(
     choice: &mut Choice,
     calls: u64,
 ) -> Result<Device, Fault> {
-    let kept = if calls % 2 == 0 {
-        Kept::None
+    let durable = if calls % 2 == 0 {
+        Durable::None
     } else {
-        Kept::All
+        Durable::All
     };
     let rig = cut_after(alloc, rig, choice, calls)?;
-    Ok(stopped(&rig, usize::MAX, kept)?)
+    Ok(stopped(&rig, usize::MAX, durable)?)
 }
 
 /// Which of these states a device stands for.

@@ -12,7 +12,7 @@ use std::alloc::{AllocError, Global};
 
 /// Which of the sectors that are written but not synced a stop keeps.
 #[derive(Clone, Copy, Debug, PartialEq, Eq)]
-pub enum Kept {
+pub enum Durable {
     None,
     All,
     Only(usize),
@@ -20,12 +20,12 @@ pub enum Kept {
 }
 
 /// How many of its unsynced writes each sector keeps.
-fn writes_kept(kept: Kept) -> [usize; LARGE] {
-    let (sector, of_it, of_others) = match kept {
-        Kept::None => (0, 0, 0),
-        Kept::All => (0, usize::MAX, usize::MAX),
-        Kept::Only(sector) => (sector, usize::MAX, 0),
-        Kept::AllBut(sector) => (sector, 0, usize::MAX),
+fn durable_writes(durable: Durable) -> [usize; LARGE] {
+    let (sector, of_it, of_others) = match durable {
+        Durable::None => (0, 0, 0),
+        Durable::All => (0, usize::MAX, usize::MAX),
+        Durable::Only(sector) => (sector, usize::MAX, 0),
+        Durable::AllBut(sector) => (sector, 0, usize::MAX),
     };
     let mut writes = [of_others; LARGE];
     if let Some(it) = writes.get_mut(sector) {
@@ -35,8 +35,8 @@ fn writes_kept(kept: Kept) -> [usize; LARGE] {
 }
 
 /// The device as a cut of power after this many of its calls leaves it.
-pub fn stopped(rig: &Device, calls: usize, kept: Kept) -> Result<Device, AllocError> {
-    rig.stopped(calls, &writes_kept(kept))
+pub fn stopped(rig: &Device, calls: usize, durable: Durable) -> Result<Device, AllocError> {
+    rig.stopped(calls, &durable_writes(durable))
 }
 
 /// A device that was powered on with settings that have no tools: what was found, the calls for that, and the device,
@@ -99,7 +99,7 @@ pub fn played(
 /// The device that a session with these events over it leaves if its last call is a sync or a hand-out.
 pub fn left_by(alloc: Global, rig: Device, rows: &[Row], entries: u64) -> Result<Device, Fault> {
     let (rig, _) = played(alloc, rig, rows, entries)?;
-    Ok(stopped(&rig, usize::MAX, Kept::None)?)
+    Ok(stopped(&rig, usize::MAX, Durable::None)?)
 }
 
 /// A device with this many sectors after a session with these events; just formatted, if there are none.

@@ -6,7 +6,7 @@ use crate::devices::LARGE;
 use crate::old::{FILLING, of_format_1, of_format_1_with};
 use crate::scripts::AFTER_A_MIGRATION;
 use crate::stops::cuts::{Cuts, Depth, Mismatch, first_mismatch_in_migration};
-use crate::stops::devices::{Kept, played, stopped};
+use crate::stops::devices::{Durable, played, stopped};
 use ng_num::Fault;
 use std::alloc::Global;
 use std::test::Fail;
@@ -16,7 +16,7 @@ use std::test::Fail;
 fn counts(alloc: Global) -> Result<[[usize; 4]; 2], Fault> {
     let (rig, wanted) = of_format_1(alloc, 0)?;
     let (rig, first) = played(alloc, rig, &[], wanted.entries())?;
-    let rig = stopped(&rig, usize::MAX, Kept::None)?;
+    let rig = stopped(&rig, usize::MAX, Durable::None)?;
     let (_, second) = played(alloc, rig, &[], wanted.entries())?;
     Ok([first.counts(), second.counts()])
 }

@@ -4,18 +4,18 @@ use crate::stops::cuts::{Cuts, POWER_ON, SIZES, first_mismatch_on};
 use ng_core::Source;
 use std::test::Fail;
 
-const TURNS: &str = "M3 S1000";
+const SPINS: &str = "M3 S1000";
 
 const MOVES: &str = "G0 X0.005";
 
 /// The spindle is switched on, and the first segment of a move is opened.
 const CUT: &[Row] = &[
-    (Order::Mdi(TURNS), Does::Begins, 0),
-    (Order::Tick, Does::Opens(TURNS, Source::Mdi, 0), 2),
+    (Order::Mdi(SPINS), Does::Begins, 0),
+    (Order::Tick, Does::Opens(SPINS, Source::Mdi, 0), 2),
     MOVED,
-    (Order::Tick, Does::Opens(TURNS, Source::Mdi, 1), 2),
+    (Order::Tick, Does::Opens(SPINS, Source::Mdi, 1), 2),
     MOVED,
-    (Order::Tick, Does::Executes(TURNS, 0), 2),
+    (Order::Tick, Does::Executes(SPINS, 0), 2),
     (Order::Mdi(MOVES), Does::Begins, 0),
     (Order::Tick, Does::Opens(MOVES, Source::Mdi, 0), 2),
 ];

@@ -12,7 +12,7 @@ use Rattle.ng_layout.specs.Stored.{StoredModel, DurableState}
 use Rattle.ng_rig.specs.Continuation.{IsContinuation, IsSynced}
 use Rattle.ng_layout.specs.declared.header.Header.{Header}
 use Rattle.ng_layout.specs.Sectors.{program_text}
-use Rattle.ng_layout.specs.Header.{program_room, IsValidHeader}
+use Rattle.ng_layout.specs.Header.{program_limit_of, IsValidHeader}
 use Rattle.ng_layout.specs.Stands.{is_large, stretch, program_under, in_force, snapshot, stands, IsWritten}
 use Rattle.ng_log.specs.AtEnd.{replay_state_in}
 use Rattle.ng_journal.specs.AtRest.{BelongsToAreas, BelongsTo, IsLaidOut}
@@ -46,7 +46,7 @@ pub record BeginsIn (image : Image) (header : Header) (standing : DurableState) 
       (stretch (tools_first header.epoch) tools_size image) ≡ Some (replay_state_in standing.saved)
   pub program : program_under header image ≡ standing.program
   pub long : standing.saved.length ≡ header.length
-  pub room : standing.saved.room ≡ program_room (is_large image)
+  pub program_limit : standing.saved.program_limit ≡ program_limit_of (is_large image)
 
 -- the device has one image, and it is such an image
 pub record IsBegun (trace : Trace) (header : Header) (standing : DurableState) : Type 0 where
@@ -59,10 +59,10 @@ pub record IsOwnImage (trace : Trace) (header : Header) : Type 0 where
   pub force : in_force (reads trace) ≡ Some header
   pub written : IsWritten (reads trace)
 
--- A device with this image may have the header, and the room for a program is the device's.
+-- A device with this image may have the header, and the program limit is the device's.
 pub record FitsDevice (image : Image) (header : Header) (saved : StoredModel) : Type 0 where
   pub valid : IsValidHeader (is_large image) header
-  pub limit : saved.room ≡ program_room (is_large image)
+  pub program_limit : saved.program_limit ≡ program_limit_of (is_large image)
 
 -- what is stored, with the program in an area of an image
 abbrev pub beside : StoredModel → ℕ → Image → DurableState

@@ -4,14 +4,14 @@ use Rattle.ng_layout.specs.Limits.{sector_size}
 use Rattle.ng_text.specs.Split.{HasNoNewline}
 
 -- The first n bytes of a text have no newline. As many of them are kept as a line may have, and one more.
-pub record KeepsLineFront (rest : List ℕ) (n : ℕ) (kept : List ℕ) : Type 0 where
+pub record KeepsLineFront (rest : List ℕ) (n : ℕ) (head : List ℕ) : Type 0 where
   pub plain : HasNoNewline (take n rest)
-  pub kept_is : kept ≡ take 257 (take n rest)
+  pub head_is : head ≡ take 257 (take n rest)
 
 -- the first newline of a text comes after these bytes, which are kept; if there is no newline, all bytes are kept
 abbrev pub IsEnd : List ℕ → List ℕ → Option ℕ → Type 0
-IsEnd rest kept (Some n) = KeepsLineFront rest n kept × (n < length rest) × (slice_index rest n ≡ 10)
-IsEnd rest kept None = KeepsLineFront rest (length rest) kept
+IsEnd rest head (Some n) = KeepsLineFront rest n head × (n < length rest) × (slice_index rest n ≡ 10)
+IsEnd rest head None = KeepsLineFront rest (length rest) head
 
 -- A part of a text from a place on. It begins where the bytes of a sector begin, or at the place, and goes on to the
 -- end of the sector or of the text.

@@ -8,7 +8,7 @@ use Rattle.ng_rig.specs.Only.{WritesOnly}
 use Rattle.ng_layout.specs.declared.header.Format.{Format}
 use Rattle.ng_layout.specs.declared.header.Format.TheVariants.{One, Two}
 use Rattle.ng_layout.specs.declared.header.Header.{Header}
-use Rattle.ng_layout.specs.Header.{program_room, IsValidHeader}
+use Rattle.ng_layout.specs.Header.{program_limit_of, IsValidHeader}
 use Rattle.ng_layout.specs.Limits.{greatest_count}
 use Rattle.ng_layout.specs.Storable.{IsStorable}
 use Rattle.ng_layout.specs.Stands.{is_large, in_force, stands, stands_beside, beside_format, saved_beside, IsWritten}
@@ -36,7 +36,7 @@ pub record StandsUnder (header : Header) (saved : StoredModel) (image : Image) :
   pub force : in_force image ≡ Some header
   pub state : stands image ≡ Ok (beside saved header.area image)
   pub long : saved.length ≡ header.length
-  pub room : saved.room ≡ program_room (is_large image)
+  pub program_limit : saved.program_limit ≡ program_limit_of (is_large image)
 
 -- what the reads found
 abbrev pub IsRead : StoredModel → Image → Result Header Fault → Type 0
@@ -68,7 +68,7 @@ pub record RestoreSpec {E : Type 0} (tools : List ℤ) (result : Result (Result 
   pub renews : Renews tools old new
   pub laid : IfOk result (λ answer. IfOk answer (λ header. IsLaidOut header saved (reads new)))
   pub synced : IfOk result (λ answer. OnOk answer (IsSynced new))
-  pub kept : IsWritten (reads old) → KeepsStanding tools result saved old new
+  pub keeps : IsWritten (reads old) → KeepsStanding tools result saved old new
 
 -- what a header becomes in format 2
 abbrev pub modern_by : Format → Header → Header

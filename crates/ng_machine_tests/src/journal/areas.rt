@@ -175,7 +175,7 @@ const J5: Result<(), Fault> = Err(Fault::ProgramTooLong);
 
 /// A device's sectors, the program area in force, and the bytes of a program; what its load returns, how many writes
 /// and syncs it makes, and the area in force then. It writes a sector for each 512 bytes, and then 89; if the device
-/// has no room for the program, nothing.
+/// takes no such program, nothing.
 type Loaded = (usize, i64, usize, Result<(), Fault>, [u64; 2], i64);
 
 const LOADS: &[Loaded] = &[
@@ -308,7 +308,7 @@ fn loaded(alloc: Global, row: &Loaded) -> Result<Found, Fail> {
 
 /// Power on makes 91 reads, 89 writes and 3 syncs before it.
 #[test]
-fn a_program_for_which_the_device_has_room(rt: HostRuntime) -> Result<(), Fail> {
+fn a_program_that_the_device_takes(rt: HostRuntime) -> Result<(), Fail> {
     for row in LOADS {
         let (_, _, _, answer, [writes, syncs], _) = *row;
         let counts = [91, writes.saturating_add(89), syncs.saturating_add(3)];
@@ -468,7 +468,7 @@ fn is_line(read: &Option<ProgramLine>, place: u64) -> bool {
 }
 
 /// The first such line in a program of 1,048,576 bytes in this area, starting with the last line for which a smaller
-/// area has room.
+/// area takes.
 fn first_wrong_line_in(alloc: Global, area: i64) -> Result<Option<u64>, Fail> {
     let mill = Mill::on(alloc, written(alloc, area, 1_048_576)?)?;
     Ok(first_wrong_line(mill, 8_191, 65_536)?)

@@ -89,7 +89,7 @@ fn format_leaves_a_fresh_controller(rt: HostRuntime) -> Result<(), Fail> {
 
 /// Which unsynced writes a stop keeps, by how many of each sector: none, all, or only that of the header of epoch 1;
 /// and how many stops of a format leave that header: the last one, and also the one before its sync if it is kept.
-const KEPT: &[(&[usize], usize)] = &[(&[], 1), (&[1; 1_711], 2), (&[0, 1], 2)];
+const DURABLE: &[(&[usize], usize)] = &[(&[], 1), (&[1; 1_711], 2), (&[0, 1], 2)];
 
 /// The first sector of a device with the header of epoch 1 that differs from one made by hand. `None` also if the
 /// header isn't there.
@@ -129,7 +129,7 @@ fn stops_with_header(
 /// leaves it.
 #[test]
 fn a_stopped_format_leaves_no_header_too_early(rt: HostRuntime) -> Result<(), Fail> {
-    for (keep, stops) in KEPT {
+    for (keep, stops) in DURABLE {
         assert_eq!(rt;
             stops_with_header(rt.alloc(), keep)?,
             (*stops, None),

@@ -96,16 +96,16 @@ fn calls(sectors: usize) -> [usize; 12] {
 }
 
 /// Of two consecutive sectors, the even one first: which of them a stop keeps if they aren't synced.
-type Kept = (bool, bool);
+type Durable = (bool, bool);
 
-const KEPT: [Kept; 4] = [(false, false), (true, true), (true, false), (false, true)];
+const DURABLE: [Durable; 4] = [(false, false), (true, true), (true, false), (false, true)];
 
 /// How many writes of each sector a stop keeps.
-fn writes_kept((is_even, is_odd): Kept) -> [usize; 5_806] {
+fn durable_writes((is_even, is_odd): Durable) -> [usize; 5_806] {
     let mut writes = [0; 5_806];
-    for (sector, kept) in writes.iter_mut().enumerate() {
-        let is_kept = if sector % 2 == 0 { is_even } else { is_odd };
-        *kept = if is_kept { usize::MAX } else { 0 };
+    for (sector, durable) in writes.iter_mut().enumerate() {
+        let is_durable = if sector % 2 == 0 { is_even } else { is_odd };
+        *durable = if is_durable { usize::MAX } else { 0 };
     }
     writes
 }
@@ -118,21 +118,21 @@ fn first_mismatch_after(
     rig: &MemoryRig<Global>,
     row: &Row,
     calls: usize,
-) -> Result<Option<Kept>, Fail> {
+) -> Result<Option<Durable>, Fail> {
     let header = row.3.div_ceil(512).saturating_add(91);
-    for kept in KEPT {
-        let stop = rig.stopped(calls.saturating_add(92), &writes_kept(kept))?;
-        let is_new = calls > header || calls == header && kept.1;
+    for durable in DURABLE {
+        let stop = rig.stopped(calls.saturating_add(92), &durable_writes(durable))?;
+        let is_new = calls > header || calls == header && durable.1;
         let wanted = if is_new { Stands::New } else { Stands::Old };
         if standing(alloc, stop, row)? != wanted {
-            return Ok(Some(kept));
+            return Ok(Some(durable));
         }
     }
     Ok(None)
 }
 
 /// The first such stop of a load.
-fn first_mismatch(alloc: Global, row: &Row) -> Result<Option<(usize, Kept)>, Fail> {
+fn first_mismatch(alloc: Global, row: &Row) -> Result<Option<(usize, Durable)>, Fail> {
     let (area, length, _, next) = *row;
     let rig = written(alloc, area, bytes_of(length))?.stopped(usize::MAX, &[])?;
     let (done, _, rig) = load(alloc, rig, next)?;
@@ -140,8 +140,8 @@ fn first_mismatch(alloc: Global, row: &Row) -> Result<Option<(usize, Kept)>, Fai
         return Err(Fail::from("a program isn't loaded"));
     }
     for calls in calls(next.div_ceil(512)) {
-        if let Some(kept) = first_mismatch_after(alloc, &rig, row, calls)? {
-            return Ok(Some((calls, kept)));
+        if let Some(durable) = first_mismatch_after(alloc, &rig, row, calls)? {
+            return Ok(Some((calls, durable)));
         }
     }
     Ok(None)

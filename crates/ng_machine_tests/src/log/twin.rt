@@ -63,7 +63,7 @@ fn enter(stored: &mut Stored<Global>, entry: (i64, i64, i64, i64, u64), half: Op
     requires waits { IfSome half IsStorableHalf }
     ensures storable { IsStorable stored.new }
     ensures program { stored.new.length ≡ stored.old.length }
-    ensures room { stored.new.room ≡ stored.old.room }
+    ensures program_limit { stored.new.program_limit ≡ stored.old.program_limit }
     ensures tools { stored.new.tools ≡ stored.old.tools }
 {
     let (first, count, value, x, place) = entry;
@@ -81,7 +81,7 @@ struct Plain {
     header: Header,
     stored: Stored<Global>,
     ghost storable: { IsStorable stored } by { Prim.hlevel props },
-    ghost room: { 13 ≤ stored.room },
+    ghost program_limit: { 13 ≤ stored.program_limit },
 }
 
 /// Writes what is stored as a snapshot under this header, in format 2 with its tool area, and then the header.
@@ -249,7 +249,7 @@ impl Mill<MemoryRig<Global>> {
     }
 }
 
-const TURN: &[u8; 13] = b"M3\nG1 X1\nM2\n\n";
+const SPIN: &[u8; 13] = b"M3\nG1 X1\nM2\n\n";
 
 const MOVE: &[u8; 13] = b"G0 X0.002\nM2\n";
 
@@ -262,7 +262,7 @@ const OPERATIONS: &[Operation] = &[
     Operation::Segment(0),
     Operation::Entry(1, 49, 1_000_000, -7, 0),
     Operation::Entry(1, 49, 1_000_000, -7, 0),
-    Operation::Load(TURN),
+    Operation::Load(SPIN),
     Operation::Tool(2, 1_000_000_000),
     Operation::Segment(0),
     Operation::Entry(5_220, 1, 2_000_000, 8, 3),
@@ -292,7 +292,7 @@ const OPERATIONS: &[Operation] = &[
     Operation::Segment(1),
     Operation::PowerOn,
     Operation::Entry(2, 1, 14, 2, 0),
-    Operation::Load(TURN),
+    Operation::Load(SPIN),
 ];
 
 /// The device with this many sectors that the journal leaves after these operations.

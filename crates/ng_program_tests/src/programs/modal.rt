@@ -26,21 +26,21 @@ fn a_whole_line_has_its_segments_in_the_order_of_the_steps(rt: HostRuntime) -> R
         spindle_slot: 1,
         ..selected
     };
-    let turning = Outputs {
+    let spinning = Outputs {
         spindle: Spindle::Clockwise,
         ..changed
     };
     let dry = Outputs {
         mist: false,
         flood: false,
-        ..turning
+        ..spinning
     };
     let ended = Outputs {
         spindle: Spindle::Stopped,
         ..dry
     };
     let mut segments = effect.segments();
-    for outputs in [speed, selected, changed, turning, dry] {
+    for outputs in [speed, selected, changed, spinning, dry] {
         assert_eq!(rt; segments.next(), Some(Segment::Switch(outputs)));
         assert_eq!(rt; segments.outputs(), outputs);
     }

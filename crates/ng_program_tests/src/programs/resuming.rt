@@ -227,12 +227,12 @@ fn push_segment(text: &mut String<Global>, alloc: Global, segment: &Segment) -> 
 
 /// The text of what holds where a block continues.
 fn resumed_text(alloc: Global, resumed: Resumed) -> Text {
-    let standing = resumed.standing;
+    let motion_state = resumed.motion_state;
     let mut block_segments = resumed.block_segments;
     let mut text = String::new(alloc);
-    push_point(&mut text, alloc, &standing.point)?;
+    push_point(&mut text, alloc, &motion_state.point)?;
     text.push_str(" ")?;
-    text.push_str(spindle_text(standing.outputs.spindle))?;
+    text.push_str(spindle_text(motion_state.outputs.spindle))?;
     text.push_str(", ")?;
     match block_segments.next() {
         Some(segment) => push_segment(&mut text, alloc, &segment)?,

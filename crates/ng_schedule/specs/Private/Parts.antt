@@ -9,7 +9,7 @@ use Rattle.ng_pace.specs.Stream.{Flow, all_items}
 use Rattle.ng_pace.specs.Rest.{CanRest}
 use Rattle.ng_pace.specs.Run.{Event, IsRun, lines_given}
 use Rattle.ng_pace.specs.declared.limits.Limits.{Limits}
-use Rattle.ng_schedule.specs.Schedule.{AreNeverSooner, ArePaced, AskAtEnd, AskForMost, AskWhereFull, room}
+use Rattle.ng_schedule.specs.Schedule.{AreNeverSooner, ArePaced, AskAtEnd, AskForMost, AskWhereFull, capacity}
 use Rattle.ng_schedule.specs.Schedule.{BeginsNoLine, Timed, lines_of, span, timed_text, times_of}
 use Rattle.ng_schedule.specs.declared.ending.Shown.{Shown}
 use Rattle.ng_schedule.specs.declared.ending.Halt.{Halt}
@@ -32,11 +32,11 @@ AskLateSoFar true events = AskAtEnd events
 pub record IsStreamed (ended : Bool) (limits : Limits) (timed : List Timed) (flow : Flow) : Type 0 where
   pub first : Flow
   pub events : List Event
-  pub empty : IsEmpty first limits room
+  pub empty : IsEmpty first limits capacity
   pub run : IsRun first events flow
   pub haste : AskForMost events
   pub late : AskLateSoFar ended events
-  pub room_is : flow.motion.room ≡ room
+  pub capacity_is : flow.motion.capacity ≡ capacity
   pub times : timed ≡ times_of (lines_given events)
   pub percent : flow.motion.percent ≡ limits.most_percent
   pub rests : CanRest flow.motion.square flow.motion.known
@@ -49,17 +49,17 @@ pub record HasGiven (percent : ℕ) (shown : Shown) (old new : Option (List ℕ)
   pub waits : timed_text shown 0 timed ≡ out ++ text
 
 -- of the bytes so far: those that are given, those that are known, and the beginning of a line
-pub record IsAt {Z : Type 0} (ended : Bool) (limits : Limits) (old new : Option (List ℕ)) (bytes kept : List ℕ) (s : Schedule Z) : Type 0 where
+pub record IsAt {Z : Type 0} (ended : Bool) (limits : Limits) (old new : Option (List ℕ)) (bytes partial : List ℕ) (s : Schedule Z) : Type 0 where
   pub timed : List Timed
   pub given : HasGiven limits.most_percent s.shown old new timed s.text.items
   pub streamed : IsStreamed ended limits timed s.stream
-  pub lines : bytes ≡ (lines_of timed ++ item_lines (all_items s.stream)) ++ kept
+  pub lines : bytes ≡ (lines_of timed ++ item_lines (all_items s.stream)) ++ partial
   pub due : s.due_ns ≡ span timed
   pub number : s.number ≡ length timed + 1
 
 -- the same, as long as lines may still come
 abbrev pub IsUnderWay : {Z : Type 0} → Limits → Option (List ℕ) → Option (List ℕ) → List ℕ → List ℕ → Schedule Z → Type 0
-IsUnderWay limits old new bytes kept s = IsAt false limits old new bytes kept s
+IsUnderWay limits old new bytes partial s = IsAt false limits old new bytes partial s
 
 -- what follows all that is known isn't a line, whatever comes
 pub record IsStopped {Z : Type 0} (limits : Limits) (old new : Option (List ℕ)) (bytes : List ℕ) (s : Schedule Z) : Type 0 where
@@ -110,18 +110,18 @@ StopSpec limits old new bytes s (stop.Halted why) = HaltSpec limits old new byte
 
 -- a step that gave lines, where the beginning of a line is kept
 abbrev pub GiveSpec : {Z T : Type 0} → Bool → Limits → Option (List ℕ) → Option (List ℕ) → List ℕ → List ℕ → Schedule Z → Result T Halt → Type 0
-GiveSpec ended limits old new bytes kept s (Ok x) = IsAt ended limits old new bytes kept s
-GiveSpec ended limits old new bytes kept s (Err why) = HaltSpec limits old new bytes s why
+GiveSpec ended limits old new bytes partial s (Ok x) = IsAt ended limits old new bytes partial s
+GiveSpec ended limits old new bytes partial s (Err why) = HaltSpec limits old new bytes s why
 
 -- a step that took bytes, and keeps the beginning of a line
 abbrev pub TakeSpec : {Z T : Type 0} → Limits → Option (List ℕ) → Option (List ℕ) → List ℕ → List ℕ → Schedule Z → Result T Stop → Type 0
-TakeSpec limits old new bytes kept s (Ok x) = IsUnderWay limits old new bytes kept s
-TakeSpec limits old new bytes kept s (Err why) = StopSpec limits old new bytes s why
+TakeSpec limits old new bytes partial s (Ok x) = IsUnderWay limits old new bytes partial s
+TakeSpec limits old new bytes partial s (Err why) = StopSpec limits old new bytes s why
 
--- there is no room for one more line
+-- one more line doesn't fit
 abbrev pub IsFull : {Z : Type 0} → Schedule Z → Type 0
-IsFull s = s.stream.motion.room ≤ length s.stream.motion.known + length s.stream.waiting
+IsFull s = s.stream.motion.capacity ≤ length s.stream.motion.known + length s.stream.waiting
 
--- there is room for one more line
-abbrev pub HasRoom : {Z : Type 0} → Schedule Z → Type 0
-HasRoom s = length s.stream.motion.known + length s.stream.waiting < s.stream.motion.room
+-- one more line fits
+abbrev pub IsNotFull : {Z : Type 0} → Schedule Z → Type 0
+IsNotFull s = length s.stream.motion.known + length s.stream.waiting < s.stream.motion.capacity

@@ -23,7 +23,7 @@ outer_at p m = p.outer + m * p.outer_step
 pub record OnWay (p : QuadrantSweep) (j m : ℕ) : Type 0 where
   pub inside : j * p.inner_step < p.inner
   pub entered : (j ≡ 0) ⊎ (p.square < norm (inner_at p (j - 1)) (outer_at p m))
-  pub kept : (k : ℕ) → k < m → norm (inner_at p j) (outer_at p k) ≤ p.square
+  pub stayed : (k : ℕ) → k < m → norm (inner_at p j) (outer_at p k) ≤ p.square
 
 -- from here an inward step leaves the quadrant
 pub record IsLast (p : QuadrantSweep) (way : SweepSteps) : Type 0 where

@@ -81,7 +81,7 @@ impl ArcWalk {
         requires walks { Walks self.now }
         requires from { PassesFrom self.now passage }
         requires last { IsLast passage last }
-        requires room { outer_at passage last.outward ≤ beyond }
+        requires fits { outer_at passage last.outward ≤ beyond }
         ensures walks { Walks result.walk }
         ensures circle { result.walk.circle ≡ self.now.circle }
         ensures leads { (e : PlanePoint) (left : ℕ) → 0 < left
@@ -108,7 +108,7 @@ impl ArcWalk {
         requires walks { Walks self.now }
         requires from { PassesFrom self.now passage }
         requires inside { way.inward * passage.inner_step < passage.inner }
-        requires room { outer_at passage way.outward ≤ beyond }
+        requires fits { outer_at passage way.outward ≤ beyond }
         ensures walks { Walks result.walk }
         ensures circle { result.walk.circle ≡ self.now.circle }
         ensures quadrant { result.walk.quadrant ≡ self.now.quadrant }
@@ -159,7 +159,7 @@ impl ArcWalk {
         requires walks { Walks self.now }
         requires from { PassesFrom self.now passage }
         requires last { IsLast passage last }
-        requires room { outer_at passage last.outward ≤ beyond }
+        requires fits { outer_at passage last.outward ≤ beyond }
         requires end_a { unsigned_abs end.a < 2 ^ 50 }
         requires end_b { unsigned_abs end.b < 2 ^ 50 }
         requires before { stops end 1 (spot_of self.now) ≡ false }
@@ -167,7 +167,7 @@ impl ArcWalk {
             (NeverStopsUntil end 1 self.now (inner_at passage last.inward) (outer_at passage last.outward))
             (λ way. StopsAt end self.now passage way) }
         ensures inside { IfSome result (λ way. way.inward * passage.inner_step < passage.inner) }
-        ensures room { IfSome result (λ way. outer_at passage way.outward ≤ beyond) }
+        ensures fits { IfSome result (λ way. outer_at passage way.outward ≤ beyond) }
     {
         let ahead = self.ahead(end)?;
         if passage.ends_past(last, ahead) {

@@ -8,7 +8,7 @@ use Rattle.ng_words.specs.Grammar.{Tree, level, Piece, word, assignment, comment
 use Rattle.ng_words.specs.Value.{Waiting, index, brackets, function, left, openings, entry_at, WalkPosition}
 use Rattle.ng_words.specs.Value.{before, after, settled_value, gathered, closed, step_at, value_at}
 use Rattle.ng_words.specs.Pieces.{comment_at, set_at, piece_at, pieces_at}
-use Rattle.ng_words.specs.Kept.{postfix, item_of, nodes_of, bytes_of, PieceStore, EncodesPieces}
+use Rattle.ng_words.specs.LineStorage.{postfix, item_of, nodes_of, bytes_of, PieceStore, EncodesPieces}
 use Rattle.ng_words.specs.declared.tree.Operation.{Operation}
 use Rattle.ng_words.specs.declared.tree.Function.{Function}
 use Rattle.ng_words.specs.declared.letter.Letter.{Letter}

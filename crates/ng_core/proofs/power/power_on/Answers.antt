@@ -21,7 +21,7 @@ returns-clause-gives g c =
     let journal = c.in_ok-journal.ensures.journal in
     let stored = ap (λ (s : SessionModel). s.stored) c.new.ensures in
     record {
-      powers = λ room tools table. meaning (c.in_ok-journal.ensures.recovers room tools table)
+      powers = λ least tools table. meaning (c.in_ok-journal.ensures.recovers least tools table)
           (λ r. powered tools c.in_ok-journal.journal c.in_ok-journal.stored c.new.result c.in-Ok.lines geometry _ _ stored journal.1 c.in-Ok.ensures.holds r);
       rests = (journal.0, c.new.ensures ∙ ap (λ x. resting x) (sym journal.1), subst IsStorable (sym stored) journal.2);
       geometry = refl;
@@ -35,7 +35,7 @@ returns-clause-gives g c =
 -- without memory the device isn't called
 pub returns-in-Err-clause-gives : goal.returns-in-Err-clause-gives
 returns-in-Err-clause-gives g c = record {
-  powers = λ room tools table.
+  powers = λ least tools table.
       promised (record {
         recovers = recovered_nothing tools c.args.rig (g.R.Rig.seen c.args.rig).trace;
         rests =
@@ -62,7 +62,7 @@ pub returns-in_err-journal-clause-gives : goal.returns-in_err-journal-clause-giv
 returns-in_err-journal-clause-gives g c =
     let told = c.in_err-journal.ensures in
     gave g.R.Rig.seen c.args.settings c.args.rig c.in_err-journal.field-0.0 c.from_residual.result c.from_residual.ensures.1 (record {
-      powers = λ room tools table. meaning (told.recovers room tools table) (λ r. record { recovers = r; rests = λ written. tt; force = tt });
+      powers = λ least tools table. meaning (told.recovers least tools table) (λ r. record { recovers = r; rests = λ written. tt; force = tt });
       rests = tt;
       geometry = tt;
       small = told.small;
@@ -73,9 +73,9 @@ returns-in_err-journal-clause-gives g c =
     })
 
 pub returns-clause-past : goal.returns-clause-past
-returns-clause-past g c = λ room tools table.
+returns-clause-past g c = λ least tools table.
     let journal = c.in_ok-journal.ensures.journal in
-    meaning ((returns-clause-gives g c).powers room tools table)
+    meaning ((returns-clause-gives g c).powers least tools table)
     (λ p. begins_past _ tools g.R.Rig.seen _ (g.R.Rig.seen c.args.rig).trace _ (refl, journal.0, c.new.ensures ∙ ap (λ x. resting x) (sym journal.1)) p)
 
 -- a fault begins no past
@@ -85,6 +85,6 @@ none_begun A tools seen e (Ok c) old is = absurd is
 none_begun A tools seen e (Err f) old is = λ written. tt
 
 pub returns-in_err-journal-clause-past : goal.returns-in_err-journal-clause-past
-returns-in_err-journal-clause-past g c = λ room tools table.
-    meaning ((returns-in_err-journal-clause-gives g c).powers room tools table)
+returns-in_err-journal-clause-past g c = λ least tools table.
+    meaning ((returns-in_err-journal-clause-gives g c).powers least tools table)
     (λ p. none_begun _ tools g.R.Rig.seen c.in_err-journal.field-0.0 c.from_residual.result (g.R.Rig.seen c.args.rig).trace c.from_residual.ensures.1)

@@ -39,7 +39,7 @@ close-controller-requires g c =
     let all : All P made = λ k d within. ap (λ (s : Seated Global). s.parts) (c.in-Ok.ensures.seats.1 k d within) in
     let popped : made ≡ others ++ c.in-Some-Some.second ∷ [] = c.in-Some-Some.ensures.items in
     let popped_first : others ≡ rest ++ c.in-Some-Some.first ∷ [] = c.in-Some-Some.ensures'.items in
-    let kept = (All-pop P others rest (Some c.in-Some-Some.first) popped_first (All-pop P made others (Some c.in-Some-Some.second) popped all).0).0 in
+    let others_hold = (All-pop P others rest (Some c.in-Some-Some.first) popped_first (All-pop P made others (Some c.in-Some-Some.second) popped all).0).0 in
     let pushed : c.push_reserved.new.self.items ≡ rest ++ c.call.new.seat ∷ [] = c.push_reserved.ensures.items in
     let whole : c.push_reserved-2.new.self.items ≡ c.push_reserved.new.self.items ++ c.retell.new.seat ∷ [] = c.push_reserved-2.ensures.items in
     let size : length made ≡ length others + 1 = ap (λ (l : List (Seated Global)). length l) popped ∙ length_push others c.in-Some-Some.second in
@@ -52,6 +52,6 @@ close-controller-requires g c =
       omega (arith, size, size_rest, size_pushed, size_whole, c.in-Ok.ensures.seats.0, c.requires.parts.1),
       subst (λ (l : List (Seated Global)). All P l) (sym whole)
           (All-push P c.push_reserved.new.self.items c.retell.new.seat
-          (subst (λ (l : List (Seated Global)). All P l) (sym pushed) (All-push P rest c.call.new.seat kept c.call.ensures.seat))
+          (subst (λ (l : List (Seated Global)). All P l) (sym pushed) (All-push P rest c.call.new.seat others_hold c.call.ensures.seat))
           (c.retell.ensures ∙ c.call-2.ensures.seat)),
     )

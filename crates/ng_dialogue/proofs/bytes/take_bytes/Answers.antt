@@ -27,7 +27,7 @@ loop-left-preserved g c =
       so_far.0 ++ front,
       step_on old now (g.R.Read.remaining c.fill.new.reader) so_far.0 front c.fill.new.self after so_far.1 c.fill.ensures.keeps on going_on parts,
       omega (arith, sum, count, so_far.2, c.min-taken.ensures),
-      λ e. let both = c.keep_on-kept.ensures e in both.1 ∙ ap (λ l. l ++ front) (so_far.3 both.0),
+      λ e. let both = c.keep_on-head.ensures e in both.1 ∙ ap (λ l. l ++ front) (so_far.3 both.0),
       λ before. holds_on after (g.R.Read.remaining c.fill.new.reader) going_on,
       λ ended.
           let still = ended_still c.args.input.now c.loop-left.input (so_far.5 ended).0 ended in
@@ -51,16 +51,16 @@ returns-then-not-branch-clause-bytes g c =
     let over = text_over c.fill.new.self (g.R.Read.remaining c.fill.new.reader) (c.in_ok-fill.ensures.end stop).1 in
     (so_far.0, taken_still old now new so_far.0 so_far.1 c.fill.ensures.keeps, omega (arith, so_far.2), over)
 
-pub returns-then-has_room-clause-bytes : goal.returns-then-has_room-clause-bytes
-returns-then-has_room-clause-bytes g c =
+pub returns-then-has_memory-clause-bytes : goal.returns-then-has_memory-clause-bytes
+returns-then-has_memory-clause-bytes g c =
     let so_far = c.loop-left.invariant in
     let old = text_left c.args.input.now (g.R.Read.remaining c.args.reader.now) in
     let now = text_left c.loop-left.input (g.R.Read.remaining c.loop-left.reader) in
-    let is = so_far.3 c.if-has_room.true in
+    let is = so_far.3 c.if-has_memory.true in
     let P : List ℕ → Type 0 = λ l. Consumes old now l in
     (subst P (sym is) so_far.1, omega (arith, ap length is, so_far.2))
 
-pub returns-else-has_room-clause-bytes : goal.returns-else-has_room-clause-bytes
-returns-else-has_room-clause-bytes g c =
+pub returns-else-has_memory-clause-bytes : goal.returns-else-has_memory-clause-bytes
+returns-else-has_memory-clause-bytes g c =
     let so_far = c.loop-left.invariant in
     (so_far.0, so_far.1, omega (arith, so_far.2))

@@ -3,7 +3,7 @@ use Rattle.ng_dialogue.specs.Waiting.{text_left}
 use Rattle.ng_session.specs.declared.event.Event.TheVariants as event
 use Rattle.ng_dialogue.specs.Reading.{TakesBytes}
 use Rattle.ng_dialogue.specs.declared.bytes.TakenBytes.{TakenBytes}
-use Rattle.ng_dialogue.specs.declared.bytes.TakenBytes.TheVariants.{Whole, NoRoom, Cut}
+use Rattle.ng_dialogue.specs.declared.bytes.TakenBytes.TheVariants.{Whole, NoMemory, Cut}
 use Rattle.ng_dialogue.specs.declared.order.Order.TheVariants.{Give}
 use Rattle.ng_dialogue.proofs.HeardOrderLemmas.{taken_short, taken_whole}
 use Rattle.ng_dialogue.proofs.hearing.load.Goals as goal
@@ -17,13 +17,13 @@ returns-in-Whole-clause-order g c =
     let got : P Whole = subst P is c.in_ok-take_bytes.ensures.bytes in
     taken_whole old new c.args.length c.take_bytes.new.text.items _ got.0 got.1 (inl (ap (λ l. Give (event.Load l)) c.of.ensures))
 
-pub returns-in-NoRoom-clause-order : goal.returns-in-NoRoom-clause-order
-returns-in-NoRoom-clause-order g c =
+pub returns-in-NoMemory-clause-order : goal.returns-in-NoMemory-clause-order
+returns-in-NoMemory-clause-order g c =
     let old = text_left c.args.input.now (g.R.Read.remaining c.args.reader.now) in
     let new = text_left c.take_bytes.new.input (g.R.Read.remaining c.take_bytes.new.reader) in
     let P : TakenBytes → Type 0 = λ p. TakesBytes c.args.length old new c.take_bytes.new.text.items p in
-    let is : c.in_ok-take_bytes.field-0 ≡ NoRoom = cc in
-    let got : P NoRoom = subst P is c.in_ok-take_bytes.ensures.bytes in
+    let is : c.in_ok-take_bytes.field-0 ≡ NoMemory = cc in
+    let got : P NoMemory = subst P is c.in_ok-take_bytes.ensures.bytes in
     taken_whole old new c.args.length got.0 _ got.1 got.2 (inr refl)
 
 pub returns-in-Cut-clause-order : goal.returns-in-Cut-clause-order

@@ -7,20 +7,20 @@ use Rattle.ng_dialogue.proofs.listening.next_line.Goals as goal
 
 pub returns-then-not-branch-clause-some : goal.returns-then-not-branch-clause-some
 returns-then-not-branch-clause-some g c =
-    let so_far = c.loop-turn.invariant in
+    let so_far = c.loop-pass.invariant in
     let old = text_left c.args.input.now (g.R.Read.remaining c.args.reader.now) in
-    let now = text_left c.loop-turn.input (g.R.Read.remaining c.loop-turn.reader) in
+    let now = text_left c.loop-pass.input (g.R.Read.remaining c.loop-pass.reader) in
     let new = text_left c.fill.new.self (g.R.Read.remaining c.fill.new.reader) in
     let stop : c.in_ok-fill.field-0 ≡ false = search rules in
     let over = text_over c.fill.new.self (g.R.Read.remaining c.fill.new.reader) (c.in_ok-fill.ensures.end stop).1 in
-    λ more. last_line old now new 301 so_far.0 c.loop-turn.line.items so_far.3 c.fill.ensures.keeps over so_far.1
-    (some_passed c.loop-turn.line.items so_far.0 c.is_empty.result c.is_empty.ensures more so_far.2) so_far.2
+    λ more. last_line old now new 301 so_far.0 c.loop-pass.line.items so_far.3 c.fill.ensures.keeps over so_far.1
+    (some_passed c.loop-pass.line.items so_far.0 c.is_empty.result c.is_empty.ensures more so_far.2) so_far.2
 
 pub returns-in-Some-clause-some : goal.returns-in-Some-clause-some
 returns-in-Some-clause-some g c =
-    let so_far = c.loop-turn.invariant in
+    let so_far = c.loop-pass.invariant in
     let old = text_left c.args.input.now (g.R.Read.remaining c.args.reader.now) in
-    let now = text_left c.loop-turn.input (g.R.Read.remaining c.loop-turn.reader) in
+    let now = text_left c.loop-pass.input (g.R.Read.remaining c.loop-pass.reader) in
     let front = c.in-Some.front.now in
     let rest = c.in-Some.field-0-1.now in
     let going : c.in_ok-fill.field-0 ≡ true = search rules in
@@ -34,11 +34,11 @@ returns-in-Some-clause-some g c =
     c.in-Some.ensures.0 parts left (c.keep.ensures ∙ ap (λ l. take 301 (l ++ front)) so_far.2
     ∙ cut_on 301 so_far.0 front)
 
-pub loop-turn-preserved : goal.loop-turn-preserved
-loop-turn-preserved g c =
-    let so_far = c.loop-turn.invariant in
+pub loop-pass-preserved : goal.loop-pass-preserved
+loop-pass-preserved g c =
+    let so_far = c.loop-pass.invariant in
     let old = text_left c.args.input.now (g.R.Read.remaining c.args.reader.now) in
-    let now = text_left c.loop-turn.input (g.R.Read.remaining c.loop-turn.reader) in
+    let now = text_left c.loop-pass.input (g.R.Read.remaining c.loop-pass.reader) in
     let w = c.waiting-waiting.result.now in
     let going : c.in_ok-fill.field-0 ≡ true = search rules in
     let on : c.fill.new.self.ended ≡ false = (c.in_ok-fill.ensures.some going).1 in
@@ -52,6 +52,6 @@ loop-turn-preserved g c =
       step_on old now (g.R.Read.remaining c.fill.new.reader) so_far.0 w c.fill.new.self after so_far.3 c.fill.ensures.keeps on going_on parts,
       λ before. holds_on after (g.R.Read.remaining c.fill.new.reader) going_on,
       λ ended.
-          let still = ended_still c.args.input.now c.loop-turn.input (so_far.5 ended).0 ended in
-          ended_for_good c.loop-turn.input c.fill.new.self (c.fill.ensures.last still).1 still on,
+          let still = ended_still c.args.input.now c.loop-pass.input (so_far.5 ended).0 ended in
+          ended_for_good c.loop-pass.input c.fill.new.self (c.fill.ensures.last still).1 still on,
     )

@@ -15,25 +15,25 @@ returns-in-Err g c =
 pub returns-in-Err-read : goal.returns-in-Err-read
 returns-in-Err-read g c =
     let terms : TermsModel = record { block_delete = c.args.block_delete; tools = c.args.tools.now; geometry = c.args.geometry.now } in
-    run_stops _ _ _ _ _ _ (output_from terms c.args.state) c.loop-turn.splitter.run c.loop-turn.splitter.kept.items
-    c.break_off.result c.loop-turn.invariant.0.1 c.loop-turn.invariant.0.2 c.break_off.ensures
+    run_stops _ _ _ _ _ _ (output_from terms c.args.state) c.loop-pass.splitter.run c.loop-pass.splitter.partial.items
+    c.break_off.result c.loop-pass.invariant.0.1 c.loop-pass.invariant.0.2 c.break_off.ensures
 
 pub returns-in-Ok-eq0 : goal.returns-in-Ok-eq0
 returns-in-Ok-eq0 g c =
     let terms : TermsModel = record { block_delete = c.args.block_delete; tools = c.args.tools.now; geometry = c.args.geometry.now } in
     let r = c.in-Ok-eq0.ensures.bytes in
-    let room : 0 < length c.read.new.buf = omega arith in
+    let has_bytes : 0 < length c.read.new.buf = omega arith in
     run_end _ _ _ _ _ _ _ (output_from terms c.args.state)
-    (λ more. rest_of c.loop-turn.splitter.run c.loop-turn.splitter.kept.items more) _ c.loop-turn.invariant.0.1
-    (Consumes-none _ _ _ _ c.in-Ok-eq0.field-0-test r.0) (r.1 c.in-Ok-eq0.field-0-test room) c.loop-turn.invariant.0.2 c.close.ensures
+    (λ more. rest_of c.loop-pass.splitter.run c.loop-pass.splitter.partial.items more) _ c.loop-pass.invariant.0.1
+    (Consumes-none _ _ _ _ c.in-Ok-eq0.field-0-test r.0) (r.1 c.in-Ok-eq0.field-0-test has_bytes) c.loop-pass.invariant.0.2 c.close.ensures
 
 pub returns-in-Ok-Some : goal.returns-in-Ok-Some
 returns-in-Ok-Some g c =
     let terms : TermsModel = record { block_delete = c.args.block_delete; tools = c.args.tools.now; geometry = c.args.geometry.now } in
     let r = c.in-Ok-read.ensures.bytes in
     run_ends _ _ _ _ _ _ _ _ (output_from terms c.args.state)
-    (λ more. rest_of c.loop-turn.splitter.run c.loop-turn.splitter.kept.items more) c.in-Ok-Some.ended
-    c.loop-turn.invariant.0.1 r.0 c.loop-turn.invariant.0.2
+    (λ more. rest_of c.loop-pass.splitter.run c.loop-pass.splitter.partial.items more) c.in-Ok-Some.ended
+    c.loop-pass.invariant.0.1 r.0 c.loop-pass.invariant.0.2
     (rw c.in-Ok-Some.field-0-is at c.in-Ok-Some.ensures.step)
 
 pub returns-in-Err-take : goal.returns-in-Err-take
@@ -41,36 +41,36 @@ returns-in-Err-take g c =
     let terms : TermsModel = record { block_delete = c.args.block_delete; tools = c.args.tools.now; geometry = c.args.geometry.now } in
     let r = c.in-Ok-read.ensures.bytes in
     run_breaks _ _ _ _ _ _ _ _ (output_from terms c.args.state)
-    (λ more. rest_of c.loop-turn.splitter.run c.loop-turn.splitter.kept.items more) c.in-Err-take.fault
-    c.loop-turn.invariant.0.1 r.0 c.loop-turn.invariant.0.2 c.in-Err-take.ensures.step
+    (λ more. rest_of c.loop-pass.splitter.run c.loop-pass.splitter.partial.items more) c.in-Err-take.fault
+    c.loop-pass.invariant.0.1 r.0 c.loop-pass.invariant.0.2 c.in-Err-take.ensures.step
 
-pub loop-turn-preserved : goal.loop-turn-preserved
-loop-turn-preserved g c =
+pub loop-pass-preserved : goal.loop-pass-preserved
+loop-pass-preserved g c =
     let terms : TermsModel = record { block_delete = c.args.block_delete; tools = c.args.tools.now; geometry = c.args.geometry.now } in
     let r = c.in-Ok-read.ensures.bytes in
-    let so_far = c.loop-turn.invariant.0 in
+    let so_far = c.loop-pass.invariant.0 in
     let bytes = take c.in-Ok-read.n c.read.new.buf in
     let taken : length bytes ≤ 8192 = simp length-take (omega arith) in (
       (
         so_far.0 ++ bytes,
         Consumes-trans _ _ _ _ _ so_far.1 r.0,
         run_goes _ _ _ so_far.0 bytes (output_from terms c.args.state)
-            (λ more. rest_of c.loop-turn.splitter.run c.loop-turn.splitter.kept.items more)
-            (λ more. rest_of c.take.new.self.run c.take.new.self.kept.items more) so_far.2
+            (λ more. rest_of c.loop-pass.splitter.run c.loop-pass.splitter.partial.items more)
+            (λ more. rest_of c.take.new.self.run c.take.new.self.partial.items more) so_far.2
             (rw c.in-Ok-None.field-0-is at c.in-Ok-None.ensures.step),
       ),
-      c.take.ensures.kept,
+      c.take.ensures.partial,
       omega (arith, c.take.ensures.number, taken),
     )
 
 pub returns : goal.returns
 returns g c =
     let terms : TermsModel = record { block_delete = c.args.block_delete; tools = c.args.tools.now; geometry = c.args.geometry.now } in
-    run_stops _ _ _ _ _ _ (output_from terms c.args.state) c.loop-turn.splitter.run c.loop-turn.splitter.kept.items
-    c.break_off-2.result c.loop-turn.invariant.0.1 c.loop-turn.invariant.0.2 c.break_off-2.ensures
+    run_stops _ _ _ _ _ _ (output_from terms c.args.state) c.loop-pass.splitter.run c.loop-pass.splitter.partial.items
+    c.break_off-2.result c.loop-pass.invariant.0.1 c.loop-pass.invariant.0.2 c.break_off-2.ensures
 
-pub loop-turn-init : goal.loop-turn-init
-loop-turn-init g c =
+pub loop-pass-init : goal.loop-pass-init
+loop-pass-init g c =
     let terms : TermsModel = record { block_delete = c.args.block_delete; tools = c.args.tools.now; geometry = c.args.geometry.now } in
     let first : c.in-Ok.run'.number ≡ 1 = ap (λ (p : DryRunModel). p.number) c.in-Ok.ensures in
     (([], Consumes-nil _, Goes-begun _ terms _ _ _ c.in-Ok.ensures c.new-2.ensures), rw c.new-2.ensures tt, omega (arith, first))

@@ -1,7 +1,7 @@
 use Rattle.std.proofs.Common.{sym}
 use Rattle.std.proofs.lemmas.Result.{err_from_is_err_and}
 use Rattle.ng_journal.proofs.WrittenSectorLemmas.{state_areas, state_sync, state_header, state_laid, synced_by}
-use Rattle.ng_journal.proofs.ProgramRoomLemmas.{with_room, areas_kept}
+use Rattle.ng_journal.proofs.ProgramLimitLemmas.{with_limit, areas_limited}
 use Rattle.ng_journal.proofs.CheckpointLemmas.{exit_areas, exit_sync, exit_header, ready, finished}
 use Rattle.ng_journal.proofs.checkpoint.checkpoint.Goals as goal
 
@@ -12,9 +12,9 @@ returns-in_err-write_areas-clause-stops g c =
     rw p.1 (record {
       keeps = area.keeps;
       back = area.back;
-      holds = λ h room header w later follows fits. exit_areas p.0 c.write_areas.result _ _ header c.args.next
-          (with_room room c.args.stored.now) (record { at = w; epoch = later; follows = follows })
-          (areas_kept room c.write_areas.result c.args.next c.args.stored.now _ _ (area.holds h));
+      holds = λ h most header w later follows fits. exit_areas p.0 c.write_areas.result _ _ header c.args.next
+          (with_limit most c.args.stored.now) (record { at = w; epoch = later; follows = follows })
+          (areas_limited most c.write_areas.result c.args.next c.args.stored.now _ _ (area.holds h));
     })
 
 pub returns-in_err-sync-clause-stops : goal.returns-in_err-sync-clause-stops
@@ -25,9 +25,9 @@ returns-in_err-sync-clause-stops g c =
     rw p.1 (record {
       keeps = λ h. sync.keeps (area.keeps h);
       back = λ h. area.back (sync.back h);
-      holds = λ h room header w later follows fits. exit_sync p.0 c.write_areas.result _ _ _ header c.args.next
-          (with_room room c.args.stored.now) (record { at = w; epoch = later; follows = follows })
-          (areas_kept room c.write_areas.result c.args.next c.args.stored.now _ _ (area.holds h))
+      holds = λ h most header w later follows fits. exit_sync p.0 c.write_areas.result _ _ _ header c.args.next
+          (with_limit most c.args.stored.now) (record { at = w; epoch = later; follows = follows })
+          (areas_limited most c.write_areas.result c.args.next c.args.stored.now _ _ (area.holds h))
           (sync.holds (area.keeps h));
     })
 
@@ -42,12 +42,12 @@ returns-in_err-write-clause-stops g c =
     rw p.1 (record {
       keeps = λ h. write.keeps (sync.keeps (area.keeps h));
       back = λ h. area.back (sync.back (write.back h));
-      holds = λ h room header w later follows fits.
-          let r = ready _ _ _ header new (with_room room stored) c.header_sector.result
+      holds = λ h most header w later follows fits.
+          let r = ready _ _ _ header new (with_limit most stored) c.header_sector.result
           (record { at = w; epoch = later; follows = follows })
-          (areas_kept room _ new stored _ _ (area.holds h)) c.requires.storable.table c.requires.storable.tools
+          (areas_limited most _ new stored _ _ (area.holds h)) c.requires.storable.table c.requires.storable.tools
           c.requires.tools c.header_sector.ensures.read fits (sym c.requires.long) in
-          exit_header p.0 c.write.result _ _ _ _ header new (with_room room stored) c.header_sector.result r
+          exit_header p.0 c.write.result _ _ _ _ header new (with_limit most stored) c.header_sector.result r
           (sync.holds (area.keeps h)) (write.holds (sync.keeps (area.keeps h)));
     })
 
@@ -62,12 +62,12 @@ returns-clause-stops g c =
     record {
       keeps = λ h. last.keeps (write.keeps (sync.keeps (area.keeps h)));
       back = λ h. area.back (sync.back (write.back (last.back h)));
-      holds = λ h room header w later follows fits.
-          let r = ready _ _ _ header new (with_room room stored) c.header_sector.result
+      holds = λ h most header w later follows fits.
+          let r = ready _ _ _ header new (with_limit most stored) c.header_sector.result
           (record { at = w; epoch = later; follows = follows })
-          (areas_kept room _ new stored _ _ (area.holds h)) c.requires.storable.table c.requires.storable.tools
+          (areas_limited most _ new stored _ _ (area.holds h)) c.requires.storable.table c.requires.storable.tools
           c.requires.tools c.header_sector.ensures.read fits (sym c.requires.long) in
-          finished c.sync-2.result _ _ _ _ _ header new (with_room room stored) c.header_sector.result r
+          finished c.sync-2.result _ _ _ _ _ header new (with_limit most stored) c.header_sector.result r
           (sync.holds (area.keeps h)) (write.holds (sync.keeps (area.keeps h)))
           (last.holds (write.keeps (sync.keeps (area.keeps h))));
     }

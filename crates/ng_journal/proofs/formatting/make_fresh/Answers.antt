@@ -1,7 +1,7 @@
 use Rattle.std.proofs.Common.{pos, refl}
 use Rattle.std.proofs.lemmas.Result.{err_from_is_err_and}
 use Rattle.ng_rig.specs.Trace.{reads}
-use Rattle.ng_layout.specs.Header.{program_room}
+use Rattle.ng_layout.specs.Header.{program_limit_of}
 use Rattle.ng_layout.specs.Stands.{is_large}
 use Rattle.ng_layout.specs.Stored.{fresh_stored}
 use Rattle.ng_journal.proofs.FormatLemmas.{steps, finished, table_long}
@@ -11,7 +11,7 @@ use Rattle.ng_journal.proofs.formatting.make_fresh.Goals as goal
 pub returns-in_err-clear_headers-clause-formats : goal.returns-in_err-clear_headers-clause-formats
 returns-in_err-clear_headers-clause-formats g c =
     let p = err_from_is_err_and c.from_residual.result c.from_residual.ensures.1 in
-    let fresh = fresh_stored (program_room (is_large (reads (g.R.Rig.seen c.args.rig.now).trace))) in
+    let fresh = fresh_stored (program_limit_of (is_large (reads (g.R.Rig.seen c.args.rig.now).trace))) in
     let headers = c.clear_headers.ensures.clears in
     rw p.1 (record {
       keeps = headers.keeps;
@@ -22,7 +22,7 @@ returns-in_err-clear_headers-clause-formats g c =
 pub returns-in_err-clear_log-clause-formats : goal.returns-in_err-clear_log-clause-formats
 returns-in_err-clear_log-clause-formats g c =
     let p = err_from_is_err_and c.from_residual-in_err-clear_log.result c.from_residual-in_err-clear_log.ensures.1 in
-    let fresh = fresh_stored (program_room (is_large (reads (g.R.Rig.seen c.args.rig.now).trace))) in
+    let fresh = fresh_stored (program_limit_of (is_large (reads (g.R.Rig.seen c.args.rig.now).trace))) in
     let headers = c.clear_headers.ensures.clears in
     let log = c.clear_log.ensures.clears in
     rw p.1 (record {
@@ -39,8 +39,8 @@ returns-in_err-write_fresh_snapshot-clause-formats g c =
     let p = err_from_is_err_and c.from_residual-in_err-write_fresh_snapshot.result c.from_residual-in_err-write_fresh_snapshot.ensures.1 in
     let headers = c.clear_headers.ensures.clears in
     let log = c.clear_log.ensures.clears in
-    let fresh = fresh_stored (program_room (is_large (reads (g.R.Rig.seen c.args.rig.now).trace))) in
-    let area = c.write_fresh_snapshot.ensures.writes fresh.room in
+    let fresh = fresh_stored (program_limit_of (is_large (reads (g.R.Rig.seen c.args.rig.now).trace))) in
+    let area = c.write_fresh_snapshot.ensures.writes fresh.program_limit in
     rw p.1 (record {
       keeps = λ h. area.keeps (log.keeps (headers.keeps h));
       back = λ h. headers.back (log.back (area.back h));
@@ -63,8 +63,8 @@ returns-in_err-clear_tools-clause-formats g c =
     let p = err_from_is_err_and c.from_residual-in_err-clear_tools.result c.from_residual-in_err-clear_tools.ensures.1 in
     let headers = c.clear_headers.ensures.clears in
     let log = c.clear_log.ensures.clears in
-    let fresh = fresh_stored (program_room (is_large (reads (g.R.Rig.seen c.args.rig.now).trace))) in
-    let area = c.write_fresh_snapshot.ensures.writes fresh.room in
+    let fresh = fresh_stored (program_limit_of (is_large (reads (g.R.Rig.seen c.args.rig.now).trace))) in
+    let area = c.write_fresh_snapshot.ensures.writes fresh.program_limit in
     let tools = c.clear_tools.ensures.clears in
     rw p.1 (record {
       keeps = λ h. tools.keeps (area.keeps (log.keeps (headers.keeps h)));
@@ -90,8 +90,8 @@ returns-in_err-sync-clause-formats g c =
     let p = err_from_is_err_and c.from_residual-in_err-sync.result c.from_residual-in_err-sync.ensures.1 in
     let headers = c.clear_headers.ensures.clears in
     let log = c.clear_log.ensures.clears in
-    let fresh = fresh_stored (program_room (is_large (reads (g.R.Rig.seen c.args.rig.now).trace))) in
-    let area = c.write_fresh_snapshot.ensures.writes fresh.room in
+    let fresh = fresh_stored (program_limit_of (is_large (reads (g.R.Rig.seen c.args.rig.now).trace))) in
+    let area = c.write_fresh_snapshot.ensures.writes fresh.program_limit in
     let tools = c.clear_tools.ensures.clears in
     let sync = c.sync.ensures.trace in
     rw p.1 (record {
@@ -114,8 +114,8 @@ returns-in_err-write-clause-formats g c =
     let p = err_from_is_err_and c.from_residual-in_err-write.result c.from_residual-in_err-write.ensures.1 in
     let headers = c.clear_headers.ensures.clears in
     let log = c.clear_log.ensures.clears in
-    let fresh = fresh_stored (program_room (is_large (reads (g.R.Rig.seen c.args.rig.now).trace))) in
-    let area = c.write_fresh_snapshot.ensures.writes fresh.room in
+    let fresh = fresh_stored (program_limit_of (is_large (reads (g.R.Rig.seen c.args.rig.now).trace))) in
+    let area = c.write_fresh_snapshot.ensures.writes fresh.program_limit in
     let tools = c.clear_tools.ensures.clears in
     let sync = c.sync.ensures.trace in
     let write = c.write.ensures.trace in
@@ -146,8 +146,8 @@ pub returns-clause-formats : goal.returns-clause-formats
 returns-clause-formats g c =
     let headers = c.in_ok-clear_headers.ensures.clears in
     let log = c.in_ok-clear_log.ensures.clears in
-    let fresh = fresh_stored (program_room (is_large (reads (g.R.Rig.seen c.args.rig.now).trace))) in
-    let area = c.in_ok-write_fresh_snapshot.ensures.writes fresh.room in
+    let fresh = fresh_stored (program_limit_of (is_large (reads (g.R.Rig.seen c.args.rig.now).trace))) in
+    let area = c.in_ok-write_fresh_snapshot.ensures.writes fresh.program_limit in
     let tools = c.in_ok-clear_tools.ensures.clears in
     let sync = c.in_ok-sync.ensures.trace in
     let write = c.in_ok-write.ensures.trace in

@@ -7,4 +7,4 @@ use Rattle.ng_journal.proofs.formatting.write_fresh_snapshot.Given as goal
 
 abbrev pub invariant-loop-part : goal.invariant-loop-part
 invariant-loop-part g l = HasWritten l.part l.first snapshot_size
-    (λ part sector. (room : ℕ) → HoldsPart (fresh_stored room) part sector) (g.R.Rig.seen l.initial.rig) (g.R.Rig.seen l.rig)
+    (λ part sector. (most : ℕ) → HoldsPart (fresh_stored most) part sector) (g.R.Rig.seen l.initial.rig) (g.R.Rig.seen l.rig)

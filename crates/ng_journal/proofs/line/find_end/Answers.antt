@@ -5,7 +5,7 @@ use Rattle.ng_layout.specs.Sectors.{program_text}
 use Rattle.ng_layout.specs.Areas.{program_size, program_first}
 use Rattle.ng_layout.specs.Stands.{stretch}
 use Rattle.ng_rig.proofs.GuaranteeLemmas.{onto, meaning}
-use Rattle.ng_journal.proofs.LineReadLemmas.{sector_at, part_kept, end_found, all_kept, length-text}
+use Rattle.ng_journal.proofs.LineReadLemmas.{sector_at, part_in_head, end_found, all_in_head, length-text}
 use Rattle.ng_journal.proofs.line.find_end.Goals as goal
 
 pub returns-in-Some-clause-read : goal.returns-in-Some-clause-read
@@ -28,7 +28,7 @@ loop-n-preserved g c =
     record {
       read = onto _ c.loop-n.invariant.read c.in_ok-sector.ensures.read (λ p q. (
         q.same ∙ p.0,
-        part_kept (program_text c.args.program_end row) _ _ c.args.place c.loop-n.n _
+        part_in_head (program_text c.args.program_end row) _ _ c.args.place c.loop-n.n _
             (c.part_of.ensures.part row (sector_at c.args.area c.program_first-first.result c.loop-n.n begun _ _
             c.program_first-first.ensures.is few p.0 q.right)) p.1 c.in-None.ensures.taken,
       ));
@@ -48,4 +48,4 @@ returns-clause-read g c =
       length-drop c.args.place (program_text c.args.program_end row),
       length-text c.args.program_end row,
     ) in
-    meaning c.loop-n.invariant.read (λ p. record { same = p.0; right = all_kept rest _ _ all p.1 })
+    meaning c.loop-n.invariant.read (λ p. record { same = p.0; right = all_in_head rest _ _ all p.1 })

@@ -4,7 +4,7 @@ use Rattle.ng_journal.proofs.WrittenSectorLemmas.{among_text, load_text, load_sy
 use Rattle.ng_layout.specs.declared.header.Header.{Header}
 use Rattle.ng_layout.specs.Stored.{DurableState}
 use Rattle.ng_journal.specs.AtRest.{next_header}
-use Rattle.ng_journal.proofs.ProgramRoomLemmas.{with_room}
+use Rattle.ng_journal.proofs.ProgramLimitLemmas.{with_limit}
 use Rattle.ng_journal.proofs.LoadLemmas.{free_in, own_again, fits_again, exit_text, exit_sync, loaded_all}
 use Rattle.ng_journal.proofs.loading.load.Goals as goal
 
@@ -15,8 +15,8 @@ returns-in_err-write_program-clause-stops g c =
     rw p.1 (record {
       keeps = text.keeps;
       back = text.back;
-      holds = λ h room at fits. exit_text p.0 c.write_program.result _ _ c.args.area c.args.header _ c.args.text.now
-          c.requires.format at (free_in c.args.area c.args.header (with_room room c.args.stored.now)
+      holds = λ h most at fits. exit_text p.0 c.write_program.result _ _ c.args.area c.args.header _ c.args.text.now
+          c.requires.format at (free_in c.args.area c.args.header (with_limit most c.args.stored.now)
           c.requires.apart fits) (text.holds h);
     })
 
@@ -28,8 +28,8 @@ returns-in_err-sync-clause-stops g c =
     rw p.1 (record {
       keeps = λ h. sync.keeps (text.keeps h);
       back = λ h. text.back (sync.back h);
-      holds = λ h room at fits. exit_sync p.0 c.write_program.result _ _ _ c.args.area c.args.header _
-          c.args.text.now c.requires.format at (free_in c.args.area c.args.header (with_room room c.args.stored.now)
+      holds = λ h most at fits. exit_sync p.0 c.write_program.result _ _ _ c.args.area c.args.header _
+          c.args.text.now c.requires.format at (free_in c.args.area c.args.header (with_limit most c.args.stored.now)
           c.requires.apart fits) (text.holds h) (sync.holds (text.keeps h));
     })
 
@@ -41,20 +41,20 @@ returns-clause-stops g c =
     record {
       keeps = λ h. last.keeps (sync.keeps (text.keeps h));
       back = λ h. text.back (sync.back (last.back h));
-      holds = λ h room at fits.
-          let kept = with_room room c.args.stored.now in
-          let free = free_in c.args.area c.args.header kept c.requires.apart fits in
+      holds = λ h most at fits.
+          let limited = with_limit most c.args.stored.now in
+          let free = free_in c.args.area c.args.header limited c.requires.apart fits in
           let t = text.holds h in
           let s = sync.holds (text.keeps h) in
           let only = among_text c.args.area c.args.text.now _ _ t.writes in
           let next = c.next_header.result in
           let next_is = c.next_header.ensures ∙ (λ i. next_header c.args.header c.args.area (c.stored.view_is i).length) in
-          loaded_all c.checkpoint.result _ _ _ _ _ c.args.area c.args.header next kept c.args.text.now at free
+          loaded_all c.checkpoint.result _ _ _ _ _ c.args.area c.args.header next limited c.args.text.now at free
           c.requires.long c.requires.short t s next_is c.requires.format
-          (last.holds (sync.keeps (text.keeps h)) room c.args.header
+          (last.holds (sync.keeps (text.keeps h)) most c.args.header
           (own_again _ _ _ c.args.area c.args.header at free only s) (ap (λ (x : Header). x.epoch) next_is)
           (inl (ap (λ (x : Header). x.format) next_is))
-          (fits_again _ _ _ c.args.area c.args.header next kept at free only s next_is fits));
+          (fits_again _ _ _ c.args.area c.args.header next limited at free only s next_is fits));
     }
 
 pub returns-in_err-write_program-clause-stores : goal.returns-in_err-write_program-clause-stores

@@ -68,7 +68,7 @@ returns-else-has_tools-clause-read g c =
     ))) c.in_ok-has_tools-in-Some.ensures.read (λ p q. record {
       same = q.same ∙ p.0;
       right = snapshot_as c.args.header
-          (record { entries = _; setup = _; tools = _; place = _; length = _; room = 0; half = _ }) (reads old)
+          (record { entries = _; setup = _; tools = _; place = _; length = _; program_limit = 0; half = _ }) (reads old)
           c.in_ok-has_tools-in-Some.has_tools false c.if-has_tools.false
           (no_tools c.args.header (reads old) c.in_ok-bytes.bytes c.decoded_state_of_snapshot.result
           (p.1 ∙ ap (reads old) c.snapshot_first-first.ensures.is) c.decoded_state_of_snapshot.ensures.value

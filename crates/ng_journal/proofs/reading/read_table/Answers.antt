@@ -1,6 +1,6 @@
 use Rattle.std.proofs.Common.{◌∙◌, arith}
 use Rattle.ng_rig.proofs.GuaranteeLemmas.{onto, meaning}
-use Rattle.ng_journal.proofs.TableReadLemmas.{turn, damaged, whole}
+use Rattle.ng_journal.proofs.TableReadLemmas.{pass, damaged, whole}
 use Rattle.ng_journal.proofs.reading.read_table.Goals as goal
 
 pub returns-then-not-take_values-clause-read : goal.returns-then-not-take_values-clause-read
@@ -12,7 +12,7 @@ returns-then-not-take_values-clause-read g c =
 pub loop-n-preserved : goal.loop-n-preserved
 loop-n-preserved g c = record {
   read = onto _ c.loop-n.invariant.read c.in_ok-sector.ensures.read
-      (λ p q. turn c.args.first c.loop-n.n _ _ _ _ _ _ c.loop-n-test.true p (q.same, q.right)
+      (λ p q. pass c.args.first c.loop-n.n _ _ _ _ _ _ c.loop-n-test.true p (q.same, q.right)
       c.if-not-take_values.ensures.taken);
   long = (let t = c.if-not-take_values.ensures.taken in t.long ∙ c.loop-n.invariant.long);
   size = c.in_ok-sector.ensures.call.size ∙ c.loop-n.invariant.size;

@@ -1,7 +1,7 @@
 use Rattle.std.proofs.Common.{◌≡◌, ◌∙◌, sym, ap, subst}
 use Rattle.ng_rig.specs.Trace.{Trace, reads}
 use Rattle.ng_rig.proofs.GuaranteeLemmas.{onto, meaning}
-use Rattle.ng_layout.specs.Header.{program_room}
+use Rattle.ng_layout.specs.Header.{program_limit_of}
 use Rattle.ng_rig.specs.Calls.{IfHonest}
 use Rattle.ng_layout.specs.Stands.{in_force, is_large}
 use Rattle.ng_log.specs.Reading.{IsRunOf}
@@ -52,7 +52,7 @@ returns-in-Some-2-clause-read g c =
     let saved = c.read_log.new.stored in
     let answer = c.in_ok-read_log-in-Some.field-0 in
     let room = rw c.in-Some-2.is at c.in_ok-read_log-in-Some.ensures.room in
-    let stays = c.in_ok-read_log-in-Some.ensures.limit ∙ c.in_ok-is_whole-in-Some.ensures.limit ∙ c.requires.limit in
+    let stays = c.in_ok-read_log-in-Some.ensures.program_limit ∙ c.in_ok-is_whole-in-Some.ensures.program_limit ∙ c.requires.program_limit in
     let force = c.in_ok-header_in_force.ensures.read in
     let Known = ((g.R.Rig.seen c.header_in_force.new.rig).trace ≡ old)
     × (c.in_ok-header_in_force.field-0 ≡ in_force (reads old)) × (is_large (reads old) ≡ c.args.large) in
@@ -72,5 +72,5 @@ returns-in-Some-2-clause-read g c =
     record {
       same = r.same ∙ p.0;
       right = all_found (reads old) header snap saved answer c.in-Some-2.field-0 p.1
-          c.in-Some-2.is room run (stays ∙ ap program_room (sym p.2));
+          c.in-Some-2.is room run (stays ∙ ap program_limit_of (sym p.2));
     })

@@ -27,7 +27,7 @@ returns-in_err-checkpoint-in-One-clause-modernizes g c =
         stops = λ standing b saved_is. modern_over tools table _ header standing _ _ (over c.in-One.is)
             (modern_failed tools header c.migrated-last.result c.args.stored.now c.take_tools.new.self standing _ _
             c.in-One.is c.migrated-last.ensures c.take_tools.ensures b saved_is (c.requires.epoch c.in-One.is) p.0
-            c.checkpoint.result (stops.holds h c.take_tools.new.self.room));
+            c.checkpoint.result (stops.holds h c.take_tools.new.self.program_limit));
         writes = stored_over tools table _ header c.args.stored.now _ _ (over c.in-One.is)
             (modern_not_stored p.0 c.checkpoint.result tools header c.migrated-last.result c.args.stored.now
             c.take_tools.new.self _ _ c.in-One.is c.migrated-last.ensures c.take_tools.ensures (stores.holds h));
@@ -47,7 +47,7 @@ returns-in_ok-checkpoint-in-One-clause-modernizes g c =
         stops = λ standing b saved_is. modern_over tools table _ header standing _ _ (over c.in-One.is)
             (modern_made tools header c.migrated-last.result c.args.stored.now c.take_tools.new.self standing _ _
             c.in-One.is c.migrated-last.ensures c.take_tools.ensures b saved_is (c.requires.epoch c.in-One.is) _
-            (stops.holds h c.take_tools.new.self.room));
+            (stops.holds h c.take_tools.new.self.program_limit));
         writes = stored_over tools table _ header c.args.stored.now _ _ (over c.in-One.is)
             (modern_stored _ tools header c.migrated-last.result c.args.stored.now c.take_tools.new.self _ _
             c.in-One.is c.migrated-last.ensures c.take_tools.ensures (stores.holds h));

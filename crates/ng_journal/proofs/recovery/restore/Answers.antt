@@ -68,7 +68,7 @@ returns-in_err-checkpoint-in-Ok-clause-restores g c =
           c.checkpoint.result c.next_header-next.result c.close.new.self _
           (next_is header c.next_header-next.result c.found.new.stored c.close.new.self _ u
           c.close.ensures.value c.next_header-next.ensures) (stores.holds (found.keeps (sync.keeps h))).writes
-          (last.holds (found.keeps (sync.keeps h)) c.close.new.self.room);
+          (last.holds (found.keeps (sync.keeps h)) c.close.new.self.program_limit);
     })
 
 pub returns-in_err-last-in-Ok-clause-restores : goal.returns-in_err-last-in-Ok-clause-restores
@@ -97,7 +97,7 @@ returns-in_err-last-in-Ok-clause-restores g c =
           c.next_header-next.result _ _
           (next_is header c.next_header-next.result c.found.new.stored c.close.new.self _ u
           c.close.ensures.value c.next_header-next.ensures) (stores.holds at)
-          (last.holds at c.close.new.self.room) p.0 c.modernize.result c.modernize.new.stored
+          (last.holds at c.close.new.self.program_limit) p.0 c.modernize.result c.modernize.new.stored
           made.writes made.stops;
     })
 
@@ -126,7 +126,7 @@ returns-in_ok-last-in-Ok-clause-restores g c =
           c.next_header-next.result _ _
           (next_is header c.next_header-next.result c.found.new.stored c.close.new.self _ u
           c.close.ensures.value c.next_header-next.ensures) (stores.holds at)
-          (last.holds at c.close.new.self.room) c.in_ok-last-in-Ok.last c.modernize.new.stored
+          (last.holds at c.close.new.self.program_limit) c.in_ok-last-in-Ok.last c.modernize.new.stored
           made.writes made.stops
           c.in_ok-last-in-Ok.ensures.header.0 (c.in_ok-last-in-Ok.ensures.saved table given);
     }

@@ -37,7 +37,7 @@ returns-in_err-checkpoint-clause-makes g c =
         stops = λ before at same. room_failed _ _ c.args.tip.header c.next_header-next.result before c.args.tip.end
             c.args.stored.now at same (ap (λ (x : Header). x.area) is)
             (ap (λ (x : Header). x.format) is ∙ c.requires.tip.format) p.0 c.checkpoint.result
-            (stops.holds h c.args.stored.now.room c.args.tip.header (own at) (ap (λ (x : Header). x.epoch) is)
+            (stops.holds h c.args.stored.now.program_limit c.args.tip.header (own at) (ap (λ (x : Header). x.epoch) is)
             (inl (ap (λ (x : Header). x.format) is))
             (fits_next c.next_header-next.result c.args.stored.now at same is (c.requires.epoch full)));
         writes = room_not_written p.0 c.checkpoint.result (ledger c.args.tip c.args.stored.now) c.args.count
@@ -58,7 +58,7 @@ returns-clause-makes g c =
         stops = λ before at same. room_made _ _ c.args.tip.header c.next_header-next.result before c.args.tip.end
             c.args.stored.now at same (ap (λ (x : Header). x.area) is)
             (ap (λ (x : Header). x.format) is ∙ c.requires.tip.format) _ c.beginning.result c.beginning.ensures
-            (stops.holds h c.args.stored.now.room c.args.tip.header (own at) (ap (λ (x : Header). x.epoch) is)
+            (stops.holds h c.args.stored.now.program_limit c.args.tip.header (own at) (ap (λ (x : Header). x.epoch) is)
             (inl (ap (λ (x : Header). x.format) is))
             (fits_next c.next_header-next.result c.args.stored.now at same is (c.requires.epoch full)));
         writes = all_room_written c.beginning.result _ (ledger c.args.tip c.args.stored.now) c.args.count

@@ -3,7 +3,7 @@ use Rattle.std.proofs.lemmas.Result.{err_from_is_err_and}
 use Rattle.ng_rig.proofs.GuaranteeLemmas.{onto, meaning}
 use Rattle.ng_journal.specs.Private.Records.{IsRoom, ledger}
 use Rattle.ng_journal.specs.Storing.{changes_to}
-use Rattle.ng_journal.proofs.ProgramRoomLemmas.{with_room}
+use Rattle.ng_journal.proofs.ProgramLimitLemmas.{with_limit}
 use Rattle.ng_journal.proofs.RecordStoreLemmas.{no_room, stored_after, not_stored, stored, ledger_after, has_room, same_length, tip_after}
 use Rattle.ng_journal.proofs.storing.store.Goals as goal
 
@@ -20,34 +20,34 @@ pub returns-in_err-tip-clause-stores : goal.returns-in_err-tip-clause-stores
 returns-in_err-tip-clause-stores g c =
     let p = err_from_is_err_and c.from_residual.result c.from_residual.ensures.1 in
     let l = ledger c.args.tip c.args.old.now in
-    let kept = with_room c.args.old.now.room c.args.stored.now in
-    let count : c.count.result ≡ changes_to l kept = c.count.ensures ∙ ap length c.changes_between-changes.ensures.changes in
+    let copy = with_limit c.args.old.now.program_limit c.args.stored.now in
+    let count : c.count.result ≡ changes_to l copy = c.count.ensures ∙ ap length c.changes_between-changes.ensures.changes in
     rw p.1 (meaning c.make_room.ensures.makes (λ m. record {
-      stops = λ before at is. no_room p.0 c.make_room.result before kept _ _ (m.stops before at is);
-      writes = not_stored p.0 c.make_room.result l c.count.result kept _ _ count m.writes;
+      stops = λ before at is. no_room p.0 c.make_room.result before copy _ _ (m.stops before at is);
+      writes = not_stored p.0 c.make_room.result l c.count.result copy _ _ count m.writes;
     }))
 
 pub returns-clause-stores : goal.returns-clause-stores
 returns-clause-stores g c =
     let l = ledger c.args.tip c.args.old.now in
-    let kept = with_room c.args.old.now.room c.args.stored.now in
-    let count : c.count.result ≡ changes_to l kept = c.count.ensures ∙ ap length c.changes_between-changes.ensures.changes in
+    let copy = with_limit c.args.old.now.program_limit c.args.stored.now in
+    let count : c.count.result ≡ changes_to l copy = c.count.ensures ∙ ap length c.changes_between-changes.ensures.changes in
     let few : c.count.result ≤ 5399 = omega (arith, c.count.ensures, c.changes_between-changes.ensures.few) in
     onto _ c.in_ok-tip.ensures.makes c.append_to.ensures.appends (λ m f.
     let a = f c.args.old.now (record { changes_are = c.changes_between-changes.ensures.changes; slot_is = c.slot_between-slot.ensures; one = c.requires.one }) in
     record {
       stops = λ before at is.
           let s = m.stops before at is in
-          stored_after c.append_to.result c.in_ok-tip.tip before kept _ _ _ s (a.stops before s.at is);
-      writes = stored c.append_to.result c.in_ok-tip.tip l c.count.result kept _ _ _ few count
+          stored_after c.append_to.result c.in_ok-tip.tip before copy _ _ _ s (a.stops before s.at is);
+      writes = stored c.append_to.result c.in_ok-tip.tip l c.count.result copy _ _ _ few count
           c.in_ok-tip.ensures.room m.writes a.writes;
     })
 
 pub returns-clause-tip : goal.returns-clause-tip
 returns-clause-tip g c =
     let l = ledger c.args.tip c.args.old.now in
-    let kept = with_room c.args.old.now.room c.args.stored.now in
+    let copy = with_limit c.args.old.now.program_limit c.args.stored.now in
     let room = subst (λ (n : ℕ). IsRoom l n c.in_ok-tip.tip) c.count.ensures c.in_ok-tip.ensures.room in
-    tip_after c.append_to.result l kept
-    (ledger_after c.append_to.result c.in_ok-tip.tip l (length c.changes_between-changes.result) kept
+    tip_after c.append_to.result l copy
+    (ledger_after c.append_to.result c.in_ok-tip.tip l (length c.changes_between-changes.result) copy
     (ap length c.changes_between-changes.ensures.changes) room c.append_to.ensures.end) c.append_to.ensures.tip

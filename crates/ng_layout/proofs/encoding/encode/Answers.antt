@@ -4,7 +4,7 @@ use Rattle.ng_layout.specs.Limits.{greatest_count}
 use Rattle.ng_layout.specs.declared.rows.Number.TheVariants.{U8, U64}
 use Rattle.ng_layout.proofs.ByteLemmas.{bytes-from, from-further, from-more}
 use Rattle.ng_layout.proofs.CodecLemmas.{up_to-back}
-use Rattle.ng_layout.proofs.RowLemmas.{Row, row-room, rows-from, starts, follows}
+use Rattle.ng_layout.proofs.RowLemmas.{Row, row-fits, rows-from, starts, follows}
 use Rattle.ng_layout.proofs.encoding.encode.Goals as goal
 
 abbrev none : Row
@@ -14,9 +14,9 @@ pub put_rows-requires : goal.put_rows-requires
 put_rows-requires c = λ i d lt.
     omega (
       arith,
-      row-room c.half_rows.result 200 i d
+      row-fits c.half_rows.result 200 i d
           (follows c.half_rows.result 162 200 c.half_rows.ensures.joined) lt,
-      c.requires.room,
+      c.requires.fits,
       c.put_text.auto.bytes,
     )
 
@@ -24,9 +24,9 @@ pub put_rows-requires-2 : goal.put_rows-requires-2
 put_rows-requires-2 c = λ i d lt.
     omega (
       arith,
-      row-room c.modal_rows.result 162 i d
+      row-fits c.modal_rows.result 162 i d
           (follows c.modal_rows.result 16 162 c.modal_rows.ensures.joined) lt,
-      c.requires.room,
+      c.requires.fits,
       c.put_text.auto.bytes,
       c.put_rows.auto.bytes,
     )
@@ -35,8 +35,8 @@ pub put_rows-requires-3 : goal.put_rows-requires-3
 put_rows-requires-3 c = λ i d lt.
     omega (
       arith,
-      row-room ((0, U64 c.args.entries) ∷ (8, U64 c.args.place) ∷ []) 16 i d refl lt,
-      c.requires.room,
+      row-fits ((0, U64 c.args.entries) ∷ (8, U64 c.args.place) ∷ []) 16 i d refl lt,
+      c.requires.fits,
       c.put_text.auto.bytes,
       c.put_rows.auto.bytes,
       c.put_rows-2.auto.bytes,

@@ -6,7 +6,7 @@ use Rattle.ng_layout.proofs.SectorLemmas.{bytes-zeros, number-zeros}
 use Rattle.ng_layout.proofs.stored.fresh_first_sector.Goals as goal
 
 pub returns : goal.returns
-returns c = λ room.
+returns c = λ program_limit.
     let s0 = replicate 512 0 in
     let s1 = c.encode.new.bytes in
     let e = c.encode.ensures in

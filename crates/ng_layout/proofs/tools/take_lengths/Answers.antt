@@ -22,7 +22,7 @@ loop-k-preserved c =
     let same : cast_signed w64 (cast_unsigned w64 c.get_i64.result) ≡ c.get_i64.result = grind (arith, to_z-of_z) in
     let in_part : k < 64 = omega (arith, c.loop-k-test.true, c.requires.count) in
     let small = c.in-Some.ensures.small in
-    let room : length c.loop-k.tools < 128 = omega (arith, inv.long, c.loop-k-test.true, c.requires.room) in
+    let fits : length c.loop-k.tools < 128 = omega (arith, inv.long, c.loop-k-test.true, c.requires.fits) in
     record {
       long = ap length c.push.ensures ∙ length-append c.loop-k.tools (c.in-Some.length ∷ []) ∙ omega (arith, inv.long);
       adds = λ area there before.
@@ -30,5 +30,5 @@ loop-k-preserved c =
           (inv.adds area there before) (ap tool_length_of (sym c.get_i64.ensures ∙ sym same)
           ∙ sym c.tool_length_of.ensures.value ∙ c.in-Some.is)
           ∙ ap (λ (l : List ℤ). Some l) (sym c.push.ensures);
-      storable = λ s. subst IsStorableTools (sym c.push.ensures) (storable-more c.loop-k.tools c.in-Some.length room small (inv.storable s));
+      storable = λ s. subst IsStorableTools (sym c.push.ensures) (storable-more c.loop-k.tools c.in-Some.length fits small (inv.storable s));
     }

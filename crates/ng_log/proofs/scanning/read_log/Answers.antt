@@ -40,7 +40,7 @@ records-preserved g c =
       storable = goes_on c.in_ok-next_record.field-0 after (IsStorable c.next_record.new.stored) c.in-After.is e.storable;
       count = goes_on c.in_ok-next_record.field-0 after (c.next_record.new.stored.entries ≤ 1_000_000_000_000) c.in-After.is e.count;
       long = goes_on c.in_ok-next_record.field-0 after (c.next_record.new.stored.length ≡ h.length) c.in-After.is e.long;
-      limit = e.limit ∙ inv.limit;
+      program_limit = e.program_limit ∙ inv.program_limit;
       none = λ one. goes_on c.in_ok-next_record.field-0 after
           (h.format ≡ One → c.next_record.new.stored.tools ≡ c.records.stored.tools) c.in-After.is e.none one
           ∙ inv.none one;

@@ -17,7 +17,7 @@ invariant-records g l = record {
   storable : IsStorable l.stored;
   count : l.stored.entries ≤ 1_000_000_000_000;
   long : l.stored.length ≡ l.header.length;
-  limit : l.stored.room ≡ l.fn.stored.room;
+  program_limit : l.stored.program_limit ≡ l.fn.stored.program_limit;
   none : l.header.format ≡ One → l.stored.tools ≡ l.fn.stored.tools;
   run : IfHonest (g.R.Rig.seen l.fn.rig) (g.R.Rig.seen l.rig)
       (((g.R.Rig.seen l.rig).trace ≡ (g.R.Rig.seen l.fn.rig).trace)

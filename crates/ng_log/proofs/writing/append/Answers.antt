@@ -14,9 +14,9 @@ returns-in_err-write_parts-clause-appends g c =
     let r = c.requires in
     let stored = c.args.stored.now in
     let changes = c.args.changes in
-    rw p.1 (meaning c.write_parts.ensures.writes (λ w before at made valid slot_is same_room.
+    rw p.1 (meaning c.write_parts.ensures.writes (λ w before at made valid slot_is same_limit.
     let next = next_from _ c.args.header before c.args.end c.args.slot stored changes r.format valid slot_is at.image
-    made r.storable.table r.room r.long same_room in
+    made r.storable.table r.room r.long same_limit in
     exit_parts _ c.args.header before c.args.end stored changes c.args.slot at next p.0 c.write_parts.result _ w))
 
 pub returns-in_err-sync-clause-appends : goal.returns-in_err-sync-clause-appends
@@ -25,9 +25,9 @@ returns-in_err-sync-clause-appends g c =
     let r = c.requires in
     let stored = c.args.stored.now in
     let changes = c.args.changes in
-    rw p.1 (onto _ c.write_parts.ensures.writes c.in_err-sync.ensures.trace (λ w sync before at made valid slot_is same_room.
+    rw p.1 (onto _ c.write_parts.ensures.writes c.in_err-sync.ensures.trace (λ w sync before at made valid slot_is same_limit.
     let next = next_from _ c.args.header before c.args.end c.args.slot stored changes r.format valid slot_is at.image
-    made r.storable.table r.room r.long same_room in
+    made r.storable.table r.room r.long same_limit in
     exit_sync _ c.args.header before c.args.end stored changes c.args.slot at next p.0 c.write_parts.result _ _ w sync))
 
 pub returns-clause-appends : goal.returns-clause-appends
@@ -41,9 +41,9 @@ returns-clause-appends g c =
       sector = c.args.end.sector + (c.parts_for-parts.ensures.value ∙ ap parts_for c.count.ensures) i;
       number = c.args.end.number + 1;
     } in
-    onto _ c.in_ok-write_parts.ensures.writes c.in_ok-sync.ensures.trace (λ w sync before at made valid slot_is same_room.
+    onto _ c.in_ok-write_parts.ensures.writes c.in_ok-sync.ensures.trace (λ w sync before at made valid slot_is same_limit.
     let next = next_from _ c.args.header before c.args.end c.args.slot stored changes r.format valid slot_is at.image
-    made r.storable.table r.room r.long same_room in
+    made r.storable.table r.room r.long same_limit in
     finished _ c.args.header before c.args.end stored changes c.args.slot at next _ after _ _ after_is w sync)
 
 pub returns-in_err-write_parts-clause-writes : goal.returns-in_err-write_parts-clause-writes

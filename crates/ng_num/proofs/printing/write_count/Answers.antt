@@ -6,7 +6,7 @@ use Rattle.ng_num.proofs.printing.write_count.Goals as goal
 
 pub returns-clause-text : goal.returns-clause-text
 returns-clause-text c =
-    let end : c.args.end - 2 + 2 ≡ c.args.end = omega (arith, c.requires.room) in
+    let end : c.args.end - 2 + 2 ≡ c.args.end = omega (arith, c.requires.fits) in
     let filled = c.put_after.ensures ∙ ap (λ n. c.args.after ++ drop n c.args.buffer.now) end in
     written_then _ _ _ _ _ _ (c.args.after ++ drop c.args.end c.args.buffer.now) c.put_after.new.buffer
     c.write_decimals-point.new.buffer c.write_whole_part-whole.new.buffer c.write_minus.new.buffer

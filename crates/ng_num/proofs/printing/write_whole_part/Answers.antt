@@ -5,7 +5,7 @@ use Rattle.ng_num.proofs.printing.write_whole_part.Goals as goal
 pub write_digits-requires : goal.write_digits-requires
 write_digits-requires c =
     let short = length-decimal-le 7 (c.args.size / 1_000_000) (omega arith) (omega arith) (omega arith) in
-    (omega arith, c.requires.room.1)
+    (omega arith, c.requires.fits.1)
 
 pub returns-clause-within : goal.returns-clause-within
 returns-clause-within c =

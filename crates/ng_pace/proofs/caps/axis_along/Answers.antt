@@ -8,7 +8,7 @@ use Rattle.ng_pace.proofs.caps.axis_along.Goals.{then-limits-axis-eq0, else-limi
 pub returns-clause-allowed : goal.returns-clause-allowed
 returns-clause-allowed c = record {
   accel =
-      let kept : c.args.slope * c.saturating_mul-2.result ≤ slice_index c.args.limits.now.accel c.args.axis * 2097152 * 65536
+      let respected : c.args.slope * c.saturating_mul-2.result ≤ slice_index c.args.limits.now.accel c.args.axis * 2097152 * 65536
       = by_quotient c.args.slope c.saturating_mul-accel.result (slice_index c.args.limits.now.accel c.args.axis * 2097152)
       (c.saturating_mul-accel.result / c.args.slope) c.saturating_mul-2.result
       (mul-div-le c.saturating_mul-accel.result c.args.slope) (omega (arith, c.saturating_mul-accel.ensures)) (omega (arith, c.saturating_mul-2.ensures)) in
@@ -22,7 +22,7 @@ returns-clause-allowed c = record {
         (w.saturating_mul.result / c.args.slope) (w.saturating_mul.result / c.args.slope) (omega arith) (omega arith) in
         let part : c.args.slope * (w.saturating_mul.result / c.args.slope) ≤ slice_index c.args.limits.now.rate c.args.axis * 1048576
         = omega (arith, mul-div-le w.saturating_mul.result c.args.slope, w.saturating_mul.ensures) in
-        let kept : c.args.slope * c.args.slope * c.if-limits-axis-eq0.most ≤ slice_index c.args.limits.now.rate c.args.axis * 1048576 *
+        let respected : c.args.slope * c.args.slope * c.if-limits-axis-eq0.most ≤ slice_index c.args.limits.now.rate c.args.axis * 1048576 *
         (slice_index c.args.limits.now.rate c.args.axis * 1048576) * 65536
         = by_square c.args.slope (slice_index c.args.limits.now.rate c.args.axis * 1048576) (w.saturating_mul.result / c.args.slope) c.if-limits-axis-eq0.most
         part

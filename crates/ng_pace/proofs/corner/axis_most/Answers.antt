@@ -7,14 +7,14 @@ pub returns-clause-quarter : goal.returns-clause-quarter
 returns-clause-quarter c =
     let total : c.saturating_mul-2.result ≤ slice_index c.args.limits.now.accel c.args.axis * c.args.pulses * 1048576
     = omega (arith, c.saturating_mul-2.ensures, c.saturating_mul.ensures) in
-    let kept : 4 * c.args.turn * c.saturating_mul-4.result ≤ 3 * (slice_index c.args.limits.now.accel c.args.axis * c.args.pulses * 1048576) * 65536
-    = three_quarters c.args.turn (slice_index c.args.limits.now.accel c.args.axis * c.args.pulses * 1048576) (c.saturating_mul-2.result / c.args.turn)
+    let respected : 4 * c.args.bend * c.saturating_mul-4.result ≤ 3 * (slice_index c.args.limits.now.accel c.args.axis * c.args.pulses * 1048576) * 65536
+    = three_quarters c.args.bend (slice_index c.args.limits.now.accel c.args.axis * c.args.pulses * 1048576) (c.saturating_mul-2.result / c.args.bend)
     c.saturating_mul-4.result
-    (omega (arith, mul-div-le c.saturating_mul-2.result c.args.turn)) (omega (arith, c.saturating_mul-3.ensures, c.saturating_mul-4.ensures)) in
+    (omega (arith, mul-div-le c.saturating_mul-2.result c.args.bend)) (omega (arith, c.saturating_mul-3.ensures, c.saturating_mul-4.ensures)) in
     omega arith
 
 pub returns-clause-full : goal.returns-clause-full
 returns-clause-full c =
-    most_full c.args.turn (slice_index c.args.limits.now.accel c.args.axis) c.args.pulses c.saturating_mul-2.result c.saturating_mul-3.result
-    c.saturating_mul-4.result (omega arith) c.requires.turn
+    most_full c.args.bend (slice_index c.args.limits.now.accel c.args.axis) c.args.pulses c.saturating_mul-2.result c.saturating_mul-3.result
+    c.saturating_mul-4.result (omega arith) c.requires.bend
     (rw (← c.saturating_mul.ensures) c.saturating_mul-2.ensures) c.saturating_mul-3.ensures c.saturating_mul-4.ensures

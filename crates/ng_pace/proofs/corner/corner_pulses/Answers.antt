@@ -11,7 +11,7 @@ returns-clause-near c = record {
 
 pub returns-clause-most : goal.returns-clause-most
 returns-clause-most c =
-    most-pulses c.args.limits.now c.args.turn.now c.args.before c.args.after c.saturating_mul.result c.axis_pulses.result c.axis_pulses-2.result
+    most-pulses c.args.limits.now c.args.bend.now c.args.before c.args.after c.saturating_mul.result c.axis_pulses.result c.axis_pulses-2.result
     c.axis_pulses-3.result c.min-5.result
     (cc (c.min-5.ensures, c.min-4.ensures, c.min-3.ensures, c.max.ensures, c.min-2.ensures, c.min.ensures)) c.saturating_mul.ensures
     c.axis_pulses.ensures.most c.axis_pulses-2.ensures.most c.axis_pulses-3.ensures.most

@@ -12,7 +12,7 @@ returns-clause-closes g c = λ leg rest path some small.
     let reached = c.decide_at_end.ensures.reaches leg rest path some are greatest in
     let both = along-reach c.args.limits.now (stop_of c.args.ending) c.args.pacer.now c.decide_at_end.new.pacer c.pass_along.new.pacer
     c.decide_at_end.new.waiting.items c.pass_along.new.waiting.items
-    leg.pulses (pulses_of (leg ∷ rest)) (lines_of (leg ∷ rest)) c.slopes-slopes.result c.args.kept reached.0 are
+    leg.pulses (pulses_of (leg ∷ rest)) (lines_of (leg ∷ rest)) c.slopes-slopes.result c.args.reserve reached.0 are
     greatest c.requires.limits.half some
     c.pass_along.ensures.passes
     (omega (arith, small, reached.1)) in (

@@ -5,7 +5,7 @@ use Rattle.ng_pace.proofs.path.pass_along.Goals as goal
 pub returns-clause-passes : goal.returns-clause-passes
 returns-clause-passes g c =
     let len : deque_len c.args.waiting.now ≡ length c.args.waiting.now.items = search rules in
-    let count : c.saturating_sub-count.result ≡ length c.args.waiting.now.items - c.args.kept
+    let count : c.saturating_sub-count.result ≡ length c.args.waiting.now.items - c.args.reserve
     = omega (arith, c.saturating_sub-count.ensures, c.len.ensures, len) in
     record {
       most = c.along-caps.result.most;

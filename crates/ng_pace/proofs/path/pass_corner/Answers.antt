@@ -30,9 +30,9 @@ returns-clause-passes g c =
       first = rw count at c.settle.ensures.makes;
       most = c.corner_caps-caps.result.most;
       ramp = c.corner_caps-caps.result.ramp;
-      takes = takes-corner c.args.limits.now c.args.chord.now.before c.args.after.now c.between-turn.result.slope c.between-turn.result.turn
+      takes = takes-corner c.args.limits.now c.args.chord.now.before c.args.after.now c.between-bend.result.slope c.between-bend.result.bend
           c.corner_pulses-pulses.result c.corner_caps-caps.result.most c.corner_caps-caps.result.ramp
-          c.between-turn.ensures.most c.corner_pulses-pulses.ensures.near c.corner_caps-caps.ensures.allowed;
+          c.between-bend.ensures.most c.corner_pulses-pulses.ensures.near c.corner_caps-caps.ensures.allowed;
       then = c.settle-2.ensures.makes;
       feed = c.greatest_feed-feed.result;
       feeds = λ k d short. made-feeds c.args.pacer.now c.settle.new.pacer c.settle-2.new.pacer c.args.waiting.now.items c.settle.new.waiting.items
@@ -41,10 +41,10 @@ returns-clause-passes g c =
           c.settle.ensures.keeps c.settle.ensures.makes c.settle-2.ensures.keeps c.settle-2.ensures.makes c.saturating_add.ensures
           (omega (arith, c.len.ensures, len)) c.greatest_feed-feed.ensures k d short;
       full = record {
-        sizes = c.between-turn.result.slope;
-        turns = c.between-turn.result.turn;
-        sizes_are = c.between-turn.ensures.sizes;
-        turns_are = c.between-turn.ensures.turns;
+        sizes = c.between-bend.result.slope;
+        bends = c.between-bend.result.bend;
+        sizes_are = c.between-bend.ensures.sizes;
+        bends_are = c.between-bend.ensures.bends;
         longest = c.corner_pulses-pulses.ensures.most;
         square = c.corner_caps-caps.ensures.most;
         quarter = c.corner_caps-caps.ensures.ramp;

@@ -1,7 +1,7 @@
 use Rattle.std.proofs.Common.{arith, rules, refl, sym, ap, ◌∙◌, ◌≡◌, ◌<◌, ◌-◌, ℕ, zero, suc, List, [], ◌∷◌, length, slice_index_or}
 use Rattle.ng_pace.specs.declared.planning.Slot.{Slot}
 use Rattle.ng_pace.specs.Planning.{most_now}
-use Rattle.ng_pace.proofs.PlanLemmas.{untouched, same_lines, grows, ahead-end, step, next, all_at, kept_at}
+use Rattle.ng_pace.proofs.PlanLemmas.{untouched, same_lines, grows, ahead-end, step, next, all_at, stays_planned_at}
 use Rattle.ng_pace.proofs.planning.plan.Goals as goal
 
 pub loop-k-init : goal.loop-k-init
@@ -10,7 +10,7 @@ loop-k-init g c =
       anew = untouched c.args.slots.now.items c.len-k.result (omega arith);
       next = rw (all) (sym (ahead-end c.args.slots.now.items));
       within = omega arith;
-      room = refl;
+      capacity = refl;
     }
 
 -- the element at a place of a list, whichever stands for none
@@ -28,7 +28,7 @@ loop-k-preserved g c =
           (c.best_square-square.ensures ∙ ap (λ t. most_now t.line c.loop-k.after) same);
       next = next c.loop-k.k c.loop-k.slots.items c.index_mut.result.now c.best_square-square.result (omega arith) c.loop-k.invariant.within;
       within = search rules;
-      room = search rules;
+      capacity = search rules;
     }
 
 pub returns-after-loop-k-clause-plan : goal.returns-after-loop-k-clause-plan
@@ -41,7 +41,8 @@ pub returns-after-loop-k-clause-grows : goal.returns-after-loop-k-clause-grows
 returns-after-loop-k-clause-grows g c = grows c.loop-k.k c.args.slots.now.items c.loop-k.slots.items c.loop-k.invariant.anew
 
 pub returns-then-square-slot-clause-plan : goal.returns-then-square-slot-clause-plan
-returns-then-square-slot-clause-plan g c = kept_at c.loop-k.k c.args.planned c.args.slots.now.items c.loop-k.slots.items c.index-slot.result.now c.loop-k.after
+returns-then-square-slot-clause-plan g c = stays_planned_at c.loop-k.k c.args.planned c.args.slots.now.items c.loop-k.slots.items c.index-slot.result.now
+    c.loop-k.after
     c.requires (omega arith) (omega arith) c.loop-k.invariant.within c.loop-k.invariant.anew (search rules) c.loop-k.invariant.next
     (sym c.if-square-slot.true ∙ c.best_square-square.ensures)
 

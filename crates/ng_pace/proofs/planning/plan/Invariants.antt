@@ -9,7 +9,7 @@ invariant-loop-k g l = record {
   anew : IsReplanned l.k l.initial.slots.items l.slots.items;
   next : l.after ≡ ahead (drop l.k l.slots.items);
   within : l.k ≤ length l.slots.items;
-  room : deque_capacity l.slots ≡ deque_capacity l.initial.slots;
+  capacity : deque_capacity l.slots ≡ deque_capacity l.initial.slots;
 }
 
 abbrev pub decreases-loop-k : goal.decreases-loop-k

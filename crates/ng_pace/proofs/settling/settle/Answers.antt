@@ -5,7 +5,7 @@ use Rattle.ng_pace.proofs.MakingLemmas.{makes-more}
 use Rattle.ng_pace.proofs.settling.settle.Goals as goal
 
 pub settle_one-requires : goal.settle_one-requires
-settle_one-requires g c = omega (arith, c.requires, c.loop-k.invariant.keeps.count, c.loop-k.invariant.keeps.settles.room)
+settle_one-requires g c = omega (arith, c.requires, c.loop-k.invariant.keeps.count, c.loop-k.invariant.keeps.settles.capacity)
 
 pub loop-k-preserved : goal.loop-k-preserved
 loop-k-preserved g c = record {

@@ -1,7 +1,7 @@
 use Rattle.std.proofs.Common.{[], ◌∷◌, ◌++◌, sym, ◌∙◌, ap, arith, List}
 use Rattle.std.proofs.lemmas.List.{take_all}
 use Rattle.ng_rig.specs.Trace.{Trace, items}
-use Rattle.ng_rig.specs.Kept.{trace_of_calls}
+use Rattle.ng_rig.specs.RecordedCalls.{trace_of_calls}
 use Rattle.ng_rig.specs.declared.call.Call.{Call}
 use Rattle.ng_rig.proofs.TraceLemmas.{trace_of_calls-next}
 use Rattle.ng_rig.proofs.replay.items_of.Goals as goal

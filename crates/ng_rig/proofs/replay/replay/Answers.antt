@@ -1,6 +1,6 @@
 use Rattle.std.proofs.Common.{length, take, sym, ◌∙◌, ap, arith}
 use Rattle.ng_rig.specs.Trace.{Trace, reads}
-use Rattle.ng_rig.specs.Kept.{contents, trace_of_calls}
+use Rattle.ng_rig.specs.RecordedCalls.{contents, trace_of_calls}
 use Rattle.ng_rig.proofs.TraceLemmas.{trace_of_calls-next}
 use Rattle.ng_rig.proofs.ReplayLemmas.{within_at, reads_write, whole_set}
 use Rattle.ng_rig.proofs.replay.replay.Goals as goal

@@ -1,6 +1,6 @@
 use Rattle.std.proofs.Common.{◌≡◌, ℕ, take}
 use Rattle.ng_rig.specs.Trace.{reads}
-use Rattle.ng_rig.specs.Kept.{contents, trace_of_calls, IsWhole}
+use Rattle.ng_rig.specs.RecordedCalls.{contents, trace_of_calls, IsWhole}
 use Rattle.ng_rig.proofs.replay.replay.Given as goal
 
 abbrev pub invariant-loop-call : goal.invariant-loop-call

@@ -1,5 +1,5 @@
 use Rattle.std.proofs.Common.{◌≢◌, ◌≤◌, ◌<◌, ℕ, take, get_or}
-use Rattle.ng_rig.specs.Kept.{EndsSynced}
+use Rattle.ng_rig.specs.RecordedCalls.{EndsSynced}
 use Rattle.ng_rig.specs.declared.call.Call.TheVariants.{Sync}
 use Rattle.ng_rig.proofs.replay.synced_calls.Given as goal
 

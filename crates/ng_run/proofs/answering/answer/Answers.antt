@@ -4,9 +4,9 @@ use Rattle.ng_run.proofs.answering.answer.Goals as goal
 
 pub returns-in-Give : goal.returns-in-Give
 returns-in-Give g c =
-    let turn : IsAnsweredEvent g.R.Rig.seen c.in-Give.event c.on-reply.result c.args.controller.now c.on-reply.new.self =
+    let exchange : IsAnsweredEvent g.R.Rig.seen c.in-Give.event c.on-reply.result c.args.controller.now c.on-reply.new.self =
     record { serves = c.on-reply.ensures.serves; refuses = c.on-reply.ensures.broken } in
-    rw (c.in-Give.is) (answers_event g.R.Rig.seen c.in-Give.event c.on-reply.result c.tell_reply.result _ _ _ _ turn c.tell_reply.ensures)
+    rw (c.in-Give.is) (answers_event g.R.Rig.seen c.in-Give.event c.on-reply.result c.tell_reply.result _ _ _ _ exchange c.tell_reply.ensures)
 
 pub returns-in-Ok : goal.returns-in-Ok
 returns-in-Ok g c =

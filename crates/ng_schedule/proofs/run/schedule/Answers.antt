@@ -12,52 +12,52 @@ returns-in-Err g c = nothing_written c.args.limits c.args.shown _ _ c.in-Err.fau
 
 pub returns-in-Err-read : goal.returns-in-Err-read
 returns-in-Err-read g c =
-    let so_far = c.loop-turn.invariant.0 in
-    let s = c.loop-turn.splitter.schedule in
+    let so_far = c.loop-pass.invariant.0 in
+    let s = c.loop-pass.splitter.schedule in
     run_stops c.args.limits _ _ _ _ so_far.0 c.args.shown (Err Reader) so_far.1
     (λ more. cut_broken c.args.limits c.args.shown _ _ so_far.0 more Reader
-    (cut c.args.limits _ _ so_far.0 c.loop-turn.splitter.kept.items s c.args.shown (sym c.loop-turn.invariant.2)
+    (cut c.args.limits _ _ so_far.0 c.loop-pass.splitter.partial.items s c.args.shown (sym c.loop-pass.invariant.2)
     so_far.2))
 
 pub returns-in-Ok-eq0 : goal.returns-in-Ok-eq0
 returns-in-Ok-eq0 g c =
-    let so_far = c.loop-turn.invariant.0 in
+    let so_far = c.loop-pass.invariant.0 in
     let r = c.in-Ok-eq0.ensures.bytes in
-    let room : 0 < length c.read.new.buf = omega arith in
-    run_ends c.args.limits _ _ _ _ _ so_far.0 _ _ c.args.shown c.close.result so_far.1 r.0 c.in-Ok-eq0.field-0-test (r.1 c.in-Ok-eq0.field-0-test room)
+    let has_bytes : 0 < length c.read.new.buf = omega arith in
+    run_ends c.args.limits _ _ _ _ _ so_far.0 _ _ c.args.shown c.close.result so_far.1 r.0 c.in-Ok-eq0.field-0-test (r.1 c.in-Ok-eq0.field-0-test has_bytes)
     (ScheduleSpec-from c.args.limits _ c.args.shown so_far.0 so_far.0 _ _ c.close.result
-    (sym c.loop-turn.invariant.2) refl (c.close.ensures c.args.limits _ so_far.0 so_far.2))
+    (sym c.loop-pass.invariant.2) refl (c.close.ensures c.args.limits _ so_far.0 so_far.2))
 
 pub returns-in-Err-take : goal.returns-in-Err-take
 returns-in-Err-take g c =
-    let so_far = c.loop-turn.invariant.0 in
+    let so_far = c.loop-pass.invariant.0 in
     let r = c.in-Ok-read.ensures.bytes in
     let bytes = take c.in-Ok-read.n c.read.new.buf in
     run_stops c.args.limits _ _ _ _ (so_far.0 ++ bytes) c.args.shown c.stop.result (Consumes-trans _ _ _ _ _ so_far.1 r.0)
-    (λ more. ScheduleSpec-from c.args.limits _ c.args.shown _ _ _ _ c.stop.result (sym (c.take.ensures.shown ∙ c.loop-turn.invariant.2)) refl
+    (λ more. ScheduleSpec-from c.args.limits _ c.args.shown _ _ _ _ c.stop.result (sym (c.take.ensures.shown ∙ c.loop-pass.invariant.2)) refl
     (c.stop.ensures c.args.limits _ (so_far.0 ++ bytes) more (c.in-Err-take.ensures.step c.args.limits _ so_far.0 so_far.2)))
 
-pub loop-turn-preserved : goal.loop-turn-preserved
-loop-turn-preserved g c =
-    let so_far = c.loop-turn.invariant.0 in
+pub loop-pass-preserved : goal.loop-pass-preserved
+loop-pass-preserved g c =
+    let so_far = c.loop-pass.invariant.0 in
     let r = c.in-Ok-read.ensures.bytes in
     let bytes = take c.in-Ok-read.n c.read.new.buf in (
       (so_far.0 ++ bytes, Consumes-trans _ _ _ _ _ so_far.1 r.0, c.in-Ok-take.ensures.step c.args.limits _ so_far.0 so_far.2),
-      c.take.ensures.kept,
-      c.take.ensures.shown ∙ c.loop-turn.invariant.2,
+      c.take.ensures.partial,
+      c.take.ensures.shown ∙ c.loop-pass.invariant.2,
     )
 
 pub returns : goal.returns
 returns g c =
-    let so_far = c.loop-turn.invariant.0 in
-    let s = c.loop-turn.splitter.schedule in
+    let so_far = c.loop-pass.invariant.0 in
+    let s = c.loop-pass.splitter.schedule in
     run_stops c.args.limits _ _ _ _ so_far.0 c.args.shown (Err Reader) so_far.1
     (λ more. cut_broken c.args.limits c.args.shown _ _ so_far.0 more Reader
-    (cut c.args.limits _ _ so_far.0 c.loop-turn.splitter.kept.items s c.args.shown (sym c.loop-turn.invariant.2)
+    (cut c.args.limits _ _ so_far.0 c.loop-pass.splitter.partial.items s c.args.shown (sym c.loop-pass.invariant.2)
     so_far.2))
 
-pub loop-turn-init : goal.loop-turn-init
-loop-turn-init g c =
+pub loop-pass-init : goal.loop-pass-init
+loop-pass-init g c =
     let w = g.W.Write.contents c.args.writer.now in
     let made = c.in-Ok.ensures in
     let nothing = begun c.args.limits w c.in-Ok.schedule made.empty made.text made.due made.number in (

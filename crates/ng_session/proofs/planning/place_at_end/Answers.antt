@@ -1,6 +1,6 @@
 use Rattle.std.proofs.Common.{List, sym, ◌∙◌, ap}
 use Rattle.std.specs.Option.{option_map}
-use Rattle.ng_session.specs.KeptBlock.{block_on}
+use Rattle.ng_session.specs.BareBlock.{block_on}
 use Rattle.ng_session.specs.Planned.{PlannedModel, Base, base_after, base_at_end}
 use Rattle.ng_session.proofs.PlannedLineLemmas.{end_more}
 use Rattle.ng_session.proofs.planning.place_at_end.Goals as goal

@@ -27,12 +27,12 @@ loop-value-preserved c =
           (let n = w.in-Some.nm in
           let here = with_number vs i c.value-item.result n lt at (sym w.in-Some.ensures) in
           let pushed : w.tool_length.result ≡ n = search rules in
-          let room : length c.loop-value.tools < 128 = omega arith in
+          let fits : length c.loop-value.tools < 128 = omega arith in
           rw (w.tools-is, w.push.ensures, pushed)
           (record {
             within = (head_within (pos 0) (pos 1_000_000_000) n (numbers_from (i + 1) vs) (rw here at before.within)).1;
             so_far = before.so_far ∙ rw (here, append_assoc);
-            room = simp length-append (omega arith);
+            fits = simp length-append (omega arith);
           }))
       | in_default w ↦
           (let here = with_other vs i c.value-item.result lt at (sym w.in_default.ensures) in
@@ -40,6 +40,6 @@ loop-value-preserved c =
           (record {
             within = rw (← here) before.within;
             so_far = rw (← here) before.so_far;
-            room = before.room;
+            fits = before.fits;
           }))
     ]

@@ -7,5 +7,5 @@ abbrev pub invariant-loop-value : goal.invariant-loop-value
 invariant-loop-value l = record {
   within : are_beyond (pos 0) (pos 1_000_000_000) (numbers_from l.value-index l.lengths.items) ≡ false;
   so_far : numbers_from 0 l.lengths.items ≡ l.tools ++ numbers_from l.value-index l.lengths.items;
-  room : length l.tools ≤ 128;
+  fits : length l.tools ≤ 128;
 }

@@ -13,7 +13,7 @@ returns-in-35-clause-piece c =
 pub returns-in-35-clause-nodes_fit : goal.returns-in-35-clause-nodes_fit
 returns-in-35-clause-nodes_fit c =
     let less : length c.advance-in-35.new.self ≤ length c.args.cursor.now = advanced_shorter _ _ c.advance-in-35.ensures in
-    λ t. omega (arith, c.assignment.ensures.room t, c.requires.nodes_fit)
+    λ t. omega (arith, c.assignment.ensures.fits t, c.requires.nodes_fit)
 
 pub returns-in-35-clause-bytes_fit : goal.returns-in-35-clause-bytes_fit
 returns-in-35-clause-bytes_fit c =
@@ -27,7 +27,7 @@ returns-in-Some-letter_of-clause-piece c =
 pub returns-in-Some-letter_of-clause-nodes_fit : goal.returns-in-Some-letter_of-clause-nodes_fit
 returns-in-Some-letter_of-clause-nodes_fit c =
     let less : length c.advance.new.self ≤ length c.args.cursor.now = advanced_shorter _ _ c.advance.ensures in
-    λ t. omega (arith, c.word.ensures.room t, c.requires.nodes_fit)
+    λ t. omega (arith, c.word.ensures.fits t, c.requires.nodes_fit)
 
 pub returns-in-Some-letter_of-clause-bytes_fit : goal.returns-in-Some-letter_of-clause-bytes_fit
 returns-in-Some-letter_of-clause-bytes_fit c =

@@ -7,8 +7,8 @@ pub returns-in-Some-clause-word : goal.returns-in-Some-clause-word
 returns-in-Some-clause-word c =
     number_word _ _ _ _ _ _ _ (begins_so _ _ c.begins_number.ensures c.if-begins_number.true) c.in-Some.ensures c.push.ensures.items
 
-pub returns-in-Some-clause-room : goal.returns-in-Some-clause-room
-returns-in-Some-clause-room c =
+pub returns-in-Some-clause-fits : goal.returns-in-Some-clause-fits
+returns-in-Some-clause-fits c =
     let shorter : length c.number.new.cursor < length c.args.cursor.now = number_shorter _ _ _ _ refl c.in-Some.ensures in λ t. omega arith
 
 pub returns-in-Some-walk-clause-word : goal.returns-in-Some-walk-clause-word

@@ -7,10 +7,10 @@ returns-then-begins_number-clause-steps c =
     begin_number _ _ _ _ _ _ _ _ _ (no_opening _ (begins_so _ _ c.begins_number.ensures c.if-begins_number.true))
     refl c.in_ok-value.ensures c.push.ensures.items c.settle.ensures.settles
 
-pub returns-then-begins_number-clause-room : goal.returns-then-begins_number-clause-room
-returns-then-begins_number-clause-room c =
+pub returns-then-begins_number-clause-fits : goal.returns-then-begins_number-clause-fits
+returns-then-begins_number-clause-fits c =
     let shorter : length c.number.new.cursor < length c.args.cursor.now = number_shorter _ _ _ _ refl c.in_ok-value.ensures in
-    omega (arith, c.push.ensures.len, c.settle.ensures.room)
+    omega (arith, c.push.ensures.len, c.settle.ensures.fits)
 
 pub returns-in-Some-clause-steps : goal.returns-in-Some-clause-steps
 returns-in-Some-clause-steps c = begin_opens _ _ _ _ _ _ c.in-Some.ensures.opening c.push-in-Some.ensures.items

@@ -9,8 +9,8 @@ pub returns-clause-value : goal.returns-clause-value
 returns-clause-value c =
     number_taken _ _ _ _ _ (begins_so _ _ c.begins_number.ensures c.if-not-begins_number.false) c.in_ok-value.ensures c.push.ensures.items
 
-pub returns-clause-room : goal.returns-clause-room
-returns-clause-room c =
+pub returns-clause-fits : goal.returns-clause-fits
+returns-clause-fits c =
     let shorter : length c.number.new.cursor < length c.args.cursor.now = number_shorter _ _ _ _ refl c.in_ok-value.ensures in omega (arith, c.push.ensures.len)
 
 pub returns-clause-shorter : goal.returns-clause-shorter

@@ -14,7 +14,7 @@ pub loop-cursor-preserved : goal.loop-cursor-preserved
 loop-cursor-preserved c = (
   (walking_goes c.args.cursor.now _ _ _ _ _ _ _ _ _ c.loop-cursor.invariant.0
       (not_ended _ _ _ c.has_ended.ensures c.loop-cursor-test.true) c.in-Some.ensures.steps).0,
-  omega (arith, c.in-Some.ensures.room),
+  omega (arith, c.in-Some.ensures.fits),
   c.loop-cursor.invariant.2,
 )
 

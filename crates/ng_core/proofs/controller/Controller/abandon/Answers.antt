@@ -12,7 +12,7 @@ use Rattle.ng_core.specs.Causes.{IsCausedBy}
 use Rattle.ng_core.specs.Model.{ControllerModel}
 use Rattle.ng_core.proofs.CarriesOutLemmas.{carried_to, carried_refused, carried_used}
 use Rattle.ng_core.proofs.EventCauseLemmas.{hindered_count, stored_abandon}
-use Rattle.ng_core.proofs.ReportEntryLemmas.{no_block, has_half, has_room, past_abandoned}
+use Rattle.ng_core.proofs.ReportEntryLemmas.{no_block, has_half, counts_on, past_abandoned}
 use Rattle.ng_core.proofs.controller.Controller.abandon.Goals as goal
 
 pub keep-requires-clause-free : goal.keep-requires-clause-free
@@ -26,7 +26,7 @@ keep-requires-clause-free g c =
 pub keep-requires-clause-count : goal.keep-requires-clause-count
 keep-requires-clause-count g c =
     subst (λ (x : ControllerModel g.row.R.Denot). x.session.stored.entries < greatest_count) c.self.view_is
-    (has_room c.self.inside.session.stored.entries (sym c.if-is_count_used_up.ensures))
+    (counts_on c.self.inside.session.stored.entries (sym c.if-is_count_used_up.ensures))
 
 pub keep-requires-clause-next : goal.keep-requires-clause-next
 keep-requires-clause-next g c =

@@ -68,7 +68,7 @@ returns-in_err-commit_update g c = λ entry committed.
     let next : SessionModel = record old.session { stored = updated old.session.stored update } in
     let saved : StoredModel = updated old.journal.saved update in
     let is : saved ≡ next.stored = ap (λ (x : StoredModel). updated x update) (sym (c.self.invariant.saved whole)) in
-    let kept : List ℕ → Transition = λ program. commits program entry next in
+    let own : List ℕ → Transition = λ program. commits program entry next in
     let failed = c.in_err-commit_update.ensures.fails in
     let unchanged : e ≡ CountersUsed → new.journal ≡ old.journal = λ used. failed.unchanged (ap (λ (f : Fault). Err f) used) in
     rw (p.1) (carried_as g.R.Rig.seen (λ (x : ControllerModel g.row.R.Denot). ⊥)
@@ -76,13 +76,13 @@ returns-in_err-commit_update g c = λ entry committed.
     (λ (x : ControllerModel g.row.R.Denot) (program : List ℕ).
     commits program entry (record x.session { stored = updated x.session.stored c.args.update.now }))
     (Err p.0) c.args.self.now old new c.self.view_is
-    (carried_failed g.R.Rig.seen ⊥ (Unit {0}) ⊥ p.0 e kept old new p.2
+    (carried_failed g.R.Rig.seen ⊥ (Unit {0}) ⊥ p.0 e own old new p.2
     (keeps_none g.R.Rig.seen e saved entry next old new is refl failed.causes unchanged
     (meaning c.in_err-commit_update.ensures.stores (λ s. s.stops)) refl)
-    (makes_entry {T = Unit {0}} g.R.Rig.seen (Err e) reply.Idle saved next.stored kept old new is
+    (makes_entry {T = Unit {0}} g.R.Rig.seen (Err e) reply.Idle saved next.stored own old new is
     (λ program. ap (λ (x : Storing). Some x) (committed next.stored)) (meaning c.in_err-commit_update.ensures.stores (λ s. s.writes)))
     failed.causes unchanged refl refl refl
-    (hindered_storing (Unit {0}) e (ledger_of old.journal) kept (Commit saved) failed.causes failed.used_up
+    (hindered_storing (Unit {0}) e (ledger_of old.journal) own (Commit saved) failed.causes failed.used_up
     (λ program. ap (λ (x : Storing). Some x) (committed next.stored) ∙ ap (λ (x : StoredModel). Some (Commit x)) (sym is)))
     c.in_err-commit_update.ensures.call))
 
@@ -107,7 +107,7 @@ returns g c = λ entry committed.
     let next : SessionModel = record old.session { stored = updated old.session.stored update } in
     let saved : StoredModel = updated old.journal.saved update in
     let is : saved ≡ next.stored = ap (λ (x : StoredModel). updated x update) (sym (c.self.invariant.saved whole)) in
-    let kept : List ℕ → Transition = λ program. commits program entry next in
+    let own : List ℕ → Transition = λ program. commits program entry next in
     let done = c.in_ok-commit_update.ensures in
     carried_as g.R.Rig.seen (λ (x : ControllerModel g.row.R.Denot). ⊥) (λ (x : ControllerModel g.row.R.Denot).
     Unit {0}) (λ (x : ControllerModel g.row.R.Denot). ⊥)
@@ -116,14 +116,14 @@ returns g c = λ entry committed.
     (Ok c.take.result) c.args.self.now old new c.self.view_is (record {
       does = keeps g.R.Rig.seen c.in_ok-commit_update.field-0 c.take.result saved entry next old new is
           c.take.ensures.reply c.take.ensures.next (meaning done.stores (λ s. s.stops)) refl;
-      calls = calls_made g.R.Rig.seen c.take.result kept old new
-          (makes_entry g.R.Rig.seen (Ok c.in_ok-commit_update.field-0) c.take.result saved next.stored kept old new is
+      calls = calls_made g.R.Rig.seen c.take.result own old new
+          (makes_entry g.R.Rig.seen (Ok c.in_ok-commit_update.field-0) c.take.result saved next.stored own old new is
           (λ program. ap (λ (x : Storing). Some x) (committed next.stored)) (meaning done.stores (λ s. s.writes)));
-      reads = reads_answered g.R.Rig.seen c.take.result kept old new (λ h. (done.stores.holds h).holds)
+      reads = reads_answered g.R.Rig.seen c.take.result own old new (λ h. (done.stores.holds h).holds)
           (λ program. refl) (λ program known. known) (λ program. c.take.ensures.reply) (λ program. c.take.ensures.next);
-      comes = comes_by ⊥ c.take.result kept old new (λ program. c.take.ensures.reply) (λ program. c.take.ensures.next);
+      comes = comes_by ⊥ c.take.result own old new (λ program. c.take.ensures.reply) (λ program. c.take.ensures.next);
       line = λ none. absurd none;
-      ledger = ledger_entry g.R.Rig.seen saved next.stored kept old new is
+      ledger = ledger_entry g.R.Rig.seen saved next.stored own old new is
           (λ program. ap (λ (x : Storing). Some x) (committed next.stored)) done.keeps.ledger;
       hindered = tt;
       broken = done.call.broken;

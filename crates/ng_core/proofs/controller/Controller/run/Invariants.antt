@@ -5,8 +5,8 @@ use Rattle.ng_core.proofs.controller.Controller.run.Given as goal
 
 abbrev pub invariant-loop-event : goal.invariant-loop-event
 invariant-loop-event g l = record {
-  room : length l.events ≤ vec_capacity l.replies;
+  fits : length l.events ≤ vec_capacity l.replies;
   count : vec_len l.replies ≡ l.event-index;
   size : (g.R.Rig.seen l.self.journal.rig).sectors ≡ (g.R.Rig.seen l.fn.self.journal.rig).sectors;
-  turns : AreAnsweredEvents g.R.Rig.seen (take l.event-index l.events) l.replies.items l.fn.self l.self;
+  exchanges : AreAnsweredEvents g.R.Rig.seen (take l.event-index l.events) l.replies.items l.fn.self l.self;
 }

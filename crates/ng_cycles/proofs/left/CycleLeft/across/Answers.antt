@@ -10,6 +10,6 @@ returns-clause-next c =
     let one_more : begun + 1 ≡ suc begun = omega arith in
     let one_less : left ≡ suc (left - 1) = omega arith in (
       rw c.requires.phase (across_goes d _ begun left (begun + 1) (left - 1) _ _ _ _ one_more one_less
-          c.hole_at-end.ensures c.at_place-self.ensures c.move_to.ensures.segment c.move_to.ensures.standing),
-      c.move_to.ensures.standing,
+          c.hole_at-end.ensures c.at_place-self.ensures c.move_to.ensures.segment c.move_to.ensures.motion_state),
+      c.move_to.ensures.motion_state,
     )

@@ -12,5 +12,5 @@ returns-clause-later c =
     let most : p.left ≡ whole + (p.left - whole) = let h = c.parts-whole.ensures.most in omega (arith, h) in
     let later_repeats = flat_map (repeat d) (numbers_from (suc c.args.self.now.begun) c.args.self.now.repeats_left) in
     rw (c.requires, c.at_height-self.ensures, c.bottom-bottom.ensures, c.drill.ensures.value)
-    (skip_pecks d c.args.self.now.standing p.peck p.done c.args.n whole p.left (p.done + whole) (p.left - whole)
+    (skip_pecks d c.args.self.now.motion_state p.peck p.done c.args.n whole p.left (p.done + whole) (p.left - whole)
     c.parts-whole.result.1 (TraverseTo d.clear ∷ []) later_repeats some c.parts-whole.ensures.sum most refl)

@@ -14,8 +14,8 @@ invariant_of-self g c = subst (λ (l : List (Call g.row.A.Denot)). (length l ≡
     × RunsFrom g.R.Rig.seen g.O.Origin.start l c.self.inside.moments c.self.inside.controller)
     (sym c.reserve.ensures.items) c.self.invariant
 
-pub invariant_of-self-in_err-kept : goal.invariant_of-self-in_err-kept
-invariant_of-self-in_err-kept g c = subst (λ (l : List (Call g.row.A.Denot)). (length l ≡ c.self.inside.calls.total)
+pub invariant_of-self-in_err-copy : goal.invariant_of-self-in_err-copy
+invariant_of-self-in_err-copy g c = subst (λ (l : List (Call g.row.A.Denot)). (length l ≡ c.self.inside.calls.total)
     × (c.self.inside.spare.parts ≡ 0) × NumberedFrom 0 l
     × RunsFrom g.R.Rig.seen g.O.Origin.start l c.self.inside.moments c.self.inside.controller)
     (sym c.reserve.ensures.items) c.self.invariant
@@ -42,12 +42,12 @@ invariant_of-self-2 g c =
     let now : c.push_reserved.new.self.items ≡ old ++ call ∷ [] = c.push_reserved.ensures.items
     ∙ ap (λ (l : List (Call g.row.A.Denot)). l ++ call ∷ []) c.reserve.ensures.items in
     let number : call.number ≡ c.len-number.result = ap (λ (x : Call g.row.A.Denot). x.number) c.of.ensures in
-    let event : c.in_ok-given.given ≡ call.event = c.in_ok-given.ensures ∙ sym c.in_ok-kept.ensures
+    let event : c.in_ok-given.given ≡ call.event = c.in_ok-given.ensures ∙ sym c.in_ok-copy.ensures
     ∙ sym (ap (λ (x : Call g.row.A.Denot). x.event) c.of.ensures) in
     let reply : c.on-reply.result ≡ call.reply = sym (ap (λ (x : Call g.row.A.Denot). x.reply) c.of.ensures) in
     let given : IsAnsweredEvent g.R.Rig.seen c.in_ok-given.given c.on-reply.result was is =
     record { serves = c.on-reply.ensures.serves; refuses = c.on-reply.ensures.broken } in
-    let turn : IsAnsweredEvent g.R.Rig.seen call.event call.reply was is =
+    let exchange : IsAnsweredEvent g.R.Rig.seen call.event call.reply was is =
     subst (λ (r : Reply). IsAnsweredEvent g.R.Rig.seen call.event r was is) reply
     (subst (λ (e : Event g.row.A.Denot). IsAnsweredEvent g.R.Rig.seen e c.on-reply.result was is) event given) in (
       ap (λ (l : List (Call g.row.A.Denot)). length l) now ∙ omega (arith, length-append old (call ∷ []), c.self.invariant.0, c.add.ensures.total),
@@ -63,18 +63,18 @@ invariant_of-self-2 g c =
           ))),
       subst (λ (l : List (Call g.row.A.Denot)). RunsFrom g.R.Rig.seen g.O.Origin.start l c.push.new.self is) (sym now)
           (subst (λ (l : List ℕ). RunsFrom g.R.Rig.seen g.O.Origin.start (old ++ call ∷ []) l is) (sym c.push.ensures)
-          (runs_more g.R.Rig.seen g.O.Origin.start old c.self.inside.moments call was is c.self.invariant.3 turn c.on-reply.ensures.size)),
+          (runs_more g.R.Rig.seen g.O.Origin.start old c.self.inside.moments call was is c.self.invariant.3 exchange c.on-reply.ensures.size)),
     )
 
-pub returns-clause-turn : goal.returns-clause-turn
-returns-clause-turn g c =
+pub returns-clause-exchange : goal.returns-clause-exchange
+returns-clause-exchange g c =
     let was = c.self.inside.controller in
     let is = c.on-reply.new.self in
     let given : IsAnsweredEvent g.R.Rig.seen c.in_ok-given.given c.on-reply.result was is =
     record { serves = c.on-reply.ensures.serves; refuses = c.on-reply.ensures.broken } in
     let reply : c.on-reply.result ≡ c.of-2.result.reply =
     sym (ap (λ (x : Call g.row.A.Denot). x.reply) c.of-2.ensures) in
-    let turn : IsAnsweredEvent g.R.Rig.seen c.args.event.now c.of-2.result.reply was is =
+    let exchange : IsAnsweredEvent g.R.Rig.seen c.args.event.now c.of-2.result.reply was is =
     subst (λ (r : Reply). IsAnsweredEvent g.R.Rig.seen c.args.event.now r was is) reply
     (subst (λ (e : Event g.row.A.Denot). IsAnsweredEvent g.R.Rig.seen e c.on-reply.result was is) c.in_ok-given.ensures given) in
-    rw (← c.self.view_is) turn
+    rw (← c.self.view_is) exchange

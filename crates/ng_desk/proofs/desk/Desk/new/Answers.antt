@@ -13,7 +13,7 @@ loop-seat-preserved g c =
     record {
       parts = omega (arith, inv.parts, c.split_off.ensures.parts_left);
       amount = omega (arith, inv.amount, c.split_off.ensures.amount_left);
-      room = omega (arith, inv.room, c.push_reserved.ensures.capacity);
+      fits = omega (arith, inv.fits, c.push_reserved.ensures.capacity);
       count = ap (λ (l : List (Seated g.row.A.Denot)). length l) c.push_reserved.ensures.items ∙ omega (arith, length_push places seat, inv.count);
       fresh = subst (λ (l : List (Seated g.row.A.Denot)).
           All (λ (s : Seated g.row.A.Denot). s ≡ record { calls = []; parts = 1 }) l)

@@ -8,7 +8,7 @@ abbrev pub invariant-loop-seat : goal.invariant-loop-seat
 invariant-loop-seat g l = record {
   parts : l.all.parts + l._seat ≡ l.fn.seats;
   amount : l.all.amount ≡ 0;
-  room : l.fn.seats ≤ vec_capacity l.places;
+  fits : l.fn.seats ≤ vec_capacity l.places;
   count : length l.places.items ≡ l._seat;
   fresh : All (λ (s : Seated _). s ≡ record { calls = []; parts = 1 }) l.places.items;
 }

@@ -6,22 +6,22 @@ use Rattle.ng_dry.proofs.splitting.LineSplitter.close.Goals as goal
 pub returns-in-Ok-None : goal.returns-in-Ok-None
 returns-in-Ok-None g c =
     let here = c.args.self.now in
-    let some = not_empty here.kept.items c.is_empty.result c.is_empty.ensures c.if-is_empty.false in
+    let some = not_empty here.partial.items c.is_empty.result c.is_empty.ensures c.if-is_empty.false in
     DryRunSpec-stepped _ _ _ (λ more. due here.run (c.as_slice.result.now ∷ more)) (λ more. due c.execute.new.self more) _ _
-    (rest_of-alone here.run here.kept.items c.as_slice.result.now c.requires.kept some c.as_slice.ensures.value)
+    (rest_of-alone here.run here.partial.items c.as_slice.result.now c.requires.partial some c.as_slice.ensures.value)
     (rw c.in-Ok-None.field-0-is at c.in-Ok-None.ensures.step) c.end_of_text-in-Ok-None.ensures
 
 pub returns-in-Ok-Some : goal.returns-in-Ok-Some
 returns-in-Ok-Some g c =
     let here = c.args.self.now in
-    let some = not_empty here.kept.items c.is_empty.result c.is_empty.ensures c.if-is_empty.false in
+    let some = not_empty here.partial.items c.is_empty.result c.is_empty.ensures c.if-is_empty.false in
     DryRunSpec-ends _ _ (λ more. due here.run (c.as_slice.result.now ∷ more)) _ c.in-Ok-Some.ended
-    (rest_of-alone here.run here.kept.items c.as_slice.result.now c.requires.kept some c.as_slice.ensures.value)
+    (rest_of-alone here.run here.partial.items c.as_slice.result.now c.requires.partial some c.as_slice.ensures.value)
     (rw c.in-Ok-Some.field-0-is at c.in-Ok-Some.ensures.step)
 
 pub returns-in-Err : goal.returns-in-Err
 returns-in-Err g c =
     let here = c.args.self.now in
-    let some = not_empty here.kept.items c.is_empty.result c.is_empty.ensures c.if-is_empty.false in
+    let some = not_empty here.partial.items c.is_empty.result c.is_empty.ensures c.if-is_empty.false in
     DryRunSpec-breaks _ _ (λ more. due here.run (c.as_slice.result.now ∷ more)) _ c.in-Err.broken
-    (rest_of-alone here.run here.kept.items c.as_slice.result.now c.requires.kept some c.as_slice.ensures.value) c.in-Err.ensures.step
+    (rest_of-alone here.run here.partial.items c.as_slice.result.now c.requires.partial some c.as_slice.ensures.value) c.in-Err.ensures.step

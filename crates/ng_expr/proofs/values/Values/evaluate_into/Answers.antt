@@ -1,6 +1,6 @@
 -- One more piece.
 use Rattle.std.proofs.Common.{ap, arith, length}
-use Rattle.ng_words.specs.Kept.{pieces_by}
+use Rattle.ng_words.specs.LineStorage.{pieces_by}
 use Rattle.ng_words.specs.Line.{piece_of}
 use Rattle.ng_expr.specs.Settle.{settled_pieces, settled_of}
 use Rattle.ng_expr.proofs.SettleLemmas.{settled_step}

@@ -1,5 +1,5 @@
 use Rattle.std.proofs.Common.{◌≡◌, ◌≤◌, ◌+◌, length}
-use Rattle.ng_words.specs.Kept.{pieces_by}
+use Rattle.ng_words.specs.LineStorage.{pieces_by}
 use Rattle.ng_expr.specs.Settle.{followed_if_ok, settled_pieces, settled_of}
 use Rattle.ng_expr.proofs.values.Values.evaluate_into.Given as goal
 

@@ -1,7 +1,7 @@
 use Rattle.std.proofs.Common.{◌≡◌, ◌⊎◌, ◌<◌, ◌≤◌, ◌↔◌, ℕ, true, length, refl, sym, ap, subst, ◌∙◌, arith, rules}
 use Rattle.ng_layout.specs.Limits.{greatest_count}
 use Rattle.ng_layout.specs.Areas.{greatest_area, is_large_size, spare_area}
-use Rattle.ng_layout.specs.Header.{longest_in, program_room}
+use Rattle.ng_layout.specs.Header.{longest_in, program_limit_of}
 use Rattle.ng_layout.specs.Stored.{DurableState, StoredModel}
 use Rattle.ng_journal.specs.AtRest.{next_header}
 use Rattle.ng_journal.specs.Journal.{JournalModel, IsSteady}
@@ -10,11 +10,11 @@ use Rattle.ng_log.specs.AtEnd.{no_records}
 use Rattle.ng_journal.specs.declared.storing.Tip.{Tip}
 use Rattle.ng_journal.specs.Private.Records.{ledger}
 use Rattle.ng_journal.specs.Storing.{Ledger, with_program}
-use Rattle.ng_journal.proofs.ProgramRoomLemmas.{with_room, load_kept}
+use Rattle.ng_journal.proofs.ProgramLimitLemmas.{with_limit, load_limited}
 use Rattle.ng_journal.proofs.StoredChangeLemmas.{loaded, not_loaded, loaded_as, not_loaded_as}
 use Rattle.ng_journal.proofs.ProgramHeldLemmas.{holds_load}
 use Rattle.ng_journal.proofs.RecordStoreLemmas.{own}
-use Rattle.ng_journal.proofs.SteadyJournalLemmas.{fits_load, more_epochs, steady_loaded, storable_kept}
+use Rattle.ng_journal.proofs.SteadyJournalLemmas.{fits_load, more_epochs, steady_loaded, storable_limited}
 use Rattle.ng_journal.proofs.journal.Journal.load_program.Goals as goal
 
 pub returns-in-Ok-clause-stores : goal.returns-in-Ok-clause-stores
@@ -25,18 +25,18 @@ returns-in-Ok-clause-stores g c =
     let area_is : area ≡ spare_area (is_large_size (g.R.Rig.seen inside.rig).sectors) header.area =
     c.spare_area-area.ensures.is ∙ ap (λ (n : ℕ). spare_area (is_large_size n) header.area)
     c.size.ensures.value in
-    let kept = with_room inside.stored.room c.args.stored.now in
-    let after : DurableState = record { saved = kept; program = c.args.text.now } in
+    let limited = with_limit inside.stored.program_limit c.args.stored.now in
+    let after : DurableState = record { saved = limited; program = c.args.text.now } in
     let next_is = c.next_header-next.ensures ∙ (λ i. next_header header area (c.stored.view_is i).length) in
     let used = subst (λ (v : JournalModel g.row.R.Denot).
     (c.is_used_up.result ≡ true) ↔ ((greatest_count < c.stored.inside.entries)
     ⊎ (greatest_count ≤ v.header.epoch))) (sym c.self.view_is) c.is_used_up.ensures in
     let more = more_epochs c.is_used_up.result c.stored.inside.entries header used c.if-is_used_up.false in
     let has = subst (λ (n : ℕ). area ≤ greatest_area (is_large_size n)) c.size.ensures.value c.spare_area-area.ensures.most in
-    let room_is = ap (λ s. s.stored.room) c.self-inside.view_is in
-    let short : c.args.stored.now.length ≤ inside.stored.room = omega (arith, c.requires.long, c.if-text-self.false, room_is) in
-    let longest = subst (λ (n : ℕ). longest_in area ≡ program_room (is_large_size n)) c.size.ensures.value c.spare_area-area.ensures.room in
-    let fitting : length c.args.text.now ≤ longest_in area = omega (arith, c.if-text-self.false, room_is, c.self.invariant.limit, longest) in
+    let limit_is = ap (λ s. s.stored.program_limit) c.self-inside.view_is in
+    let short : c.args.stored.now.length ≤ inside.stored.program_limit = omega (arith, c.requires.long, c.if-text-self.false, limit_is) in
+    let longest = subst (λ (n : ℕ). longest_in area ≡ program_limit_of (is_large_size n)) c.size.ensures.value c.spare_area-area.ensures.program_limit in
+    let fitting : length c.args.text.now ≤ longest_in area = omega (arith, c.if-text-self.false, limit_is, c.self.invariant.program_limit, longest) in
     let stops = c.in-Ok.ensures.stops in
     let stores = c.in-Ok.ensures.stores in
     rw (← c.self.view_is) (record {
@@ -44,12 +44,12 @@ returns-in-Ok-clause-stores g c =
       back = stops.back;
       holds = λ h. record {
         stops = λ standing rest.
-            let fits = fits_load _ area inside.stored kept rest.at rest.saved_is c.self.invariant more.0 has longest short refl in
+            let fits = fits_load _ area inside.stored limited rest.at rest.saved_is c.self.invariant more.0 has longest short refl in
             loaded _ _ _ area header c.next_header-next.result inside.tip.end standing after _ _
             c.beginning-self-inside.ensures next_is c.take_state.ensures rest.at
-            (stops.holds h inside.stored.room (own rest.at) fits);
+            (stops.holds h inside.stored.program_limit (own rest.at) fits);
         writes = loaded_as area _ header _ _ _ area_is
-            (load_kept inside.stored.room _ area header c.args.stored.now c.args.text.now _ _ (stores.holds h));
+            (load_limited inside.stored.program_limit _ area header c.args.stored.now c.args.text.now _ _ (stores.holds h));
         holds = holds_load _ area header _ (record { saved = c.args.stored.now; program = c.args.text.now }) _ _
             c.requires.long fitting (stores.holds h) (ap (λ (t : Tip). t.header) c.beginning-self-inside.ensures
             ∙ next_is);
@@ -64,16 +64,16 @@ returns-in-Err-clause-stores g c =
     let area_is : area ≡ spare_area (is_large_size (g.R.Rig.seen inside.rig).sectors) header.area =
     c.spare_area-area.ensures.is ∙ ap (λ (n : ℕ). spare_area (is_large_size n) header.area)
     c.size.ensures.value in
-    let kept = with_room inside.stored.room c.args.stored.now in
-    let after : DurableState = record { saved = kept; program = c.args.text.now } in
+    let limited = with_limit inside.stored.program_limit c.args.stored.now in
+    let after : DurableState = record { saved = limited; program = c.args.text.now } in
     let used = subst (λ (v : JournalModel g.row.R.Denot).
     (c.is_used_up.result ≡ true) ↔ ((greatest_count < c.stored.inside.entries)
     ⊎ (greatest_count ≤ v.header.epoch))) (sym c.self.view_is) c.is_used_up.ensures in
     let more = more_epochs c.is_used_up.result c.stored.inside.entries header used c.if-is_used_up.false in
     let has = subst (λ (n : ℕ). area ≤ greatest_area (is_large_size n)) c.size.ensures.value c.spare_area-area.ensures.most in
-    let room_is = ap (λ s. s.stored.room) c.self-inside.view_is in
-    let short : c.args.stored.now.length ≤ inside.stored.room = omega (arith, c.requires.long, c.if-text-self.false, room_is) in
-    let longest = subst (λ (n : ℕ). longest_in area ≡ program_room (is_large_size n)) c.size.ensures.value c.spare_area-area.ensures.room in
+    let limit_is = ap (λ s. s.stored.program_limit) c.self-inside.view_is in
+    let short : c.args.stored.now.length ≤ inside.stored.program_limit = omega (arith, c.requires.long, c.if-text-self.false, limit_is) in
+    let longest = subst (λ (n : ℕ). longest_in area ≡ program_limit_of (is_large_size n)) c.size.ensures.value c.spare_area-area.ensures.program_limit in
     let stops = c.load.ensures.stops in
     let stores = c.load.ensures.stores in
     rw (← c.self.view_is) (record {
@@ -81,11 +81,11 @@ returns-in-Err-clause-stores g c =
       back = stops.back;
       holds = λ h. record {
         stops = λ standing rest.
-            let fits = fits_load _ area inside.stored kept rest.at rest.saved_is c.self.invariant more.0 has longest short refl in
+            let fits = fits_load _ area inside.stored limited rest.at rest.saved_is c.self.invariant more.0 has longest short refl in
             not_loaded _ c.load.result _ area header inside.tip.end standing after _ _ rest.at
-            (stops.holds h inside.stored.room (own rest.at) fits);
+            (stops.holds h inside.stored.program_limit (own rest.at) fits);
         writes = not_loaded_as area _ _ c.load.result header _ _ _ area_is
-            (load_kept inside.stored.room c.load.result area header c.args.stored.now c.args.text.now _ _ (stores.holds h));
+            (load_limited inside.stored.program_limit c.load.result area header c.args.stored.now c.args.text.now _ _ (stores.holds h));
         holds = tt;
       };
     })
@@ -107,7 +107,7 @@ returns-in-Ok-clause-keeps g c =
           c.take_state.new.stored;
     })
     (with_program (spare_area (is_large_size (g.R.Rig.seen inside.rig).sectors) header.area)
-    (ledger inside.tip inside.stored) (with_room inside.stored.room c.args.stored.now)) = λ i.
+    (ledger inside.tip inside.stored) (with_limit inside.stored.program_limit c.args.stored.now)) = λ i.
     record {
       header = ((c.beginning-self-inside.ensures
           ∙ ap (λ (h : Header). (let t : Tip = record { header = h; end = no_records } in t)) next_is) i).header;
@@ -126,15 +126,15 @@ invariant_of-self g c =
     ⊎ (greatest_count ≤ v.header.epoch))) (sym c.self.view_is) c.is_used_up.ensures in
     let more = more_epochs c.is_used_up.result c.stored.inside.entries header used c.if-is_used_up.false in
     let has = subst (λ (n : ℕ). area ≤ greatest_area (is_large_size n)) c.size.ensures.value c.spare_area-area.ensures.most in
-    let room_is = ap (λ s. s.stored.room) c.self-inside.view_is in
-    let short : c.args.stored.now.length ≤ inside.stored.room = omega (arith, c.requires.long, c.if-text-self.false, room_is) in
-    let longest = subst (λ (n : ℕ). longest_in area ≡ program_room (is_large_size n)) c.size.ensures.value c.spare_area-area.ensures.room in
+    let limit_is = ap (λ s. s.stored.program_limit) c.self-inside.view_is in
+    let short : c.args.stored.now.length ≤ inside.stored.program_limit = omega (arith, c.requires.long, c.if-text-self.false, limit_is) in
+    let longest = subst (λ (n : ℕ). longest_in area ≡ program_limit_of (is_large_size n)) c.size.ensures.value c.spare_area-area.ensures.program_limit in
     let next_is = c.next_header-next.ensures ∙ (λ i. next_header header area (c.stored.view_is i).length) in
-    let now_is = ap (λ (v : JournalModel g.row.R.Denot). v.saved.room) c.self.view_is in
-    let storable = storable_kept inside.stored c.args.stored.now c.self.invariant.storable
-    (c.requires.storable (omega (arith, c.if-text-self.false, room_is, now_is))) short in
+    let now_is = ap (λ (v : JournalModel g.row.R.Denot). v.saved.program_limit) c.self.view_is in
+    let storable = storable_limited inside.stored c.args.stored.now c.self.invariant.storable
+    (c.requires.storable (omega (arith, c.if-text-self.false, limit_is, now_is))) short in
     let steady = steady_loaded _ _ area header c.next_header-next.result inside.tip.end inside.stored
-    (with_room inside.stored.room c.args.stored.now) c.self.invariant c.in-Ok.ensures.call.size more.0 has
+    (with_limit inside.stored.program_limit c.args.stored.now) c.self.invariant c.in-Ok.ensures.call.size more.0 has
     longest short refl storable (subst (λ (s : StoredModel). s.entries ≤ greatest_count) c.stored.view_is
     more.1) next_is in
     rw c.beginning-self-inside.ensures

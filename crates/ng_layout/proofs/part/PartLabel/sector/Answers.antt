@@ -3,7 +3,7 @@ use Rattle.ng_layout.specs.Part.{label_of}
 use Rattle.ng_layout.specs.declared.rows.Number.TheVariants.{U8, U16, U64}
 use Rattle.ng_layout.proofs.ByteLemmas.{bytes-from}
 use Rattle.ng_layout.proofs.PartLemmas.{labelled}
-use Rattle.ng_layout.proofs.RowLemmas.{Row, row-room}
+use Rattle.ng_layout.proofs.RowLemmas.{Row, row-fits}
 use Rattle.ng_layout.proofs.SectorLemmas.{bytes-zeros}
 use Rattle.ng_layout.proofs.part.PartLabel.sector.Goals as goal
 
@@ -12,7 +12,7 @@ put_rows-requires c =
     let l = c.args.self in
     let rows : List Row = (0, U64 l.epoch) ∷ (8, U64 l.number) ∷ (16, U16 l.part) ∷ (18, U16 l.parts) ∷
     (20, U16 l.changes) ∷ [] in
-    λ i d lt. omega (arith, row-room rows 22 i d refl lt)
+    λ i d lt. omega (arith, row-fits rows 22 i d refl lt)
 
 pub returns-clause-rest : goal.returns-clause-rest
 returns-clause-rest c = c.put_rows.ensures.beyond 0 22 refl

@@ -36,5 +36,5 @@ returns-in-Some-clause-given g c =
           (rw c.rest_of-self-inside.ensures (rest_less line c.square_after-to.result c.self.inside.start c.args.wanted (ahead slots) passed.follows.within));
       start = refl;
       percent = refl;
-      room = search rules;
+      capacity = search rules;
     })

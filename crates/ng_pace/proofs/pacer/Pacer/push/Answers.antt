@@ -4,7 +4,7 @@ use Rattle.ng_pace.proofs.pacer.Pacer.push.Goals as goal
 
 pub push_back_reserved-requires : goal.push_back_reserved-requires
 push_back_reserved-requires g c =
-    let room : _ = rw (← c.self.view_is) at c.requires in omega (arith, room, length-lines_of c.self.inside.slots.items)
+    let capacity : _ = rw (← c.self.view_is) at c.requires in omega (arith, capacity, length-lines_of c.self.inside.slots.items)
 
 pub invariant_of-self : goal.invariant_of-self
 invariant_of-self g c = rw c.push_back_reserved.ensures.items (record {

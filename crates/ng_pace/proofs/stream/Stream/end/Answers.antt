@@ -8,8 +8,8 @@ use Rattle.ng_pace.proofs.stream.Stream.end.Goals as goal
 
 pub invariant_of-self : goal.invariant_of-self
 invariant_of-self g c = record {
-  fits = omega (arith, c.self.invariant.fits, c.finish.ensures.keeps.count, c.finish.ensures.keeps.settles.room);
-  capacity_is = omega (arith, c.finish.ensures.capacity, c.self.invariant.capacity_is, c.finish.ensures.keeps.settles.room);
+  fits = omega (arith, c.self.invariant.fits, c.finish.ensures.keeps.count, c.finish.ensures.keeps.settles.capacity);
+  capacity_is = omega (arith, c.finish.ensures.capacity, c.self.invariant.capacity_is, c.finish.ensures.keeps.settles.capacity);
   start_is = c.finish.ensures.start ∙ c.self.invariant.start_is ∙ sym c.finish.ensures.keeps.settles.start;
   limits_are = c.self.invariant.limits_are;
   rests = settles_rest c.finish.ensures.keeps.settles c.self.invariant.rests;

@@ -7,19 +7,19 @@ use Rattle.ng_pace.proofs.FinalLimitLemmas.{length-timed_waiting, adds_rest, put
 use Rattle.ng_pace.proofs.PutLemmas.{put-flow}
 use Rattle.ng_pace.proofs.stream.Stream.push.Goals as goal
 
-pub push_item-requires-clause-room : goal.push_item-requires-clause-room
-push_item-requires-clause-room g c =
-    let room : length c.self.inside.pacer.known + length (timed_waiting c.self.inside.waiting.items) < c.self.inside.pacer.room = rw (← c.self.view_is) at
+pub push_item-requires-clause-fits : goal.push_item-requires-clause-fits
+push_item-requires-clause-fits g c =
+    let short : length c.self.inside.pacer.known + length (timed_waiting c.self.inside.waiting.items) < c.self.inside.pacer.capacity = rw (← c.self.view_is) at
     c.requires in
-    omega (arith, room, length-timed_waiting c.self.inside.waiting.items)
+    omega (arith, short, length-timed_waiting c.self.inside.waiting.items)
 
 pub invariant_of-self : goal.invariant_of-self
 invariant_of-self g c =
-    let room : length c.self.inside.pacer.known + length (timed_waiting c.self.inside.waiting.items) < c.self.inside.pacer.room = rw (← c.self.view_is) at
+    let short : length c.self.inside.pacer.known + length (timed_waiting c.self.inside.waiting.items) < c.self.inside.pacer.capacity = rw (← c.self.view_is) at
     c.requires in
     record {
-      fits = omega (arith, room, length-timed_waiting c.self.inside.waiting.items, c.push_item.ensures.adds.count, c.push_item.ensures.adds.settles.room);
-      capacity_is = omega (arith, c.push_item.ensures.capacity, c.self.invariant.capacity_is, c.push_item.ensures.adds.settles.room);
+      fits = omega (arith, short, length-timed_waiting c.self.inside.waiting.items, c.push_item.ensures.adds.count, c.push_item.ensures.adds.settles.capacity);
+      capacity_is = omega (arith, c.push_item.ensures.capacity, c.self.invariant.capacity_is, c.push_item.ensures.adds.settles.capacity);
       start_is = c.push_item.ensures.start ∙ c.self.invariant.start_is ∙ sym c.push_item.ensures.adds.settles.start;
       limits_are = c.self.invariant.limits_are;
       rests = adds_rest c.push_item.ensures.adds c.self.invariant.rests;

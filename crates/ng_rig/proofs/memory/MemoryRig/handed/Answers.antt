@@ -1,7 +1,7 @@
 use Rattle.std.proofs.Common.{◌≡◌, ℕ, List, sym, ◌∙◌, ap}
 use Rattle.std.proofs.lemmas.Result.{IfOk-weaker}
 use Rattle.ng_rig.specs.Trace.{Trace, items, trace_at}
-use Rattle.ng_rig.specs.Kept.{trace_of_calls}
+use Rattle.ng_rig.specs.RecordedCalls.{trace_of_calls}
 use Rattle.ng_rig.specs.declared.call.Call.{Call}
 use Rattle.ng_rig.proofs.TraceLemmas.{trace_at-trace_of_calls}
 use Rattle.ng_rig.proofs.memory.MemoryRig.handed.Goals as goal

@@ -6,9 +6,9 @@ use Rattle.ng_schedule.proofs.giving.Schedule.give_all.Given as goal
 
 abbrev pub invariant-loop-halt : goal.invariant-loop-halt
 invariant-loop-halt g l =
-    ((limits : Limits) (start : Option (List ℕ)) (bytes kept : List ℕ)
-    → IsUnderWay limits start (g.W.Write.contents l.fn.writer) bytes kept l.fn.self
-    → IsAt true limits start (g.W.Write.contents l.writer) bytes kept l.self)
+    ((limits : Limits) (start : Option (List ℕ)) (bytes partial : List ℕ)
+    → IsUnderWay limits start (g.W.Write.contents l.fn.writer) bytes partial l.fn.self
+    → IsAt true limits start (g.W.Write.contents l.writer) bytes partial l.self)
     × (l.self.stream.waiting ≡ [])
     × (l.self.shown ≡ l.fn.self.shown)
 

@@ -6,39 +6,39 @@ use Rattle.ng_schedule.proofs.StreamLemmas.{still_full}
 use Rattle.ng_schedule.proofs.giving.Schedule.give_one.Goals as goal
 
 pub returns-in-Ok-false-give_next-clause-step : goal.returns-in-Ok-false-give_next-clause-step
-returns-in-Ok-false-give_next-clause-step g c limits start bytes kept here full =
-    let first = c.in-Ok-false.ensures.step false limits start bytes kept here (λ no. full) in
+returns-in-Ok-false-give_next-clause-step g c limits start bytes partial here full =
+    let first = c.in-Ok-false.ensures.step false limits start bytes partial here (λ no. full) in
     let same = c.in-Ok-false.ensures.same c.in-Ok-false.field-0-test in
     let none : c.give_next.new.self.stream.motion.known ≡ [] = ap (λ (t : Flow). t.motion.known) same ∙ c.in-Ok-false.ensures.none c.in-Ok-false.field-0-test in
-    let full' : IsFull c.give_next.new.self = subst (λ (t : Flow). t.motion.room ≤ length t.motion.known + length t.waiting) (sym same) full in
-    let ended = told limits start _ bytes kept c.give_next.new.self
+    let full' : IsFull c.give_next.new.self = subst (λ (t : Flow). t.motion.capacity ≤ length t.motion.known + length t.waiting) (sym same) full in
+    let ended = told limits start _ bytes partial c.give_next.new.self
     (record c.give_next.new.self { stream = c.end.new.self }) first none full' c.end.ensures refl refl refl
     refl in
     let full'' = still_full c.give_next.new.self.stream c.end.new.self c.end.ensures full' in
-    cut limits start _ bytes kept c.give_next-2.new.self c.give_next-2.new.self.shown refl
-    (c.in-Ok-false-give_next.ensures.step false limits start bytes kept ended (λ no. full''))
+    cut limits start _ bytes partial c.give_next-2.new.self c.give_next-2.new.self.shown refl
+    (c.in-Ok-false-give_next.ensures.step false limits start bytes partial ended (λ no. full''))
 
 pub returns-in-Err-give_next-clause-step : goal.returns-in-Err-give_next-clause-step
-returns-in-Err-give_next-clause-step g c limits start bytes kept here full =
-    let first = c.in-Ok-false.ensures.step false limits start bytes kept here (λ no. full) in
+returns-in-Err-give_next-clause-step g c limits start bytes partial here full =
+    let first = c.in-Ok-false.ensures.step false limits start bytes partial here (λ no. full) in
     let same = c.in-Ok-false.ensures.same c.in-Ok-false.field-0-test in
     let none : c.give_next.new.self.stream.motion.known ≡ [] = ap (λ (t : Flow). t.motion.known) same ∙ c.in-Ok-false.ensures.none c.in-Ok-false.field-0-test in
-    let full' : IsFull c.give_next.new.self = subst (λ (t : Flow). t.motion.room ≤ length t.motion.known + length t.waiting) (sym same) full in
-    let ended = told limits start _ bytes kept c.give_next.new.self
+    let full' : IsFull c.give_next.new.self = subst (λ (t : Flow). t.motion.capacity ≤ length t.motion.known + length t.waiting) (sym same) full in
+    let ended = told limits start _ bytes partial c.give_next.new.self
     (record c.give_next.new.self { stream = c.end.new.self }) first none full' c.end.ensures refl refl refl
     refl in
-    c.in-Err-give_next.ensures.step false limits start bytes kept ended (λ no. still_full c.give_next.new.self.stream c.end.new.self c.end.ensures full')
+    c.in-Err-give_next.ensures.step false limits start bytes partial ended (λ no. still_full c.give_next.new.self.stream c.end.new.self c.end.ensures full')
 
 pub returns-in-Ok-true-give_next-clause-step : goal.returns-in-Ok-true-give_next-clause-step
-returns-in-Ok-true-give_next-clause-step g c limits start bytes kept here full =
-    let first = c.in-Ok-false.ensures.step false limits start bytes kept here (λ no. full) in
+returns-in-Ok-true-give_next-clause-step g c limits start bytes partial here full =
+    let first = c.in-Ok-false.ensures.step false limits start bytes partial here (λ no. full) in
     let same = c.in-Ok-false.ensures.same c.in-Ok-false.field-0-test in
     let none : c.give_next.new.self.stream.motion.known ≡ [] = ap (λ (t : Flow). t.motion.known) same ∙ c.in-Ok-false.ensures.none c.in-Ok-false.field-0-test in
-    let full' : IsFull c.give_next.new.self = subst (λ (t : Flow). t.motion.room ≤ length t.motion.known + length t.waiting) (sym same) full in
-    let ended = told limits start _ bytes kept c.give_next.new.self
+    let full' : IsFull c.give_next.new.self = subst (λ (t : Flow). t.motion.capacity ≤ length t.motion.known + length t.waiting) (sym same) full in
+    let ended = told limits start _ bytes partial c.give_next.new.self
     (record c.give_next.new.self { stream = c.end.new.self }) first none full' c.end.ensures refl refl refl
     refl in
-    c.in-Ok-true-give_next.ensures.step false limits start bytes kept ended (λ no. still_full c.give_next.new.self.stream c.end.new.self c.end.ensures full')
+    c.in-Ok-true-give_next.ensures.step false limits start bytes partial ended (λ no. still_full c.give_next.new.self.stream c.end.new.self c.end.ensures full')
 
 pub returns-in-Err-clause-step : goal.returns-in-Err-clause-step
-returns-in-Err-clause-step g c limits start bytes kept here full = c.in-Err.ensures.step false limits start bytes kept here (λ no. full)
+returns-in-Err-clause-step g c limits start bytes partial here full = c.in-Err.ensures.step false limits start bytes partial here (λ no. full)

@@ -4,8 +4,8 @@ use Rattle.ng_schedule.proofs.giving.Schedule.take_item.Goals as goal
 
 pub returns-in-Ok-clause-step : goal.returns-in-Ok-clause-step
 returns-in-Ok-clause-step g c limits start bytes here =
-    takes limits start _ bytes c.make_room.new.self _ c.args.item (c.in-Ok.ensures.step limits start bytes [] here) c.push.ensures refl refl refl refl
+    takes limits start _ bytes c.give_while_full.new.self _ c.args.item (c.in-Ok.ensures.step limits start bytes [] here) c.push.ensures refl refl refl refl
 
 pub returns-in-Err-clause-step : goal.returns-in-Err-clause-step
-returns-in-Err-clause-step g c limits start bytes here = HaltSpec-more limits start _ bytes _ c.make_room.new.self
+returns-in-Err-clause-step g c limits start bytes here = HaltSpec-more limits start _ bytes _ c.give_while_full.new.self
     c.in-Err.halt (c.in-Err.ensures.step limits start bytes [] here)

@@ -1,12 +1,13 @@
 use Rattle.std.proofs.Common.{refl}
 use Rattle.ng_schedule.proofs.FinishLemmas.{ScheduleSpec-from, not_empty}
 use Rattle.ng_schedule.proofs.EndedLineLemmas.{unended}
-use Rattle.ng_schedule.proofs.RunStepLemmas.{unkept}
+use Rattle.ng_schedule.proofs.RunStepLemmas.{without_partial}
 use Rattle.ng_schedule.proofs.splitting.LineSplitter.close.Goals as goal
 
 pub returns : goal.returns
 returns g c limits start bytes here =
-    let kept = c.args.self.now.kept.items in
-    let parts = unkept limits start _ bytes kept c.args.self.now.schedule here in
+    let partial = c.args.self.now.partial.items in
+    let parts = without_partial limits start _ bytes partial c.args.self.now.schedule here in
     ScheduleSpec-from limits _ _ _ bytes start _ c.refuse.result refl parts.2
-    (c.refuse.ensures limits start parts.0 kept parts.1 (not_empty kept c.is_empty.result c.is_empty.ensures c.if-is_empty.false) (unended kept c.requires))
+    (c.refuse.ensures limits start parts.0 partial parts.1 (not_empty partial c.is_empty.result c.is_empty.ensures c.if-is_empty.false)
+    (unended partial c.requires))

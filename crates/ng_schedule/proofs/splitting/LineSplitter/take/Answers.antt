@@ -7,16 +7,16 @@ use Rattle.ng_schedule.proofs.splitting.LineSplitter.take.Goals as goal
 pub loop-left-preserved-in-loop-left : goal.loop-left-preserved-in-loop-left
 loop-left-preserved-in-loop-left g c =
     let so_far = c.loop-left.invariant.0 in
-    let kept = c.loop-left.self.kept.items in
-    let none : kept ≡ [] = empty_is kept c.is_empty.result c.is_empty.ensures c.if-is_empty.true in
+    let partial = c.loop-left.self.partial.items in
+    let none : partial ≡ [] = empty_is partial c.is_empty.result c.is_empty.ensures c.if-is_empty.true in
     let line = pulse_line c.in-Some.pulse in (
       (
         so_far.0 ++ line,
         so_far.1 ∙ ap (λ l. so_far.0 ++ l) c.in-Some.ensures.found ∙ sym (append_assoc so_far.0 line c.in-Some.after.now),
         λ limits start before here.
-            goes_on limits start _ before so_far.0 line kept c.take_read.new.self none
+            goes_on limits start _ before so_far.0 line partial c.take_read.new.self none
             (c.in-Ok.ensures.step limits start (before ++ so_far.0)
-            (with_nothing limits start _ (before ++ so_far.0) kept c.loop-left.self.schedule none
+            (with_nothing limits start _ (before ++ so_far.0) partial c.loop-left.self.schedule none
             (so_far.2 limits start before here))),
       ),
       c.loop-left.invariant.1,
@@ -36,22 +36,22 @@ loop-left-preserved g c =
             ∙ sym (append_assoc so_far.0 (line ++ 10 ∷ []) c.in-Some-split_line.after.now),
         λ limits start before here.
             subst (λ (b : List ℕ). IsUnderWay limits start (g.W.Write.contents c.end_line.new.writer) b
-            next.kept.items next.schedule) (append_assoc before so_far.0 (line ++ 10 ∷ []))
+            next.partial.items next.schedule) (append_assoc before so_far.0 (line ++ 10 ∷ []))
             (c.in-Ok-end_line.ensures.step limits start (before ++ so_far.0) (so_far.2 limits start before here)),
       ),
-      c.end_line.ensures.kept,
+      c.end_line.ensures.partial,
       c.end_line.ensures.shown ∙ c.loop-left.invariant.2,
     )
 
 pub returns-in-Err-clause-step : goal.returns-in-Err-clause-step
 returns-in-Err-clause-step g c limits start before here =
     let so_far = c.loop-left.invariant.0 in
-    let kept = c.loop-left.self.kept.items in
-    let none : kept ≡ [] = empty_is kept c.is_empty.result c.is_empty.ensures c.if-is_empty.true in
+    let partial = c.loop-left.self.partial.items in
+    let none : partial ≡ [] = empty_is partial c.is_empty.result c.is_empty.ensures c.if-is_empty.true in
     stops_within limits start _ before so_far.0 (pulse_line c.in-Some.pulse) c.in-Some.after.now c.args.bytes.now
     c.loop-left.left.now c.take_read.new.self c.in-Err.stop so_far.1 c.in-Some.ensures.found
     (c.in-Err.ensures.step limits start (before ++ so_far.0)
-    (with_nothing limits start _ (before ++ so_far.0) kept c.loop-left.self.schedule none
+    (with_nothing limits start _ (before ++ so_far.0) partial c.loop-left.self.schedule none
     (so_far.2 limits start before here)))
 
 pub returns-in-Err-end_line-clause-step : goal.returns-in-Err-end_line-clause-step
@@ -70,5 +70,5 @@ returns-in_default-clause-step g c limits start before here =
     let all : before ++ c.args.bytes.now ≡ (before ++ so_far.0) ++ c.loop-left.left.now =
     ap (λ l. before ++ l) so_far.1 ∙ sym (append_assoc before so_far.0 c.loop-left.left.now) in
     subst (λ (b : List ℕ). TakeSpec limits start (g.W.Write.contents c.loop-left.writer) b
-    c.keep.new.self.kept.items c.keep.new.self.schedule c.keep.result) (sym all)
+    c.keep.new.self.partial.items c.keep.new.self.schedule c.keep.result) (sym all)
     (c.keep.ensures.step limits start (g.W.Write.contents c.loop-left.writer) (before ++ so_far.0) (so_far.2 limits start before here))

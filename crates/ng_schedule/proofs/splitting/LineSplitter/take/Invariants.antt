@@ -8,10 +8,10 @@ abbrev pub invariant-loop-left : goal.invariant-loop-left
 invariant-loop-left g l =
     ((taken : List ℕ) × (l.fn.bytes ≡ taken ++ l.left)
     × ((limits : Limits) (start : Option (List ℕ)) (before : List ℕ)
-    → IsUnderWay limits start (g.W.Write.contents l.fn.writer) before l.fn.self.kept.items l.fn.self.schedule
-    → IsUnderWay limits start (g.W.Write.contents l.writer) (before ++ taken) l.self.kept.items
+    → IsUnderWay limits start (g.W.Write.contents l.fn.writer) before l.fn.self.partial.items l.fn.self.schedule
+    → IsUnderWay limits start (g.W.Write.contents l.writer) (before ++ taken) l.self.partial.items
     l.self.schedule))
-    × HasNoNewline l.self.kept.items
+    × HasNoNewline l.self.partial.items
     × (l.self.schedule.shown ≡ l.fn.self.schedule.shown)
 
 abbrev pub decreases-loop-left : goal.decreases-loop-left

@@ -2,7 +2,7 @@ use Rattle.std.proofs.Common.{◌≤◌, [], length, ◌∙◌, ap, arith}
 use Rattle.ng_layout.specs.Stored.{StoredModel}
 use Rattle.ng_session.specs.Entries.{place_after}
 use Rattle.ng_session.specs.declared.stage.Stage.TheVariants.{OnBlock}
-use Rattle.ng_session.proofs.KeptBlockLemmas.{settled_restore, begun_ready, left_taken}
+use Rattle.ng_session.proofs.BareBlockLemmas.{settled_restore, begun_ready, left_taken}
 use Rattle.ng_session.proofs.current_block.CurrentBlock.begun.Goals as goal
 
 pub returns-clause-value : goal.returns-clause-value

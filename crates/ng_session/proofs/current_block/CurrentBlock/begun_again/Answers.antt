@@ -1,9 +1,9 @@
 use Rattle.std.proofs.Common.{◌≡◌, ◌≤◌, [], false, drop, length, ◌∙◌, ap, arith}
 use Rattle.ng_block.specs.Effects.{in_state}
 use Rattle.ng_layout.specs.Stored.{HalfModel, StoredModel}
-use Rattle.ng_session.specs.Entries.{place_after, stance_before}
+use Rattle.ng_session.specs.Entries.{place_after, motion_state_before}
 use Rattle.ng_session.specs.declared.stage.Stage.TheVariants.{ToApproach}
-use Rattle.ng_session.proofs.KeptBlockLemmas.{settled_restore, begun_ready, left_taken}
+use Rattle.ng_session.proofs.BareBlockLemmas.{settled_restore, begun_ready, left_taken}
 use Rattle.ng_session.proofs.current_block.CurrentBlock.begun_again.Goals as goal
 
 pub returns-clause-value : goal.returns-clause-value
@@ -16,8 +16,8 @@ returns-clause-value g c =
     let text = c.text_from.ensures ∙ c.as_slice.ensures.value ∙ ap (λ (h : HalfModel). h.text) c.half.view_is in
     let left = left_taken c.next-upcoming.result c.block_segments_from-left.result.block_segments c.next-upcoming.new.self c.next-upcoming.ensures
     ∙ c.block_segments_from-left.ensures.block_segments ∙ ap (λ n. drop n (in_state x.setup effect).segments) index in
-    let to : c.block_segments_from-left.result.standing ≡ stance_before x.setup (in_state x.setup effect) half.index =
-    rw (← c.half.view_is, ← c.start_of.ensures) c.block_segments_from-left.ensures.standing in
+    let to : c.block_segments_from-left.result.motion_state ≡ motion_state_before x.setup (in_state x.setup effect) half.index =
+    rw (← c.half.view_is, ← c.start_of.ensures) c.block_segments_from-left.ensures.motion_state in
     let changes = settled_restore x.setup.params effect.changes.items c.changes_of.result.items c.requires.storable.table c.changes_of.ensures in
     let place = c.place_after.ensures ∙ ap (λ (y : StoredModel). place_after c.args.next y.place c.half.inside.source effect.stop) c.stored.view_is
     ∙ ap (λ s. place_after c.args.next x.place s effect.stop) source in

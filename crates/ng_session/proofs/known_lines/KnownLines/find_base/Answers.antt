@@ -1,6 +1,6 @@
 use Rattle.std.proofs.Common.{◌∙◌, length, ap}
 use Rattle.ng_layout.specs.Stored.{StoredModel}
-use Rattle.ng_session.proofs.KeptBlockLemmas.{base_on_long}
+use Rattle.ng_session.proofs.BareBlockLemmas.{base_on_long}
 use Rattle.ng_session.proofs.known_lines.KnownLines.find_base.Goals as goal
 
 pub invariant_of-self : goal.invariant_of-self

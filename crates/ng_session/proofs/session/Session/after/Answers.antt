@@ -1,6 +1,6 @@
 use Rattle.std.proofs.Common.{refl, ap}
 use Rattle.std.specs.Option.{option_map}
-use Rattle.ng_session.specs.KeptBlock.{block_on}
+use Rattle.ng_session.specs.BareBlock.{block_on}
 use Rattle.ng_session.specs.Session.{SessionModel}
 use Rattle.ng_session.proofs.session.Session.after.Goals as goal
 

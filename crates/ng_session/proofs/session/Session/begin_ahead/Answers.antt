@@ -1,5 +1,5 @@
 use Rattle.std.proofs.Common.{Some}
-use Rattle.ng_session.specs.KeptBlock.{block_on}
+use Rattle.ng_session.specs.BareBlock.{block_on}
 use Rattle.ng_session.proofs.PlannedLineLemmas.{begun_ahead}
 use Rattle.ng_session.proofs.session.Session.begin_ahead.Goals as goal
 

@@ -1,12 +1,12 @@
 use Rattle.std.proofs.Common.{◌≡◌, ◌≢◌, ◌<◌, Option, Some, MatchBool, refl, sym, ◌∙◌, ap, subst}
 use Rattle.std.specs.Prelude.{IfSome}
 use Rattle.std.specs.Option.{option_map}
-use Rattle.ng_session.specs.KeptBlock.{KeptBlock, block_on, IsReady}
+use Rattle.ng_session.specs.BareBlock.{BareBlock, block_on, IsReady}
 use Rattle.ng_session.specs.Session.{SessionModel, idleness}
 use Rattle.ng_session.specs.SessionInvariant.{IsSessionInvariant}
 use Rattle.ng_session.specs.declared.session.Session.TheInside.{Inside}
 use Rattle.ng_session.specs.declared.stage.Stage.TheVariants.{OnBlock}
-use Rattle.ng_session.proofs.SessionInvariantLemmas.{kept_alone, kept_approach}
+use Rattle.ng_session.proofs.SessionInvariantLemmas.{holds_alone, holds_approach}
 use Rattle.ng_session.proofs.session.Session.commit.Goals.{then-not-end_approach, else-not-end_approach}
 use Rattle.ng_session.proofs.session.Session.commit.Goals as goal
 
@@ -17,7 +17,7 @@ returns-in_default-clause-rest_reply g c = λ program none. c.rest.ensures progr
 pub invariant_of-self-2 : goal.invariant_of-self-2
 invariant_of-self-2 g c =
     let x = c.self.inside.stored in
-    let b : KeptBlock = c.in-Some.current in
+    let b : BareBlock = c.in-Some.current in
     let f = block_on x.setup.params in
     let s : SessionModel = record {
       stored = x;
@@ -30,16 +30,16 @@ invariant_of-self-2 g c =
     let counts : IfSome s.current (λ _. x.entries < 1_000_000_000_000) =
     subst (λ (t : SessionModel). IfSome t.current (λ _. t.stored.entries < 1_000_000_000_000)) (sym c.self.view_is) c.requires in
     let count : x.entries < 1_000_000_000_000 =
-    subst (λ (o : Option KeptBlock). IfSome (option_map f o) (λ _. x.entries < 1_000_000_000_000)) c.in-Some.is counts in
-    let ready : IsReady x b = subst (λ (o : Option KeptBlock). IfSome o (IsReady x)) c.in-Some.is c.self.invariant.ready in
+    subst (λ (o : Option BareBlock). IfSome (option_map f o) (λ _. x.entries < 1_000_000_000_000)) c.in-Some.is counts in
+    let ready : IsReady x b = subst (λ (o : Option BareBlock). IfSome o (IsReady x)) c.in-Some.is c.self.invariant.ready in
     let update = c.update-update.ensures in
     elim c.if-not-end_approach.branch [
-      | then-not-end_approach w ↦ rw w.self-inside-is (kept_alone x _ c.update-update.result count update.next
+      | then-not-end_approach w ↦ rw w.self-inside-is (holds_alone x _ c.update-update.result count update.next
           (ap (λ (z : Inside g.row.A.Denot). z.stored) w.self-inside.view_is ∙ c.take_update.ensures))
       | else-not-end_approach w ↦
           let off : b.stage ≢ OnBlock = subst (λ t. MatchBool t (b.stage ≢ OnBlock) (b.stage ≡ OnBlock))
           w.if-not-end_approach.false c.end_approach.ensures.way in
-          let kept = kept_approach s c.take_update.new.self b c.update-update.result b.stage count update.next
+          let approach_holds = holds_approach s c.take_update.new.self b c.update-update.result b.stage count update.next
           c.take_update.ensures (update.value s refl) off ready in
-          rw w.self-inside-is (subst (λ (z : KeptBlock). IsSessionInvariant c.take_update.new.self (Some z)) (sym c.end_approach.ensures.next) kept)
+          rw w.self-inside-is (subst (λ (z : BareBlock). IsSessionInvariant c.take_update.new.self (Some z)) (sym c.end_approach.ensures.next) approach_holds)
     ]

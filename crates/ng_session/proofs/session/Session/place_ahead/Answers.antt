@@ -2,7 +2,7 @@ use Rattle.std.proofs.Common.{◌≡◌, ◌≤◌, ◌∙◌, ap, subst, arith}
 use Rattle.ng_layout.specs.Storable.{IsStorable}
 use Rattle.ng_session.specs.Planned.{base_of, base_at_end}
 use Rattle.ng_session.specs.Session.{SessionModel}
-use Rattle.ng_session.proofs.KeptBlockLemmas.{base_storable}
+use Rattle.ng_session.proofs.BareBlockLemmas.{base_storable}
 use Rattle.ng_session.proofs.PlannedLineLemmas.{end_storable, end_length, base_length}
 use Rattle.ng_session.proofs.session.Session.place_ahead.Goals as goal
 

@@ -3,7 +3,7 @@ use Rattle.ng_layout.specs.Storable.{IsStorable}
 use Rattle.ng_layout.specs.Stored.{StoredModel}
 use Rattle.ng_session.specs.Planned.{KnownModel, AreLinesOf, Base, IsPlannedOn, IsPlan, base_of, base_at_end}
 use Rattle.ng_session.specs.Session.{SessionModel}
-use Rattle.ng_session.proofs.KeptBlockLemmas.{base_storable}
+use Rattle.ng_session.proofs.BareBlockLemmas.{base_storable}
 use Rattle.ng_session.proofs.PlannedLineLemmas.{end_storable, end_length, base_length, found_base, IsOneMore, plan_pushed, lines_pushed}
 use Rattle.ng_session.proofs.session.Session.plan.Goals.{in-Some, in-None}
 use Rattle.ng_session.proofs.session.Session.plan.Goals as goal

@@ -1,7 +1,7 @@
 use Rattle.std.proofs.Common.{arith, ℕ, ◌+◌, ◌-◌, ◌*◌, ◌<◌, ⊎_elim, sym, subst, ◌∙◌, ap}
 use Rattle.ng_step.specs.Periods.{ceil_div}
 use Rattle.ng_step.specs.Private.Sweeps.{IsLeaving, inner_at, LeavesBefore, IsFirstPast}
-use Rattle.ng_step.proofs.SweepLemmas.{Enters, enters_at_none, enters_below, first_past_is, comes_room, room_few}
+use Rattle.ng_step.proofs.SweepLemmas.{Enters, enters_at_none, enters_below, first_past_is, comes_fits, fits_few}
 use Rattle.ng_step.proofs.sweep.QuadrantSweep.first_past.Goals as goal
 use Rattle.ng_step.proofs.sweep.QuadrantSweep.first_past.Goals.{then-inward-eq0, else-inward-eq0}
 
@@ -32,13 +32,13 @@ first c =
     record { inside = c.first_level_past-inward.ensures.inside; past = past.0; comes = past.1 }
 
 pub overflow_cast-result : goal.overflow_cast-result
-overflow_cast-result c = let room = comes_room c.args.self.now c.args.end _ (first c) in let few = room_few c.args.self.now _ room in omega arith
+overflow_cast-result c = let fits = comes_fits c.args.self.now c.args.end _ (first c) in let few = fits_few c.args.self.now _ fits in omega arith
 
 pub overflow_add-result : goal.overflow_add-result
-overflow_add-result c = let room = comes_room c.args.self.now c.args.end _ (first c) in let few = room_few c.args.self.now _ room in omega arith
+overflow_add-result c = let fits = comes_fits c.args.self.now c.args.end _ (first c) in let few = fits_few c.args.self.now _ fits in omega arith
 
 pub returns-clause-first : goal.returns-clause-first
 returns-clause-first c = first c
 
-pub returns-clause-room : goal.returns-clause-room
-returns-clause-room c = comes_room c.args.self.now c.args.end _ (first c)
+pub returns-clause-fits : goal.returns-clause-fits
+returns-clause-fits c = comes_fits c.args.self.now c.args.end _ (first c)

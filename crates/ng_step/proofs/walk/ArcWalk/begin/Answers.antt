@@ -24,7 +24,7 @@ sum-requires-4-clause-second c = omega (arith, ints)
 pub returns-clause-walks : goal.returns-clause-walks
 returns-clause-walks c = record {
   has = c.requires.arc.has;
-  roomy = record { large = c.requires.arc.large; within = c.requires.arc.within; room = (let small = c.requires.small in omega arith) };
+  bounded = record { large = c.requires.arc.large; within = c.requires.arc.within; fits = (let small = c.requires.small in omega arith) };
   sound = record { some = c.requires.some; inner = c.requires.inner; outer = c.requires.outer };
   inner_step = c.requires.inner_step;
   outer_step = c.requires.outer_step;

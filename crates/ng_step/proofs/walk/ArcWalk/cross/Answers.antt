@@ -1,6 +1,6 @@
 use Rattle.std.proofs.Common.{arith, ap, ◌∙◌}
 use Rattle.std.proofs.lemmas.Int.{ints}
-use Rattle.ng_step.proofs.WalkLemmas.{kept, small, step_crossing, flat}
+use Rattle.ng_step.proofs.WalkLemmas.{in_range, small, step_crossing, flat}
 use Rattle.ng_step.proofs.walk.ArcWalk.cross.Goals as goal
 
 pub returns : goal.returns
@@ -12,10 +12,10 @@ returns c =
     ∙ ap (flat c.args.self.now) c.outward.ensures)
 
 pub sum-requires-clause-second : goal.sum-requires-clause-second
-sum-requires-clause-second c = kept c.args.self.now.inward (small c.args.self.now c.requires.walks).inward
+sum-requires-clause-second c = in_range c.args.self.now.inward (small c.args.self.now c.requires.walks).inward
 
 pub difference-requires-clause-second : goal.difference-requires-clause-second
-difference-requires-clause-second c = kept c.args.self.now.outward (small c.args.self.now c.requires.walks).outward
+difference-requires-clause-second c = in_range c.args.self.now.outward (small c.args.self.now c.requires.walks).outward
 
 pub sum-requires-2-clause-first : goal.sum-requires-2-clause-first
-sum-requires-2-clause-first c = kept c.args.self.now.inward (small c.args.self.now c.requires.walks).inward
+sum-requires-2-clause-first c = in_range c.args.self.now.inward (small c.args.self.now c.requires.walks).inward

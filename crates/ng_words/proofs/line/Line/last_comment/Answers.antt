@@ -1,8 +1,8 @@
 -- The last comment's bytes are the last of all bytes.
 use Rattle.std.proofs.Common.{ap, sym, ◌∙◌, arith}
-use Rattle.ng_words.specs.Kept.{LineModel, pieces_by}
+use Rattle.ng_words.specs.LineStorage.{LineModel, pieces_by}
 use Rattle.ng_words.specs.Line.{last_comment}
-use Rattle.ng_words.proofs.KeptLineLemmas.{last_within, last_text, last_none}
+use Rattle.ng_words.proofs.LineStorageLemmas.{last_within, last_text, last_none}
 use Rattle.ng_words.proofs.line.Line.last_comment.Goals as goal
 
 pub overflow_sub-result : goal.overflow_sub-result

@@ -1,6 +1,6 @@
--- There are as many pieces as items, and room for that many items.
+-- There are as many pieces as items, and that many items fit.
 use Rattle.std.proofs.Common.{arith}
-use Rattle.ng_words.proofs.KeptLineLemmas.{length-pieces_from}
+use Rattle.ng_words.proofs.LineStorageLemmas.{length-pieces_from}
 use Rattle.ng_words.proofs.line.Line.pieces.Goals as goal
 
 pub returns-clause-few : goal.returns-clause-few

@@ -1,4 +1,4 @@
--- What is kept in places is read back unchanged.
+-- What is stored in places is read back unchanged.
 use Rattle.std.proofs.Common.{ℕ, suc, ◌+◌, ◌-◌, ◌≤◌, ◌≡◌, List, [], ◌∷◌, ◌++◌, length, take, drop, map, Bool, true}
 use Rattle.std.proofs.Common.{false, ℤ, Option, Some, None, ◌⊎◌, inl, inr, refl, sym, ap, ◌∙◌, subst, arith}
 use Rattle.std.proofs.Common.{append_assoc, length-append}
@@ -7,8 +7,8 @@ use Rattle.std.specs.Option.{option_or}
 use Rattle.std.proofs.lemmas.List.{append-nil, take_at, drop_at, take_rest}
 use Rattle.std.proofs.Math.Seq.{take-append_seam, drop-append_seam, drop-append-add}
 use Rattle.ng_words.specs.Grammar.{Tree, number, parameter, bracketed, applied, joined, Piece, word, assignment, comment}
-use Rattle.ng_words.specs.Kept.{postfix, IsTree, built, latest, tree_by, word_item, word_nodes, item_of, nodes_of}
-use Rattle.ng_words.specs.Kept.{bytes_of, PieceStore, EncodesPieces, AreEncodedPieces, pieces_from, pieces_by}
+use Rattle.ng_words.specs.LineStorage.{postfix, IsTree, built, latest, tree_by, word_item, word_nodes, item_of, nodes_of}
+use Rattle.ng_words.specs.LineStorage.{bytes_of, PieceStore, EncodesPieces, AreEncodedPieces, pieces_from, pieces_by}
 use Rattle.ng_words.specs.Private.Items.{last_size}
 use Rattle.ng_words.specs.Line.{last_comment}
 use Rattle.ng_words.specs.declared.letter.Letter.{Letter}
@@ -36,26 +36,26 @@ tree_by-postfix t = ap latest (ap (built []) (sym (append-nil (postfix t))) ∙ 
 
 -- ---- pieces
 
--- a word is kept by its only node, if its value is a number alone, or by its nodes
-pub word_kept : (letter : Letter) (t : Tree)
+-- a word is stored by its only node, if its value is a number alone, or by its nodes
+pub word_stored : (letter : Letter) (t : Tree)
     → ((value : Option ℤ) × (t ≡ number value)) ⊎ ((word_item letter t ≡ item.Word letter (length (postfix t))) × (word_nodes t ≡ postfix t))
-word_kept letter (number value) = inl (value, refl)
-word_kept letter (parameter t) = inr (refl, refl)
-word_kept letter (bracketed t) = inr (refl, refl)
-word_kept letter (applied f t) = inr (refl, refl)
-word_kept letter (joined op l r) = inr (refl, refl)
+word_stored letter (number value) = inl (value, refl)
+word_stored letter (parameter t) = inr (refl, refl)
+word_stored letter (bracketed t) = inr (refl, refl)
+word_stored letter (applied f t) = inr (refl, refl)
+word_stored letter (joined op l r) = inr (refl, refl)
 
-pieces_kept : (pieces : List Piece) → pieces_from (map item_of pieces) (flat_map nodes_of pieces) (flat_map bytes_of pieces) ≡ pieces
-pieces_kept [] = refl
-pieces_kept (word letter t ∷ ps) =
+pieces_stored : (pieces : List Piece) → pieces_from (map item_of pieces) (flat_map nodes_of pieces) (flat_map bytes_of pieces) ≡ pieces
+pieces_stored [] = refl
+pieces_stored (word letter t ∷ ps) =
     let nodes = flat_map nodes_of ps in
     let P : Tree → Type 0 = λ u. pieces_from (word_item letter u ∷ map item_of ps) (word_nodes u ++ nodes) (flat_map bytes_of ps) ≡ word letter u ∷ ps in
-    elim (word_kept letter t) [
-      | inl k ↦ subst P (sym k.1) (ap (λ (x : List Piece). word letter (number k.0) ∷ x) (pieces_kept ps))
+    elim (word_stored letter t) [
+      | inl k ↦ subst P (sym k.1) (ap (λ (x : List Piece). word letter (number k.0) ∷ x) (pieces_stored ps))
       | inr k ↦ rw (k.0, k.1, take-append_seam (postfix t) nodes, drop-append_seam (postfix t) nodes, tree_by-postfix t)
-          (ap (λ (x : List Piece). word letter t ∷ x) (pieces_kept ps))
+          (ap (λ (x : List Piece). word letter t ∷ x) (pieces_stored ps))
     ]
-pieces_kept (assignment i v ∷ ps) =
+pieces_stored (assignment i v ∷ ps) =
     let nodes = flat_map nodes_of ps in
     rw (
       append_assoc (postfix i) (postfix v) nodes,
@@ -66,18 +66,18 @@ pieces_kept (assignment i v ∷ ps) =
       tree_by-postfix i,
       tree_by-postfix v,
     )
-    (ap (λ (x : List Piece). assignment i v ∷ x) (pieces_kept ps))
-pieces_kept (comment text ∷ ps) =
+    (ap (λ (x : List Piece). assignment i v ∷ x) (pieces_stored ps))
+pieces_stored (comment text ∷ ps) =
     let bytes = flat_map bytes_of ps in
-    rw (take-append_seam text bytes, drop-append_seam text bytes) (ap (λ (x : List Piece). comment text ∷ x) (pieces_kept ps))
+    rw (take-append_seam text bytes, drop-append_seam text bytes) (ap (λ (x : List Piece). comment text ∷ x) (pieces_stored ps))
 
 -- places that keep pieces give them back
-pub kept_is : (places : PieceStore) (pieces : List Piece) → EncodesPieces places pieces → pieces_by places ≡ pieces
-kept_is places pieces k =
+pub stored_is : (places : PieceStore) (pieces : List Piece) → EncodesPieces places pieces → pieces_by places ≡ pieces
+stored_is places pieces k =
     ap (λ (x : List PieceEntry). pieces_from x places.nodes places.bytes) k.items_are
     ∙ ap (λ (x : List Node). pieces_from (map item_of pieces) x places.bytes) k.nodes_are
     ∙ ap (λ (x : List ℕ). pieces_from (map item_of pieces) (flat_map nodes_of pieces) x) k.bytes_are
-    ∙ pieces_kept pieces
+    ∙ pieces_stored pieces
 
 -- a piece for each item
 pub length-pieces_from : (items : List PieceEntry) (nodes : List Node) (bytes : List ℕ) → length (pieces_from items nodes bytes) ≡ length items
@@ -89,22 +89,22 @@ length-pieces_from (item.Comment n ∷ items) nodes bytes = ap suc (length-piece
 
 -- ---- the first piece, taken from the places
 
--- a word that is kept by its only node comes first
+-- a word that is stored by its only node comes first
 pub record NumberFirst (n : Node) (items : List PieceEntry) (nodes : List Node) (bytes : List ℕ) : Type 0 where
   pub tree : IsTree (n ∷ [])
-  pub kept : AreEncodedPieces (record { items = items; nodes = nodes; bytes = bytes })
+  pub encoded : AreEncodedPieces (record { items = items; nodes = nodes; bytes = bytes })
 
 number_first : (pieces : List Piece) (letter : Letter) (n : Node) (items : List PieceEntry) (nodes : List Node) (bytes : List ℕ)
     → item.Number letter n ∷ items ≡ map item_of pieces → nodes ≡ flat_map nodes_of pieces → bytes ≡ flat_map bytes_of pieces → NumberFirst n items nodes bytes
 number_first [] letter n items nodes bytes e f g = absurd (cc)
-number_first (word l t ∷ ps) letter n items nodes bytes e f g = elim (word_kept l t) [
+number_first (word l t ∷ ps) letter n items nodes bytes e f g = elim (word_stored l t) [
   | inl k ↦
       let same : item.Number letter n ∷ items ≡ item.Number l (node.Number k.0) ∷ map item_of ps = e ∙ ap (λ (u : Tree). word_item l u ∷ map item_of ps) k.1 in
       let only : n ≡ node.Number k.0 = cc in
       let others : items ≡ map item_of ps = cc in
       record {
         tree = (number k.0, ap (λ (m : Node). m ∷ []) only);
-        kept = (ps, record { items_are = others; nodes_are = f ∙ ap (λ (u : Tree). word_nodes u ++ flat_map nodes_of ps) k.1; bytes_are = g });
+        encoded = (ps, record { items_are = others; nodes_are = f ∙ ap (λ (u : Tree). word_nodes u ++ flat_map nodes_of ps) k.1; bytes_are = g });
       }
   | inr k ↦
       let same : item.Number letter n ∷ items ≡ item.Word l (length (postfix t)) ∷ map item_of ps = e ∙ ap (λ (x : PieceEntry). x ∷ map item_of ps) k.0 in
@@ -113,22 +113,22 @@ number_first (word l t ∷ ps) letter n items nodes bytes e f g = elim (word_kep
 number_first (assignment i v ∷ ps) letter n items nodes bytes e f g = absurd (cc)
 number_first (comment text ∷ ps) letter n items nodes bytes e f g = absurd (cc)
 
-pub kept_number : (places : PieceStore) (first : PieceEntry) (letter : Letter) (n : Node) (items : List PieceEntry)
+pub stored_number : (places : PieceStore) (first : PieceEntry) (letter : Letter) (n : Node) (items : List PieceEntry)
     → AreEncodedPieces places → places.items ≡ first ∷ items → first ≡ item.Number letter n
     → NumberFirst n items places.nodes places.bytes
-kept_number places first letter n items k e is =
+stored_number places first letter n items k e is =
     number_first k.0 letter n items places.nodes places.bytes (ap (λ (x : PieceEntry). x ∷ items) (sym is) ∙ sym e ∙ k.1.items_are) k.1.nodes_are k.1.bytes_are
 
--- a word that is kept by its nodes comes first: what holds of them and of what is left
+-- a word that is stored by its nodes comes first: what holds of them and of what is left
 pub record WordFirst (n : ℕ) (items : List PieceEntry) (nodes : List Node) (bytes : List ℕ) : Type 0 where
   pub within : n ≤ length nodes
   pub tree : IsTree (take n nodes)
-  pub kept : AreEncodedPieces (record { items = items; nodes = drop n nodes; bytes = bytes })
+  pub encoded : AreEncodedPieces (record { items = items; nodes = drop n nodes; bytes = bytes })
 
 word_first : (pieces : List Piece) (letter : Letter) (n : ℕ) (items : List PieceEntry) (nodes : List Node) (bytes : List ℕ)
     → item.Word letter n ∷ items ≡ map item_of pieces → nodes ≡ flat_map nodes_of pieces → bytes ≡ flat_map bytes_of pieces → WordFirst n items nodes bytes
 word_first [] letter n items nodes bytes e f g = absurd (cc)
-word_first (word l t ∷ ps) letter n items nodes bytes e f g = elim (word_kept l t) [
+word_first (word l t ∷ ps) letter n items nodes bytes e f g = elim (word_stored l t) [
   | inl k ↦
       let same : item.Word letter n ∷ items ≡ item.Number l (node.Number k.0) ∷ map item_of ps = e ∙ ap (λ (u : Tree). word_item l u ∷ map item_of ps) k.1 in
       absurd (cc)
@@ -141,16 +141,16 @@ word_first (word l t ∷ ps) letter n items nodes bytes e f g = elim (word_kept 
       record {
         within = omega (arith, count, ap length parts, length-append (postfix t) rest);
         tree = (t, ap (take n) parts ∙ take_at (postfix t) rest n count);
-        kept = (ps, record { items_are = others; nodes_are = ap (drop n) parts ∙ drop_at (postfix t) rest n count; bytes_are = g });
+        encoded = (ps, record { items_are = others; nodes_are = ap (drop n) parts ∙ drop_at (postfix t) rest n count; bytes_are = g });
       }
 ]
 word_first (assignment i v ∷ ps) letter n items nodes bytes e f g = absurd (cc)
 word_first (comment text ∷ ps) letter n items nodes bytes e f g = absurd (cc)
 
-pub kept_word : (places : PieceStore) (first : PieceEntry) (letter : Letter) (n : ℕ) (items : List PieceEntry)
+pub stored_word : (places : PieceStore) (first : PieceEntry) (letter : Letter) (n : ℕ) (items : List PieceEntry)
     → AreEncodedPieces places → places.items ≡ first ∷ items → first ≡ item.Word letter n
     → WordFirst n items places.nodes places.bytes
-kept_word places first letter n items k e is =
+stored_word places first letter n items k e is =
     word_first k.0 letter n items places.nodes places.bytes (ap (λ (x : PieceEntry). x ∷ items) (sym is) ∙ sym e ∙ k.1.items_are) k.1.nodes_are k.1.bytes_are
 
 -- the item of an assignment or a comment is no word's
@@ -179,7 +179,7 @@ pub record AssignmentFirst (i n : ℕ) (items : List PieceEntry) (nodes : List N
   pub value_within : n ≤ length (drop i nodes)
   pub index : IsTree (take i nodes)
   pub value : IsTree (take n (drop i nodes))
-  pub kept : AreEncodedPieces (record { items = items; nodes = drop n (drop i nodes); bytes = bytes })
+  pub encoded : AreEncodedPieces (record { items = items; nodes = drop n (drop i nodes); bytes = bytes })
 
 assignment_first : (pieces : List Piece) (i n : ℕ) (items : List PieceEntry) (nodes : List Node) (bytes : List ℕ)
     → item.Assignment i n ∷ items ≡ map item_of pieces → nodes ≡ flat_map nodes_of pieces
@@ -198,20 +198,20 @@ assignment_first (assignment t u ∷ ps) i n items nodes bytes e f g =
       value_within = omega (arith, count, ap length after, length-append (postfix u) rest);
       index = (t, ap (take i) parts ∙ take_at (postfix t) (postfix u ++ rest) i index_count);
       value = (u, ap (take n) after ∙ take_at (postfix u) rest n count);
-      kept = (ps, record { items_are = others; nodes_are = ap (drop n) after ∙ drop_at (postfix u) rest n count; bytes_are = g });
+      encoded = (ps, record { items_are = others; nodes_are = ap (drop n) after ∙ drop_at (postfix u) rest n count; bytes_are = g });
     }
 assignment_first (comment text ∷ ps) i n items nodes bytes e f g = absurd (cc)
 
-pub kept_assignment : (places : PieceStore) (first : PieceEntry) (i n : ℕ) (items : List PieceEntry)
+pub stored_assignment : (places : PieceStore) (first : PieceEntry) (i n : ℕ) (items : List PieceEntry)
     → AreEncodedPieces places → places.items ≡ first ∷ items → first ≡ item.Assignment i n
     → AssignmentFirst i n items places.nodes places.bytes
-kept_assignment places first i n items k e is =
+stored_assignment places first i n items k e is =
     assignment_first k.0 i n items places.nodes places.bytes (ap (λ (x : PieceEntry). x ∷ items) (sym is) ∙ sym e ∙ k.1.items_are) k.1.nodes_are k.1.bytes_are
 
 -- a comment comes first
 pub record CommentFirst (n : ℕ) (items : List PieceEntry) (nodes : List Node) (bytes : List ℕ) : Type 0 where
   pub within : n ≤ length bytes
-  pub kept : AreEncodedPieces (record { items = items; nodes = nodes; bytes = drop n bytes })
+  pub encoded : AreEncodedPieces (record { items = items; nodes = nodes; bytes = drop n bytes })
 
 comment_first : (pieces : List Piece) (n : ℕ) (items : List PieceEntry) (nodes : List Node) (bytes : List ℕ)
     → item.Comment n ∷ items ≡ map item_of pieces → nodes ≡ flat_map nodes_of pieces → bytes ≡ flat_map bytes_of pieces → CommentFirst n items nodes bytes
@@ -224,13 +224,13 @@ comment_first (comment text ∷ ps) n items nodes bytes e f g =
     let rest = flat_map bytes_of ps in
     record {
       within = omega (arith, count, ap length g, length-append text rest);
-      kept = (ps, record { items_are = others; nodes_are = f; bytes_are = ap (drop n) g ∙ drop_at text rest n count });
+      encoded = (ps, record { items_are = others; nodes_are = f; bytes_are = ap (drop n) g ∙ drop_at text rest n count });
     }
 
-pub kept_comment : (places : PieceStore) (first : PieceEntry) (n : ℕ) (items : List PieceEntry)
+pub stored_comment : (places : PieceStore) (first : PieceEntry) (n : ℕ) (items : List PieceEntry)
     → AreEncodedPieces places → places.items ≡ first ∷ items → first ≡ item.Comment n
     → CommentFirst n items places.nodes places.bytes
-kept_comment places first n items k e is =
+stored_comment places first n items k e is =
     comment_first k.0 n items places.nodes places.bytes (ap (λ (x : PieceEntry). x ∷ items) (sym is) ∙ sym e ∙ k.1.items_are) k.1.nodes_are k.1.bytes_are
 
 -- ---- the last comment
@@ -305,17 +305,17 @@ last_in (assignment i v ∷ ps) = last_assignment i v ps (last_size (map item_of
     last_assignment i v ps (Some n) h = h
 last_in (comment text ∷ ps) = last_after text (flat_map bytes_of ps) ps (last_size (map item_of ps)) (last_in ps)
 
-pub kept_last : (places : PieceStore) → AreEncodedPieces places → IsLastIn (pieces_by places) places.bytes (last_size places.items)
-kept_last places k =
+pub stored_last : (places : PieceStore) → AreEncodedPieces places → IsLastIn (pieces_by places) places.bytes (last_size places.items)
+stored_last places k =
     let P : List Piece → Type 0 = λ ps. IsLastIn ps places.bytes (last_size places.items) in
     let Q : List ℕ → Type 0 = λ bytes. IsLastIn k.0 bytes (last_size places.items) in
     let R : List PieceEntry → Type 0 = λ items. IsLastIn k.0 (flat_map bytes_of k.0) (last_size items) in
-    subst P (sym (kept_is places k.0 k.1)) (subst Q (sym k.1.bytes_are) (subst R (sym k.1.items_are) (last_in k.0)))
+    subst P (sym (stored_is places k.0 k.1)) (subst Q (sym k.1.bytes_are) (subst R (sym k.1.items_are) (last_in k.0)))
 
--- what is kept of the last comment says where it is
+-- what is stored of the last comment says where it is
 last_by : (places : PieceStore) (o answer : Option ℕ) → AreEncodedPieces places → o ≡ last_size places.items
     → o ≡ answer → IsLastIn (pieces_by places) places.bytes answer
-last_by places o answer k is was = subst (IsLastIn (pieces_by places) places.bytes) (sym is ∙ was) (kept_last places k)
+last_by places o answer k is was = subst (IsLastIn (pieces_by places) places.bytes) (sym is ∙ was) (stored_last places k)
 
 -- the last comment has at most as many bytes as there are
 pub last_within : (places : PieceStore) (o : Option ℕ) (n : ℕ) → AreEncodedPieces places → o ≡ last_size places.items → o ≡ Some n → n ≤ length places.bytes
@@ -330,6 +330,6 @@ last_text places o n size bytes k is was bytes_are size_is =
     ∙ ap (λ (s : ℕ). Some (drop (s - n) bytes)) (sym size_is)
     ∙ ap (λ (b : List ℕ). Some b) (sym (take_rest bytes (size - n)))
 
--- if none is kept, there is none
+-- if none is stored, there is none
 pub last_none : (places : PieceStore) (o : Option ℕ) → AreEncodedPieces places → o ≡ last_size places.items → o ≡ None → last_comment (pieces_by places) ≡ None
 last_none places o k is was = (last_by places o None k is was).0

@@ -1,10 +1,10 @@
 use Rattle.std.proofs.Common.{length, take, sym, ◌∙◌, ap, arith, slice_index}
-use Rattle.ng_rig.specs.Kept.{contents, trace_of_calls}
+use Rattle.ng_rig.specs.RecordedCalls.{contents, trace_of_calls}
 use Rattle.ng_rig.proofs.TraceLemmas.{trace_of_calls-next}
 use Rattle.ng_rig.specs.declared.call.Call.TheVariants.{Sync}
-use Rattle.ng_rig.proofs.ReplayLemmas.{default_is, within_at, whole_set, kept_write, kept_passed, count_write, bound_write}
-use Rattle.ng_rig.proofs.replay.replay_kept.Goals as goal
-use Rattle.ng_rig.proofs.replay.replay_kept.Goals.{in-Write, then-before-number_at, else-before-number_at, in-Sync, in-Hand}
+use Rattle.ng_rig.proofs.ReplayLemmas.{default_is, within_at, whole_set, durable_write, durable_passed, count_write, bound_write}
+use Rattle.ng_rig.proofs.replay.replay_durable.Goals as goal
+use Rattle.ng_rig.proofs.replay.replay_durable.Goals.{in-Write, then-before-number_at, else-before-number_at, in-Sync, in-Hand}
 
 pub loop-call-preserved : goal.loop-call-preserved
 loop-call-preserved c =
@@ -22,9 +22,9 @@ loop-call-preserved c =
               | else-before-number_at w' ↦ rw (w.image-is ∙ w'.image-is) (h.whole was)
             ];
             image = elim w.if-before-number_at.branch [
-              | then-before-number_at w' ↦ kept_write trace c.args.keep.now _ _ w.in-Write.sector w.in-Write.bytes
+              | then-before-number_at w' ↦ durable_write trace c.args.keep.now _ _ w.in-Write.sector w.in-Write.bytes
                   (omega arith) (omega (arith, now, w.number_at.ensures)) (w.image-is ∙ w'.image-is) h.image
-              | else-before-number_at w' ↦ kept_passed trace c.args.keep.now _ _ w.in-Write.sector w.in-Write.bytes
+              | else-before-number_at w' ↦ durable_passed trace c.args.keep.now _ _ w.in-Write.sector w.in-Write.bytes
                   (omega (arith, now, w.number_at.ensures)) (w.image-is ∙ w'.image-is) h.image
             ];
             count = count_write trace _ _ w.in-Write.sector w.in-Write.bytes (omega arith) w.written-is h.count;

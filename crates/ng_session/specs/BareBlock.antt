@@ -1,4 +1,4 @@
--- The current block as it is kept (own): with what it changes in place of the state after it.
+-- The current block without a table of parameters (own): with what it changes in place of the state after it.
 use Rattle.std.specs.Prelude.{◌≡◌, ◌≤◌, ℕ, ℤ, Bool, List, [], ◌∷◌, Option, Some, None, length}
 use Rattle.ng_canon.specs.declared.item.Item.{Item}
 use Rattle.ng_canon.specs.declared.segment.Segment.{Segment}
@@ -24,7 +24,7 @@ abbrev pub onto : {T : Type 0} → Option T → List T → List T
 onto None rest = rest
 onto (Some first) rest = first ∷ rest
 
-pub record KeptBlock : Type 0 where
+pub record BareBlock : Type 0 where
   pub source : Source
   pub text : List ℕ
   pub block_delete : Bool
@@ -39,7 +39,7 @@ pub record KeptBlock : Type 0 where
   pub stop : ProgramFlow
 
 -- the block over a table of parameters
-abbrev pub block_on : List ℤ → KeptBlock → CurrentBlockModel
+abbrev pub block_on : List ℤ → BareBlock → CurrentBlockModel
 block_on params b = record {
   source = b.source;
   text = b.text;
@@ -55,7 +55,7 @@ block_on params b = record {
 
 -- The block can be stored in its turn: its changes are the differences that they make, each parameter once, and what is
 -- stored with it is within its limits.
-pub record IsReady (x : StoredModel) (b : KeptBlock) : Type 0 where
+pub record IsReady (x : StoredModel) (b : BareBlock) : Type 0 where
   pub settled : b.changes ≡ differences x.setup.params (with_changes x.setup.params b.changes)
   pub modal : IsStorableModalState b.modal
   pub place : b.place ≤ x.length

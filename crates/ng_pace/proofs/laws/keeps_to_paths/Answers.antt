@@ -1,5 +1,5 @@
 use Rattle.ng_pace.proofs.PathsLemmas.{keeps-to-paths}
-use Rattle.ng_pace.proofs.laws.kept_to_paths.Goals as goal
+use Rattle.ng_pace.proofs.laws.keeps_to_paths.Goals as goal
 
 pub returns : goal.returns
 returns c = keeps-to-paths

@@ -1,4 +1,4 @@
--- How a line is kept in storage of fixed size (own): trees as lists of nodes, each node after its parts.
+-- How a line is stored in a fixed size (own): trees as lists of nodes, each node after its parts.
 use Rattle.std.specs.Prelude.{ℕ, ◌≡◌, List, [], ◌∷◌, ◌++◌, length, map, flat_map, take, drop, Bool, Option, None}
 use Rattle.ng_words.specs.Grammar.{Tree, number, parameter, bracketed, applied, joined, Piece, word, assignment, comment, ParsedLine}
 use Rattle.ng_words.specs.declared.letter.Letter.{Letter}
@@ -40,7 +40,7 @@ tree_by nodes = latest (built [] nodes)
 
 -- ---- the pieces of a line: an item for each; its nodes or bytes come after those of the pieces before it
 
--- a word whose value is a number alone is kept as its letter and its only node, any other as its letter and the number
+-- a word whose value is a number alone is stored as its letter and its only node, any other as its letter and the number
 -- of its nodes
 abbrev pub word_item : Letter → Tree → PieceEntry
 word_item letter (number value) = item.Number letter (node.Number value)

@@ -1,4 +1,4 @@
--- What is written of a state doesn't depend on its room for a program.
+-- What is written of a state doesn't depend on its program limit.
 use Rattle.std.proofs.Common.{◌≡◌, inl, inr, ⊎_elim, ℕ, ◌+◌, ◌<◌, ◌≤◌, List, length, Option, Result, Ok, Err, sym, ◌∙◌, ap, subst}
 use Rattle.std.specs.Prelude.{OnOk, IfOk}
 use Rattle.ng_canon.specs.declared.item.Item.{Item}
@@ -29,37 +29,37 @@ use Rattle.ng_journal.specs.Loads.{BelongsToLoad, StoresLoad}
 use Rattle.ng_journal.specs.Private.CheckpointSteps.{WritesAreas}
 use Rattle.ng_journal.specs.Private.Records.{LeadsTo}
 
-abbrev pub with_room : ℕ → StoredModel → StoredModel
-with_room room saved = record saved { room = room }
+abbrev pub with_limit : ℕ → StoredModel → StoredModel
+with_limit most saved = record saved { program_limit = most }
 
 -- ---- the areas of a header
 
-holds_part : (room : ℕ) (saved : StoredModel) (j : ℕ) (bytes : List ℕ) → HoldsPart saved j bytes → HoldsPart (with_room room saved) j bytes
-holds_part room saved j bytes h = record { state = h.state; slots = h.slots; rest = h.rest; values = h.values }
+holds_part : (most : ℕ) (saved : StoredModel) (j : ℕ) (bytes : List ℕ) → HoldsPart saved j bytes → HoldsPart (with_limit most saved) j bytes
+holds_part most saved j bytes h = record { state = h.state; slots = h.slots; rest = h.rest; values = h.values }
 
-to_areas : (room : ℕ) (header : Header) (saved : StoredModel) (n : ℕ) (bytes : List ℕ)
-    → BelongsToAreas header saved n bytes → BelongsToAreas header (with_room room saved) n bytes
-to_areas room header saved n bytes (inl own) =
+to_areas : (most : ℕ) (header : Header) (saved : StoredModel) (n : ℕ) (bytes : List ℕ)
+    → BelongsToAreas header saved n bytes → BelongsToAreas header (with_limit most saved) n bytes
+to_areas most header saved n bytes (inl own) =
     inl (record {
       place = own.place;
       within = own.within;
       is = own.is;
-      right = holds_part room saved own.place bytes
+      right = holds_part most saved own.place bytes
           own.right;
     })
-to_areas room header saved n bytes (inr tools) = inr tools
+to_areas most header saved n bytes (inr tools) = inr tools
 
-belongs : (room : ℕ) (header : Header) (saved : StoredModel) (n : ℕ) (bytes : List ℕ)
-    → BelongsTo header saved n bytes → BelongsTo header (with_room room saved) n bytes
-belongs room header saved n bytes (inl areas) = inl (to_areas room header saved n bytes areas)
-belongs room header saved n bytes (inr there) = inr there
+belongs : (most : ℕ) (header : Header) (saved : StoredModel) (n : ℕ) (bytes : List ℕ)
+    → BelongsTo header saved n bytes → BelongsTo header (with_limit most saved) n bytes
+belongs most header saved n bytes (inl areas) = inl (to_areas most header saved n bytes areas)
+belongs most header saved n bytes (inr there) = inr there
 
-pub areas_kept : {T E : Type 0} (room : ℕ) (result : Result T E) (next : Header) (saved : StoredModel)
-    (old new : Trace) → WritesAreas result next saved old new → WritesAreas result next (with_room room saved) old
+pub areas_limited : {T E : Type 0} (most : ℕ) (result : Result T E) (next : Header) (saved : StoredModel)
+    (old new : Trace) → WritesAreas result next saved old new → WritesAreas result next (with_limit most saved) old
     new
-areas_kept {T = T} {E = E} room result next saved old new w = record {
-  writes = only_wider (λ n c. BelongsToAreas next saved n c) (λ n c. BelongsToAreas next (with_room room saved) n c)
-      old new (to_areas room next saved) w.writes;
+areas_limited {T = T} {E = E} most result next saved old new w = record {
+  writes = only_wider (λ n c. BelongsToAreas next saved n c) (λ n c. BelongsToAreas next (with_limit most saved) n c)
+      old new (to_areas most next saved) w.writes;
   parts = go result w.parts;
   tools = w.tools;
 }
@@ -67,16 +67,16 @@ areas_kept {T = T} {E = E} room result next saved old new w = record {
     Parts : StoredModel → Type 0
     Parts s = (j : ℕ) → j < snapshot_size → HoldsPart s j (reads new (snapshot_first next.epoch + j))
 
-    go : (result : Result T E) → OnOk result (Parts saved) → OnOk result (Parts (with_room room saved))
-    go (Ok v) parts = λ j lt. holds_part room saved j (reads new (snapshot_first next.epoch + j)) (parts j lt)
+    go : (result : Result T E) → OnOk result (Parts saved) → OnOk result (Parts (with_limit most saved))
+    go (Ok v) parts = λ j lt. holds_part most saved j (reads new (snapshot_first next.epoch + j)) (parts j lt)
     go (Err e) parts = tt
 
 -- ---- a load
 
-pub load_kept : {T E : Type 0} (room : ℕ) (result : Result T E) (area : ℕ) (header : Header) (saved : StoredModel)
+pub load_limited : {T E : Type 0} (most : ℕ) (result : Result T E) (area : ℕ) (header : Header) (saved : StoredModel)
     (text : List ℕ) (old new : Trace) → StoresLoad result area header (record { saved = saved; program = text }) old
-    new → StoresLoad result area header (record { saved = with_room room saved; program = text }) old new
-load_kept {T = T} {E = E} room result area header saved text old new s = record {
+    new → StoresLoad result area header (record { saved = with_limit most saved; program = text }) old new
+load_limited {T = T} {E = E} most result area header saved text old new s = record {
   writes = only_wider (λ n c. BelongsToLoad area header was n c) (λ n c. BelongsToLoad area header now n c) old new to_load s.writes;
   text = s.text;
   laid = go result s.laid;
@@ -90,43 +90,43 @@ load_kept {T = T} {E = E} room result area header saved text old new s = record 
     was = record { saved = saved; program = text }
 
     now : DurableState
-    now = record { saved = with_room room saved; program = text }
+    now = record { saved = with_limit most saved; program = text }
 
     to_load : (n : ℕ) (c : List ℕ) → BelongsToLoad area header was n c → BelongsToLoad area header now n c
     to_load n c (inl own) = inl own
-    to_load n c (inr own) = inr (belongs room next saved n c own)
+    to_load n c (inr own) = inr (belongs most next saved n c own)
 
-    go : (result : Result T E) → OnOk result (IsLaidOut next saved (reads new)) → OnOk result (IsLaidOut next (with_room room saved) (reads new))
-    go (Ok v) laid = λ n own. belongs room next saved n (reads new n) (laid n own)
+    go : (result : Result T E) → OnOk result (IsLaidOut next saved (reads new)) → OnOk result (IsLaidOut next (with_limit most saved) (reads new))
+    go (Ok v) laid = λ n own. belongs most next saved n (reads new n) (laid n own)
     go (Err e) laid = tt
 
 -- ---- a record
 
-holds_record_part : (room : ℕ) (l : PartHeader) (saved : StoredModel) (all : List Change) (slot : Option SlotChange)
-    (bytes : List ℕ) → HoldsRecordPart l saved all slot bytes → HoldsRecordPart l (with_room room saved) all slot
+holds_record_part : (most : ℕ) (l : PartHeader) (saved : StoredModel) (all : List Change) (slot : Option SlotChange)
+    (bytes : List ℕ) → HoldsRecordPart l saved all slot bytes → HoldsRecordPart l (with_limit most saved) all slot
     bytes
-holds_record_part room l saved all slot bytes h = record {
+holds_record_part most l saved all slot bytes h = record {
   label = h.label;
   state = λ first. let s = h.state first in record { state = s.state; slot = s.slot; tool = s.tool; between = s.between; rest = s.rest };
   changes = h.changes;
 }
 
-module _ (room epoch : ℕ) (end : LogEnd) (saved : StoredModel) (changes : List Change) (slot : Option SlotChange) where
+module _ (most epoch : ℕ) (end : LogEnd) (saved : StoredModel) (changes : List Change) (slot : Option SlotChange) where
   abbrev r : LogRecord
   r = record_at epoch end saved changes slot
 
-  abbrev kept : LogRecord
-  kept = record_at epoch end (with_room room saved) changes slot
+  abbrev limited : LogRecord
+  limited = record_at epoch end (with_limit most saved) changes slot
 
-  part : (m : ℕ) (bytes : List ℕ) → IsPartOf r m bytes → IsPartOf kept m bytes
-  part m bytes p = record { from = p.from; to = p.to; holds = holds_record_part room _ saved changes slot bytes p.holds }
+  part : (m : ℕ) (bytes : List ℕ) → IsPartOf r m bytes → IsPartOf limited m bytes
+  part m bytes p = record { from = p.from; to = p.to; holds = holds_record_part most _ saved changes slot bytes p.holds }
 
-  in_record : (n : ℕ) (bytes : List ℕ) → BelongsToRecord r n bytes → BelongsToRecord kept n bytes
+  in_record : (n : ℕ) (bytes : List ℕ) → BelongsToRecord r n bytes → BelongsToRecord limited n bytes
   in_record n bytes b = record { log = b.log; part = part _ bytes b.part }
 
-  pub record_kept : {T E : Type 0} (result : Result T E) (old new : Trace) → WritesRecord result r old new → WritesRecord result kept old new
-  record_kept {T = T} {E = E} result old new w = record {
-    writes = only_wider (BelongsToRecord r) (BelongsToRecord kept) old new in_record w.writes;
+  pub record_limited : {T E : Type 0} (result : Result T E) (old new : Trace) → WritesRecord result r old new → WritesRecord result limited old new
+  record_limited {T = T} {E = E} result old new w = record {
+    writes = only_wider (BelongsToRecord r) (BelongsToRecord limited) old new in_record w.writes;
     parts = go result w.parts;
     synced = w.synced;
   }
@@ -134,7 +134,7 @@ module _ (room epoch : ℕ) (end : LogEnd) (saved : StoredModel) (changes : List
       Parts : LogRecord → Type 0
       Parts e = (j : ℕ) → j < size_of e → IsPartOf e (e.at + j) (reads new (log_first + (e.at + j)))
 
-      go : (result : Result T E) → OnOk result (Parts r) → OnOk result (Parts kept)
+      go : (result : Result T E) → OnOk result (Parts r) → OnOk result (Parts limited)
       go (Ok v) parts = λ j lt. part (end.sector + j) (reads new (log_first + (end.sector + j))) (parts j lt)
       go (Err e) parts = tt
 
@@ -183,20 +183,20 @@ module _ (old : Trace) (header : Header) (before : DurableState) (end : LogEnd) 
             (blend (reads new) (items new) (reads_blend (BelongsToRecord e) old new w.writes)) w.parts);
       }
 
--- A record of a state stands for that state with the old state's room.
-pub append_kept : {E : Type 0} (result : Result LogEnd E) (header : Header) (end : LogEnd) (changes : List Change)
+-- A record of a state stands for that state with the old state's limit.
+pub append_limited : {E : Type 0} (result : Result LogEnd E) (header : Header) (end : LogEnd) (changes : List Change)
     (slot : Option SlotChange) (before : DurableState) (was stored : StoredModel) (old new : Trace)
     → IsAtEnd old header before end → before.saved ≡ was → LeadsTo was stored changes slot → IsStorable stored
     → end.sector + parts_for (length changes) ≤ log_size_of header → stored.length ≡ header.length
     → header.format ≡ Two → IfOk result (λ after. after ≡ end_after end (length changes))
     → WritesRecord result (record_at header.epoch end stored changes slot) old new
-    → AppendSpec result header before (with_room was.room stored) old new
-append_kept result header end changes slot before was stored old new at is leads storable fits long two after_is w =
+    → AppendSpec result header before (with_limit was.program_limit stored) old new
+append_limited result header end changes slot before was stored old new at is leads storable fits long two after_is w =
     written old header before end saved changes slot at next result new after_is
-    (record_kept was.room header.epoch end stored changes slot result old new w)
+    (record_limited was.program_limit header.epoch end stored changes slot result old new w)
   where
     saved : StoredModel
-    saved = with_room was.room stored
+    saved = with_limit was.program_limit stored
 
     tools : before.saved.tools ≡ was.tools
     tools = ap (λ (s : StoredModel). s.tools) is
@@ -206,4 +206,4 @@ append_kept result header end changes slot before was stored old new at is leads
         (valid was.tools stored.tools before.saved.tools slot tools leads.slot_is leads.one storable.tools)
         (restored was.tools stored.tools before.saved.tools slot tools leads.slot_is leads.one) at.image
         (leads.changes_are ∙ ap (λ (s : StoredModel). differences s.setup.params stored.setup.params) (sym is))
-        storable.table fits long (ap (λ (s : StoredModel). s.room) is)
+        storable.table fits long (ap (λ (s : StoredModel). s.program_limit) is)

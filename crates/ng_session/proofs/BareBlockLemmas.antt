@@ -8,7 +8,7 @@ use Rattle.ng_params.specs.declared.change.Change.{Change}
 use Rattle.ng_params.proofs.DifferenceLemmas.{differences-restore}
 use Rattle.ng_layout.specs.Storable.{IsStorable, IsStorableModalState}
 use Rattle.ng_layout.specs.Stored.{StoredModel}
-use Rattle.ng_session.specs.KeptBlock.{KeptBlock, block_on, left_of, IsReady}
+use Rattle.ng_session.specs.BareBlock.{BareBlock, block_on, left_of, IsReady}
 use Rattle.ng_session.specs.Entries.{place_after}
 use Rattle.ng_session.specs.Planned.{base_on, base_after}
 use Rattle.ng_session.specs.Session.{CurrentBlockModel, after_current_block, after_current_approach}
@@ -29,7 +29,7 @@ settled_again params changes settled long is = is ∙ ap (differences params) (s
 
 -- ---- the states after it
 
-pub block_storable : (x : StoredModel) (b : KeptBlock) → IsStorable x → IsReady x b
+pub block_storable : (x : StoredModel) (b : BareBlock) → IsStorable x → IsReady x b
     → IsStorable (after_current_block x (block_on x.setup.params b))
 block_storable x b was ready = record {
   table = long-after x.setup.params b.changes ∙ was.table;
@@ -37,11 +37,11 @@ block_storable x b was ready = record {
   half = tt;
   place = ready.place;
   program = was.program;
-  room = was.room;
+  program_limit = was.program_limit;
   tools = was.tools;
 }
 
-pub approach_storable : (x : StoredModel) (b : KeptBlock) (point : Point) → IsStorable x → IsReady x b
+pub approach_storable : (x : StoredModel) (b : BareBlock) (point : Point) → IsStorable x → IsReady x b
     → IsStorable (after_current_approach x (block_on x.setup.params b) point)
 approach_storable x b point was ready = record {
   table = was.table;
@@ -49,15 +49,15 @@ approach_storable x b point was ready = record {
   half = record { unknown = λ none. let e : false ≡ true = none in cc; text = ready.text };
   place = was.place;
   program = was.program;
-  room = was.room;
+  program_limit = was.program_limit;
   tools = was.tools;
 }
 
 -- the block stays ready after its approach
-pub ready_after : (x : StoredModel) (b : KeptBlock) (c : CurrentBlockModel) (point : Point) → IsReady x b → IsReady (after_current_approach x c point) b
+pub ready_after : (x : StoredModel) (b : BareBlock) (c : CurrentBlockModel) (point : Point) → IsReady x b → IsReady (after_current_approach x c point) b
 ready_after x b c point ready = record { settled = ready.settled; modal = ready.modal; place = ready.place; text = ready.text }
 
-pub base_on_storable : (x : StoredModel) (b : KeptBlock) (g : Stage) → IsStorable x → IsReady x b
+pub base_on_storable : (x : StoredModel) (b : BareBlock) (g : Stage) → IsStorable x → IsReady x b
     → IsStorable (base_on x (block_on x.setup.params b) g)
 base_on_storable x b (stage.ToApproach a) was ready =
     let c = block_on x.setup.params b in
@@ -67,20 +67,20 @@ base_on_storable x b (stage.OnApproach a) was ready =
     block_storable (after_current_approach x c a.to.point) b (approach_storable x b a.to.point was ready) (ready_after x b c a.to.point ready)
 base_on_storable x b stage.OnBlock was ready = block_storable x b was ready
 
-pub base_storable : (x : StoredModel) (o : Option KeptBlock) → IsSessionInvariant x o
+pub base_storable : (x : StoredModel) (o : Option BareBlock) → IsSessionInvariant x o
     → IsStorable (base_after x (option_map (block_on x.setup.params) o))
-base_storable x None kept = kept.storable
-base_storable x (Some b) kept = base_on_storable x b b.stage kept.storable kept.ready
+base_storable x None valid = valid.storable
+base_storable x (Some b) valid = base_on_storable x b b.stage valid.storable valid.ready
 
 -- a table stays as long as it is
-pub base_on_long : (x : StoredModel) (b : KeptBlock) (g : Stage) → length (base_on x (block_on x.setup.params b) g).setup.params ≡ length x.setup.params
+pub base_on_long : (x : StoredModel) (b : BareBlock) (g : Stage) → length (base_on x (block_on x.setup.params b) g).setup.params ≡ length x.setup.params
 base_on_long x b (stage.ToApproach a) = long-after x.setup.params b.changes
 base_on_long x b (stage.OnApproach a) = long-after x.setup.params b.changes
 base_on_long x b stage.OnBlock = long-after x.setup.params b.changes
 
 -- ---- a block that is begun
 
-pub begun_ready : (x : StoredModel) (b : KeptBlock) (changes : List Change) (next : ℕ) → IsStorable x → next ≤ x.length
+pub begun_ready : (x : StoredModel) (b : BareBlock) (changes : List Change) (next : ℕ) → IsStorable x → next ≤ x.length
     → b.changes ≡ differences x.setup.params (with_changes x.setup.params changes)
     → b.place ≡ place_after next x.place b.source b.stop → IsStorableModalState b.modal → length b.text ≤ 256 → IsReady x b
 begun_ready x b changes next was within made place modal text = record {

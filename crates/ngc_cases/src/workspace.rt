@@ -9,7 +9,7 @@ use std::{env, fs};
 
 /// The folder of the cases, and the folder for the files of the case that is run, which is created anew for each case.
 #[derive(Drop)]
-pub struct Room {
+pub struct Workspace {
     pub cases: String,
     own: String,
 }
@@ -21,12 +21,12 @@ pub struct Wanted<'a> {
     pub status: u8,
 }
 
-impl Room {
-    /// A room in the system's temporary folder, with a number in its name.
-    pub fn new<R: Env + AllocGlobal>(rt: &R, cases: String, number: u32) -> Result<Room> {
+impl Workspace {
+    /// A workspace in the system's temporary folder, with a number in its name.
+    pub fn new<R: Env + AllocGlobal>(rt: &R, cases: String, number: u32) -> Result<Workspace> {
         let place = env::temp_dir(rt)?;
         let own = format!(in rt.alloc(); "{}/ngc_cases_{number}", place.display())?;
-        Ok(Room { cases, own })
+        Ok(Workspace { cases, own })
     }
 
     /// Creates the folder of a case.

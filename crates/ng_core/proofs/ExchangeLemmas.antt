@@ -22,115 +22,115 @@ use Rattle.ng_core.proofs.HistoryStopLemmas.{passes}
 
 -- ---- one turn, and several turns
 
-pub turns_one : {A R : Type 0} (seen : R → Device) (event : Event A) (r : Reply) (old new : ControllerModel R)
+pub exchanges_one : {A R : Type 0} (seen : R → Device) (event : Event A) (r : Reply) (old new : ControllerModel R)
     → IsAnsweredEvent seen event r old new → AreAnsweredEvents seen (event ∷ []) (r ∷ []) old new
-turns_one seen event r old new t = (new, (t, refl))
+exchanges_one seen event r old new t = (new, (t, refl))
 
 -- events and then others, answered at the moments of the ones and then of the others
-pub turns_joined_at : {A R : Type 0} (seen : R → Device) (events more : List (Event A)) (replies others : List Reply) (old mid new : ControllerModel R)
+pub exchanges_joined_at : {A R : Type 0} (seen : R → Device) (events more : List (Event A)) (replies others : List Reply) (old mid new : ControllerModel R)
     → (p : AreAnsweredEvents seen events replies old mid) → (q : AreAnsweredEvents seen more others mid new)
     → (all : AreAnsweredEvents seen (events ++ more) (replies ++ others) old new)
     × (answered_at seen (events ++ more) (replies ++ others) old new all ≡ answered_at seen events replies old mid p ++ answered_at seen more others mid new q)
-turns_joined_at {A} {R} seen [] more [] others old mid new p q =
+exchanges_joined_at {A} {R} seen [] more [] others old mid new p q =
     subst (λ (c : ControllerModel R). (all : AreAnsweredEvents seen more others c new)
     × (answered_at seen more others c new all ≡ answered_at seen more others mid new q)) p (q, refl)
-turns_joined_at seen [] more (r ∷ replies) others old mid new p q = absurd p
-turns_joined_at seen (event ∷ events) more [] others old mid new p q = absurd p
-turns_joined_at seen (event ∷ events) more (r ∷ replies) others old mid new p q =
-    let rest = turns_joined_at seen events more replies others p.0 mid new p.1.1 q in
+exchanges_joined_at seen [] more (r ∷ replies) others old mid new p q = absurd p
+exchanges_joined_at seen (event ∷ events) more [] others old mid new p q = absurd p
+exchanges_joined_at seen (event ∷ events) more (r ∷ replies) others old mid new p q =
+    let rest = exchanges_joined_at seen events more replies others p.0 mid new p.1.1 q in
     ((p.0, (p.1.0, rest.0)), ap (λ (l : List ℕ). moment (seen p.0.journal.rig).trace ∷ l) rest.1)
 
-pub turns_joined : {A R : Type 0} (seen : R → Device) (events more : List (Event A)) (replies others : List Reply) (old mid new : ControllerModel R)
+pub exchanges_joined : {A R : Type 0} (seen : R → Device) (events more : List (Event A)) (replies others : List Reply) (old mid new : ControllerModel R)
     → AreAnsweredEvents seen events replies old mid → AreAnsweredEvents seen more others mid new
     → AreAnsweredEvents seen (events ++ more) (replies ++ others) old new
-turns_joined seen events more replies others old mid new p q = (turns_joined_at seen events more replies others old mid new p q).0
+exchanges_joined seen events more replies others old mid new p q = (exchanges_joined_at seen events more replies others old mid new p q).0
 
 -- the event at this place
-pub turns_more : {A R : Type 0} (seen : R → Device) (events : List (Event A)) (n : ℕ) (event : Event A)
+pub exchanges_more : {A R : Type 0} (seen : R → Device) (events : List (Event A)) (n : ℕ) (event : Event A)
     (done : List Reply) (r : Reply) (old now next : ControllerModel R)
     → n < length events → event ≡ get_or events n event → AreAnsweredEvents seen (take n events) done old now → IsAnsweredEvent seen event r now next
     → AreAnsweredEvents seen (take (n + 1) events) (done ++ r ∷ []) old next
-turns_more {A} seen events n event done r old now next within is p t =
+exchanges_more {A} seen events n event done r old now next within is p t =
     let here : take (n + 1) events ≡ take n events ++ event ∷ [] = take_more events n event within ∙ ap (λ (e : Event A). take n events ++ e ∷ []) (sym is) in
     subst (λ (l : List (Event A)). AreAnsweredEvents seen l (done ++ r ∷ []) old next) (sym here)
-    (turns_joined seen (take n events) (event ∷ []) done (r ∷ []) old now next p (turns_one seen event r now next t))
+    (exchanges_joined seen (take n events) (event ∷ []) done (r ∷ []) old now next p (exchanges_one seen event r now next t))
 
 -- all of them
-pub turns_all : {A R : Type 0} (seen : R → Device) (events : List (Event A)) (n : ℕ) (done : List Reply) (old now : ControllerModel R)
+pub exchanges_all : {A R : Type 0} (seen : R → Device) (events : List (Event A)) (n : ℕ) (done : List Reply) (old now : ControllerModel R)
     → length events ≤ n → AreAnsweredEvents seen (take n events) done old now → AreAnsweredEvents seen events done old now
-turns_all {A} seen events n done old now all t = subst (λ (l : List (Event A)). AreAnsweredEvents seen l done old now) (take_all n events all) t
+exchanges_all {A} seen events n done old now all t = subst (λ (l : List (Event A)). AreAnsweredEvents seen l done old now) (take_all n events all) t
 
 -- ---- what they leave of an honest device
 
 -- a history goes on by turns
-turned : {A R : Type 0} (seen : R → Device) (all events : List (Event A)) (done replies : List Reply) (moments : List ℕ) (old now new : ControllerModel R)
+exchanged : {A R : Type 0} (seen : R → Device) (all events : List (Event A)) (done replies : List Reply) (moments : List ℕ) (old now new : ControllerModel R)
     → (t : AreAnsweredEvents seen events replies now new)
     → IfHonest (seen old.journal.rig) (seen now.journal.rig) (GoesFrom seen all events done moments old now)
     → IfHonest (seen old.journal.rig) (seen new.journal.rig)
     (GoesFrom seen all [] (done ++ replies) (moments ++ answered_at seen events replies now new t) old new)
-turned {A} {R} seen all [] done [] moments old now new t p =
+exchanged {A} {R} seen all [] done [] moments old now new t p =
     subst (λ (l : List Reply). IfHonest (seen old.journal.rig) (seen new.journal.rig) (GoesFrom seen all [] l (moments ++ []) old new)) (sym (append-nil done))
     (subst (λ (l : List ℕ). IfHonest (seen old.journal.rig) (seen new.journal.rig) (GoesFrom seen all [] done l old new)) (sym (append-nil moments))
     (subst (λ (c : ControllerModel R). IfHonest (seen old.journal.rig) (seen c.journal.rig) (GoesFrom seen all [] done moments old c)) (sym t) p))
-turned seen all [] done (r ∷ replies) moments old now new t p = absurd t
-turned seen all (event ∷ events) done [] moments old now new t p = absurd t
-turned seen all (event ∷ events) done (r ∷ replies) moments old now new t p =
+exchanged seen all [] done (r ∷ replies) moments old now new t p = absurd t
+exchanged seen all (event ∷ events) done [] moments old now new t p = absurd t
+exchanged seen all (event ∷ events) done (r ∷ replies) moments old now new t p =
     let at = moment (seen t.0.journal.rig).trace in
     let later = answered_at seen events replies t.0 new t.1.1 in
     subst (λ (l : List Reply). IfHonest (seen old.journal.rig) (seen new.journal.rig)
     (GoesFrom seen all [] l (moments ++ at ∷ later) old new)) (append_assoc done (r ∷ []) replies)
     (subst (λ (l : List ℕ). IfHonest (seen old.journal.rig) (seen new.journal.rig)
     (GoesFrom seen all [] ((done ++ r ∷ []) ++ replies) l old new)) (append_assoc moments (at ∷ []) later)
-    (turned seen all events (done ++ r ∷ []) replies (moments ++ at ∷ []) old t.0 new t.1.1
+    (exchanged seen all events (done ++ r ∷ []) replies (moments ++ at ∷ []) old t.0 new t.1.1
     (goes_next seen all event events done moments r now.journal.broken old now t.0 refl t.1.0.serves t.1.0.refuses p)))
 
 -- they have a history, whatever program is stored there, with the moments at which they were answered
-pub turns_history : {A R : Type 0} (seen : R → Device) (events : List (Event A)) (replies : List Reply) (old new : ControllerModel R)
+pub exchanges_history : {A R : Type 0} (seen : R → Device) (events : List (Event A)) (replies : List Reply) (old new : ControllerModel R)
     → (t : AreAnsweredEvents seen events replies old new)
     → IfHonest (seen old.journal.rig) (seen new.journal.rig) ((program : List ℕ)
     → (old.journal.broken ≡ false → IsAtRestWith (seen old.journal.rig).trace old program)
     → History seen events replies (answered_at seen events replies old new t) program old new)
-turns_history seen events replies old new t =
-    meaning (turned seen events events [] replies [] old old new t (promised (begins seen events old)))
+exchanges_history seen events replies old new t =
+    meaning (exchanged seen events events [] replies [] old old new t (promised (begins seen events old)))
     (λ g program rests. ends seen events replies (answered_at seen events replies old new t) program old new (g program rests))
 
-pub turns_ran : {A R : Type 0} (seen : R → Device) (events : List (Event A)) (replies : List Reply) (old new : ControllerModel R)
+pub exchanges_ran : {A R : Type 0} (seen : R → Device) (events : List (Event A)) (replies : List Reply) (old new : ControllerModel R)
     → (t : AreAnsweredEvents seen events replies old new)
     → IfHonest (seen old.journal.rig) (seen new.journal.rig) (IsRun seen events replies (answered_at seen events replies old new t) old new)
-turns_ran seen events replies old new t =
-    meaning (turns_history seen events replies old new t)
+exchanges_ran seen events replies old new t =
+    meaning (exchanges_history seen events replies old new t)
     (λ h program whole rests. passes seen events replies (answered_at seen events replies old new t) program old new (h program (λ _. rests)) whole rests)
 
 -- what they lead to with a device that is known to be honest
-pub turns_lead : {A R : Type 0} (seen : R → Device) (events : List (Event A)) (replies : List Reply) (program : List ℕ) (old new : ControllerModel R)
+pub exchanges_lead : {A R : Type 0} (seen : R → Device) (events : List (Event A)) (replies : List Reply) (program : List ℕ) (old new : ControllerModel R)
     → (seen old.journal.rig).honest → (t : AreAnsweredEvents seen events replies old new)
     → old.journal.broken ≡ false → IsAtRestWith (seen old.journal.rig).trace old program
     → PassesAsSession seen events replies (answered_at seen events replies old new t) old.geometry
     (program_session_of program old) (seen old.journal.rig).trace new
-turns_lead seen events replies program old new h t whole rests = (turns_ran seen events replies old new t).holds h program whole rests
+exchanges_lead seen events replies program old new h t whole rests = (exchanges_ran seen events replies old new t).holds h program whole rests
 
-pub turns_pass : {A R : Type 0} (seen : R → Device) (events : List (Event A)) (replies : List Reply) (old new : ControllerModel R)
+pub exchanges_pass : {A R : Type 0} (seen : R → Device) (events : List (Event A)) (replies : List Reply) (old new : ControllerModel R)
     → (t : AreAnsweredEvents seen events replies old new) → old.journal.broken ≡ false
     → IfHonest (seen old.journal.rig) (seen new.journal.rig) ((program : List ℕ) → IsAtRestWith (seen old.journal.rig).trace old program
     → PassesAsSession seen events replies (answered_at seen events replies old new t) old.geometry
     (program_session_of program old) (seen old.journal.rig).trace new)
-turns_pass seen events replies old new t whole =
-    meaning (turns_ran seen events replies old new t) (λ ran program rests. ran program whole rests)
+exchanges_pass seen events replies old new t whole =
+    meaning (exchanges_ran seen events replies old new t) (λ ran program rests. ran program whole rests)
 
 -- ---- what they leave of any device
 
-turn_geometry : {A R : Type 0} (seen : R → Device) (event : Event A) (r : Reply) (b : Bool) (old new : ControllerModel R)
+exchange_geometry : {A R : Type 0} (seen : R → Device) (event : Event A) (r : Reply) (b : Bool) (old new : ControllerModel R)
     → old.journal.broken ≡ b → IsAnsweredEvent seen event r old new → new.geometry ≡ old.geometry
-turn_geometry seen event r false old new is t = (t.serves is).carried.geometry
-turn_geometry {A} {R} seen event r true old new is t = ap (λ (c : ControllerModel R). c.geometry) (t.refuses is).0
+exchange_geometry seen event r false old new is t = (t.serves is).carried.geometry
+exchange_geometry {A} {R} seen event r true old new is t = ap (λ (c : ControllerModel R). c.geometry) (t.refuses is).0
 
-pub turns_geometry : {A R : Type 0} (seen : R → Device) (events : List (Event A)) (replies : List Reply) (old new : ControllerModel R)
+pub exchanges_geometry : {A R : Type 0} (seen : R → Device) (events : List (Event A)) (replies : List Reply) (old new : ControllerModel R)
     → AreAnsweredEvents seen events replies old new → new.geometry ≡ old.geometry
-turns_geometry {A} {R} seen [] [] old new t = ap (λ (c : ControllerModel R). c.geometry) t
-turns_geometry seen [] (r ∷ replies) old new t = absurd t
-turns_geometry seen (event ∷ events) [] old new t = absurd t
-turns_geometry seen (event ∷ events) (r ∷ replies) old new t =
-    turns_geometry seen events replies t.0 new t.1.1 ∙ turn_geometry seen event r old.journal.broken old t.0 refl t.1.0
+exchanges_geometry {A} {R} seen [] [] old new t = ap (λ (c : ControllerModel R). c.geometry) t
+exchanges_geometry seen [] (r ∷ replies) old new t = absurd t
+exchanges_geometry seen (event ∷ events) [] old new t = absurd t
+exchanges_geometry seen (event ∷ events) (r ∷ replies) old new t =
+    exchanges_geometry seen events replies t.0 new t.1.1 ∙ exchange_geometry seen event r old.journal.broken old t.0 refl t.1.0
 
 -- ---- the failures of the device
 
@@ -197,7 +197,7 @@ fails_from seen (event ∷ events) [] old now new t before = absurd t
 fails_from seen (event ∷ events) (r ∷ replies) old now new t before =
     fails_from seen events replies old t.0 new t.1.1 (fails_next seen event r old now t.0 t.1.0.serves t.1.0.refuses before)
 
-pub turns_fail : {A R : Type 0} (seen : R → Device) (events : List (Event A)) (replies : List Reply) (old new : ControllerModel R)
+pub exchanges_fail : {A R : Type 0} (seen : R → Device) (events : List (Event A)) (replies : List Reply) (old new : ControllerModel R)
     → AreAnsweredEvents seen events replies old new → CountsOneFailure old.journal.broken new.journal.broken
     (seen old.journal.rig).failed (seen new.journal.rig).failed
-turns_fail seen events replies old new t = fails_from seen events replies old old new t (fails_none old.journal.broken (seen old.journal.rig).failed)
+exchanges_fail seen events replies old new t = fails_from seen events replies old old new t (fails_none old.journal.broken (seen old.journal.rig).failed)
