@@ -46,8 +46,8 @@ impl ArcSpan {
         (entered + 7 - self.from.number()) % 4 < self.changes
     }
 
-    /// Whether the extreme in the direction at which a quadrant begins isn't passed, or is inside the travel. `reach_nm`
-    /// is how far the travel reaches from the centre.
+    /// Whether the extreme in the direction at which a quadrant begins isn't passed, or is inside the travel.
+    /// `reach_nm` is how far the travel reaches from the centre.
     pub(crate) fn keeps(&self, towards: Quadrant, reach_nm: i64) -> bool
         requires { unsigned_abs reach_nm < 2 ^ 45 }
         ensures { result ≡ (not (passes_toward self.now towards) || is_within self.now.square reach_nm) }

@@ -1,5 +1,6 @@
 -- Why a line is refused: all faults, each with its cause, in the order in which they are checked (own; NISTIR 6556, 3.3
--- to 3.8). Each cause is about what the line asks for, even if the line is refused for another one.
+-- to 3.8). Each cause is about what the line asks for, even if the line is refused for another one; only an arc without
+-- a feed isn't asked whether it leaves the travel.
 use Rattle.std.specs.Prelude.{ℕ, ℤ, int_lt, Bool, true, false, ◌||◌, List, [], ◌∷◌, ◌++◌, length, Some, None, is_none, is_err, Result, Ok, Err}
 use Rattle.std.specs.List.{list_any}
 use Rattle.std.specs.Result.{result_unwrap_or}
@@ -79,7 +80,7 @@ has_no_feed (Drills w s) = is_none (above_zero s.feed_per_min)
 has_no_feed _ = false
 
 -- X2, of a straight move, an arc and a way home; of a cycle, if one of its moves ends outside the travel. An arc without
--- a pace has X1, and X2 is asked after it
+-- a feed has X1, which comes first
 abbrev pub goes_outside : Move → Geometry → Bool
 goes_outside Stays geometry = false
 goes_outside (Goes pace end) geometry = ends_outside geometry end

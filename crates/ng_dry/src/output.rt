@@ -89,7 +89,7 @@ pub(crate) fn break_off<W: Write, A: Allocator + Copy + Drop>(
 }
 
 /// Prints a command after the text that waits, and writes the text if it is long. Before `DryFault::Memory` the text
-/// that waited is written.
+/// that waited is written. For callers of this crate alone: the programs run whole lines.
 pub fn put_canon<W: Write, A: Allocator + Copy + Drop>(
     text: &mut Vec<u8, A>,
     writer: &mut W,

@@ -55,7 +55,7 @@ impl<S: Storage + Drop, W: Write + Drop, A: Allocator + Copy + Drop> FileRig<S, 
         })
     }
 
-    /// Gives the file and the writer back.
+    /// Gives the file and the writer back. For callers of this crate alone: the programs end with their device.
     pub fn into_parts(self) -> (S, W)
         ensures { (result.0 ≡ storage self) × (result.1 ≡ outlet self) }
     {

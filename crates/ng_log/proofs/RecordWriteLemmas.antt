@@ -85,20 +85,6 @@ next_from image header before end slot saved changes two valid slot_is was chang
       ∙ differences-restore before.saved.setup.params saved.setup.params (ends-whole image header before end was) whole;
 }
 
--- as those between two tables
-pub next_of : (image : Image) (header : Header) (before : DurableState) (end : LogEnd) (table : List ℤ)
-    (slot : Option SlotChange) (saved : StoredModel) (count : ℕ) → header.format ≡ Two
-    → IfSome slot (IsStorableChange before.saved.tools) → with_change slot before.saved.tools ≡ saved.tools
-    → EndsIn image header before end → before.saved.setup.params ≡ table → length table ≡ 5399
-    → length saved.setup.params ≡ 5399 → count ≡ length (differences table saved.setup.params)
-    → end.sector + parts_for count ≤ log_size_of header → saved.length ≡ header.length
-    → before.saved.program_limit ≡ saved.program_limit → IsNext image header before end saved (differences table saved.setup.params)
-    slot
-next_of image header before end table slot saved count two valid slot_is was params_are all_old all_new count_is room long same_limit =
-    next_from image header before end slot saved (differences table saved.setup.params) two valid slot_is was
-    (ap (λ (t : List ℤ). differences t saved.setup.params) (sym params_are)) all_new
-    (subst (λ (n : ℕ). end.sector + parts_for n ≤ log_size_of header) count_is room) long same_limit
-
 -- a piece comes after those that are written
 pub piece_of : (k : ℕ) (changes left made : List Change) → left ≡ drop (48 * k) changes → made ≡ take 48 left → piece k changes ≡ made
 piece_of k changes left made is made_is = ap (take 48) (sym is) ∙ sym made_is

@@ -8,7 +8,7 @@
 //! A code is one row of the table in `specs/Codes.antt` and one row in `codes.rt`: its number and what its word asks
 //! for. The numbers of the modal groups are in `Groups.antt`. Each cause is a sentence, in `WordCauses.antt` for B1 to
 //! B5, which depend only on the words, or in `Causes.antt` for B6 to B19, which depend on what the words ask for. Their
-//! order is the list in `Check.antt`. All codes of the language are known here.
+//! order is the list in `Checking.antt`. All codes of the language are known here.
 //!
 //! The crate depends on `ng_expr` for the values of words, on `ng_state` for the modes, on `ng_params` for the numbers
 //! of coordinate systems, on `ng_cycles` for the kinds of cycles, and on `ng_canon` for planes, directions of arcs and

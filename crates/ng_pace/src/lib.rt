@@ -11,7 +11,7 @@
 //! time alone, for lines that come with what is allowed at them. Rates are in pulses a second times 2^8, and a square
 //! is that of such a rate.
 //!
-//! The crate depends on `ng_canon` alone. Only `Stream::new` and `Pacer::new` allocate.
+//! The crate depends on `ng_canon`, and so on `ng_num`. Only `Stream::new` and `Pacer::new` allocate.
 #![tactic(auto)]
 
 mod caps;

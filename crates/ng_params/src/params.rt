@@ -98,7 +98,8 @@ impl<A: Allocator + Copy + Drop> Params<A> {
     }
 
     /// The parameters whose values differ from those of an older table, in rising order of index. Fails only if memory
-    /// runs out.
+    /// runs out. For callers of this crate alone: the programs store the changes of a block, or the next few
+    /// differences.
     pub fn changes_from(&self, old: &Params<A>) -> Result<Vec<Change, A>, AllocError>
         ensures restores { IfOk result (λ changes. with_changes old.now changes.items ≡ self.now) }
         ensures differ { IfOk result (λ changes. AreDifferences old.now self.now changes.items) }

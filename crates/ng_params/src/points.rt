@@ -48,21 +48,23 @@ impl<A: Allocator + Copy + Drop> Params<A> {
         }
     }
 
-    /// The home of G28, in machine coordinates (NISTIR 6556, 3.5.8).
+    /// The home of G28, in machine coordinates (NISTIR 6556, 3.5.8). For callers of this crate alone: the programs look
+    /// up a home together with what the line assigns.
     pub fn home(&self) -> Point
         ensures { result ≡ home self.now }
     {
         self.point_at(5161)
     }
 
-    /// The home of G30, in machine coordinates (NISTIR 6556, 3.5.8).
+    /// The home of G30, in machine coordinates (NISTIR 6556, 3.5.8). For callers of this crate alone, as `home`.
     pub fn second_home(&self) -> Point
         ensures { result ≡ second_home self.now }
     {
         self.point_at(5181)
     }
 
-    /// The G92 offset that is stored, whether or not it is in force (NISTIR 6556, 3.5.18).
+    /// The G92 offset that is stored, whether or not it is in force (NISTIR 6556, 3.5.18). For callers of this crate
+    /// alone, as `home`.
     pub fn g92_stored(&self) -> Point
         ensures { result ≡ g92_stored self.now }
     {

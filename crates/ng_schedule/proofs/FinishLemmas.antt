@@ -10,7 +10,8 @@ use Rattle.ng_pace.specs.Calls.{IsEmpty}
 use Rattle.ng_pace.specs.Stream.{Timed as Waited, all_items, items_of, items_waiting}
 use Rattle.ng_pace.specs.declared.line.Line.{Line}
 use Rattle.ng_schedule.specs.Flush.{FlushSpec, Wrote}
-use Rattle.ng_schedule.specs.Schedule.{ArePaced, BeginsNoLine, ScheduleSpec, Timed, end_text, lines_of, not_a_line_text, capacity, span, timed_text, too_late_text}
+use Rattle.ng_schedule.specs.Schedule.{ArePaced, BeginsNoLine, ScheduleSpec, Timed, end_text, lines_of, not_a_line_text}
+use Rattle.ng_schedule.specs.Schedule.{capacity, span, timed_text, too_late_text}
 use Rattle.ng_schedule.specs.Private.Parts.{HasGiven, IsAt, IsCut, IsTooLate, IsUnderWay, item_lines}
 use Rattle.ng_schedule.specs.declared.ending.Shown.{Shown}
 use Rattle.ng_schedule.specs.declared.ending.Ended.{Ended}

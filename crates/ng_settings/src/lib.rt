@@ -2,8 +2,8 @@
 //!
 //! `settings` returns the geometry and the tool table that a text gives, or its first fault: S1 if it isn't TOML, then
 //! S2 to S6. Each cause is checked for all keys before the next. `specs/KeyValues.antt` has the keys, `Causes.antt` one
-//! sentence for each cause, and `Check.antt` their order. The crate `toml` defines what TOML is, and which table a text
-//! stands for.
+//! sentence for each cause, and `Reading.antt` their order. The crate `toml` defines what TOML is, and which table a
+//! text stands for.
 //!
 //! The types of `ng_canon` and the contract of `settings` ensure that the numbers of settings are within their limits.
 //! Memory is allocated only for the parsed table.

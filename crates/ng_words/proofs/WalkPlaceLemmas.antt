@@ -23,7 +23,8 @@ use Rattle.ng_words.specs.declared.value.Waiting.{Waiting as Mark}
 use Rattle.ng_words.specs.declared.value.Waiting.TheVariants as marked
 use Rattle.ng_words.proofs.NumberGrammarLemmas.{number_sound, length-number}
 use Rattle.ng_words.proofs.ValueGrammarLemmas.{length-value_at, no_bracket, number_begins, value_sound}
-use Rattle.ng_words.proofs.ValueWalkLemmas.{opener, IsOpener, entry_found, operation_found, step_shorter, walk_before, walk_after, walk_before_none, walk_after_none}
+use Rattle.ng_words.proofs.ValueWalkLemmas.{opener, IsOpener, entry_found, operation_found, step_shorter}
+use Rattle.ng_words.proofs.ValueWalkLemmas.{walk_before, walk_after, walk_before_none, walk_after_none}
 
 -- ---- the end of a list
 

@@ -8,7 +8,8 @@ use Rattle.ng_journal.proofs.checkpoint.write_snapshot.Goals as goal
 pub returns-in_err-write-clause-area : goal.returns-in_err-write-clause-area
 returns-in_err-write-clause-area g c =
     let p = err_from_is_err_and c.from_residual.result c.from_residual.ensures.1 in
-    rw p.1 (fails p.0 c.write.result c.loop-part.part (c.args.first + c.loop-part.part) c.args.first snapshot_size (HoldsPart c.args.stored.now) c.sector.result _ _ _
+    rw p.1 (fails p.0 c.write.result c.loop-part.part (c.args.first + c.loop-part.part) c.args.first snapshot_size
+    (HoldsPart c.args.stored.now) c.sector.result _ _ _
     c.loop-part-test.true refl c.sector.ensures c.loop-part.invariant c.write.ensures.trace)
 
 pub loop-part-preserved : goal.loop-part-preserved

@@ -34,7 +34,11 @@ returns-clause-stores g c =
     let count : c.count.result ≡ changes_to l copy = c.count.ensures ∙ ap length c.changes_between-changes.ensures.changes in
     let few : c.count.result ≤ 5399 = omega (arith, c.count.ensures, c.changes_between-changes.ensures.few) in
     onto _ c.in_ok-tip.ensures.makes c.append_to.ensures.appends (λ m f.
-    let a = f c.args.old.now (record { changes_are = c.changes_between-changes.ensures.changes; slot_is = c.slot_between-slot.ensures; one = c.requires.one }) in
+    let a = f c.args.old.now (record {
+      changes_are = c.changes_between-changes.ensures.changes;
+      slot_is = c.slot_between-slot.ensures;
+      one = c.requires.one;
+    }) in
     record {
       stops = λ before at is.
           let s = m.stops before at is in

@@ -96,7 +96,8 @@ returns-in_err-load_program g c =
     c.in_err-load_program.ensures.fails.too_long in
     let own = limit_is_own old.journal c.in_ok-stored.stored old.session.stored (c.self.invariant.saved whole)
     (ap (λ (x : StoredModel). x.program_limit) c.in_ok-stored.ensures.value) in
-    let unchanged : e ≡ CountersUsed → new.journal ≡ old.journal = λ used. c.in_err-load_program.ensures.fails.unchanged (inl (ap (λ (f : Fault). Err f) used)) in
+    let unchanged : e ≡ CountersUsed → new.journal ≡ old.journal = λ used.
+    c.in_err-load_program.ensures.fails.unchanged (inl (ap (λ (f : Fault). Err f) used)) in
     rw (p.1) (carried_as g.R.Rig.seen (λ (x : ControllerModel g.row.R.Denot).
     load_refusal x.session c.args.text.now ≡ None) (λ (x : ControllerModel g.row.R.Denot).
     load_refusal x.session c.args.text.now ≡ None) (λ (x : ControllerModel g.row.R.Denot). ⊥)

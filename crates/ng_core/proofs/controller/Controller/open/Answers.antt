@@ -50,7 +50,8 @@ returns-in_err-open_segment g c =
     (opens_none g.R.Rig.seen e e c.args.half old new refl (c.self.invariant.saved whole)
     c.in_err-open_segment.ensures.fails.causes unchanged (meaning c.in_err-open_segment.ensures.stores (λ s. s.stops)) refl)
     (makes_opening {T = Unit {0}} g.R.Rig.seen (Err e) reply.Idle c.args.half (λ (program : List ℕ). opening c.args.half program geometry old.session) old new
-    (λ program. stored_opening (opening c.args.half program geometry old.session) c.args.half.index c.args.half.opened) (meaning c.in_err-open_segment.ensures.stores (λ s. s.writes)))
+    (λ program. stored_opening (opening c.args.half program geometry old.session) c.args.half.index c.args.half.opened)
+    (meaning c.in_err-open_segment.ensures.stores (λ s. s.writes)))
     c.in_err-open_segment.ensures.fails.causes unchanged refl refl refl
     (hindered_opening (Unit {0}) e geometry old.session (ledger_of old.journal) c.args.half
     c.in_err-open_segment.ensures.fails.causes c.in_err-open_segment.ensures.fails.used_up)

@@ -36,7 +36,8 @@ returns-clause-value g c =
 
 pub returns-clause-ready : goal.returns-clause-ready
 returns-clause-ready g c =
-    let place = c.place_after.ensures ∙ ap (λ (y : StoredModel). place_after c.args.next y.place c.half.inside.source c.args.effect.now.stop) c.stored.view_is in
+    let place = c.place_after.ensures ∙ ap (λ (y : StoredModel). place_after c.args.next y.place c.half.inside.source c.args.effect.now.stop)
+    c.stored.view_is in
     let text : length c.text_from.result.items ≤ 256 =
     omega (
       arith,

@@ -39,7 +39,8 @@ returns-clause-plan g c =
       | in-Some w ↦
           let p = w.in-Some.planned in
           let on : IsPlannedOn c.args.geometry.now (record { stored = f.new.self.base; block_delete = s.block_delete }) p =
-          subst (λ (t : SessionModel). IsPlannedOn c.args.geometry.now (let b : Base = record { stored = f.new.self.base; block_delete = t.block_delete } in b) p)
+          subst (λ (t : SessionModel). IsPlannedOn c.args.geometry.now
+          (let b : Base = record { stored = f.new.self.base; block_delete = t.block_delete } in b) p)
           c.self.view_is (subst (λ (x : StoredModel). IsPlannedOn c.args.geometry.now
           (let b : Base = record { stored = x; block_delete = c.self.inside.block_delete } in b) p) c.base-2.ensures w.in-Some.ensures.planned) in
           plan_pushed c.args.geometry.now (base_of s) f.new.self c.match-plan_line.lines p found.0 found.1 on
