@@ -20,8 +20,8 @@ use Rattle.ng_modal.specs.declared.movement.Movement.{Movement}
 use Rattle.ng_modal.specs.declared.movement.Movement.TheVariants as movement
 use Rattle.ng_modal.specs.declared.requests.NonModal.{NonModal}
 use Rattle.ng_modal.specs.declared.requests.NonModal.TheVariants.{Dwell, SetOrigin, Home, SecondHome}
-use Rattle.ng_modal.specs.declared.requests.NonModal.TheVariants.{MachineCoordinates, SetOffset, ClearOffset}
-use Rattle.ng_modal.specs.declared.requests.NonModal.TheVariants.{DropOffset, RestoreOffset}
+use Rattle.ng_modal.specs.declared.requests.NonModal.TheVariants.{MachineCoordinates, SetOffset, CancelOffsetAndParameters}
+use Rattle.ng_modal.specs.declared.requests.NonModal.TheVariants.{CancelOffset, RestoreOffset}
 use Rattle.ng_modal.specs.declared.requests.StopWord.{StopWord}
 use Rattle.ng_modal.specs.declared.requests.StopWord.TheVariants as word
 use Rattle.ng_modal.specs.declared.block.Block.{Block}
@@ -62,8 +62,8 @@ no_home : (w : Option NonModal) (table : List ℤ) → sets_at_most w ≡ true �
 no_home None table e = refl
 no_home (Some SetOrigin) table e = refl
 no_home (Some SetOffset) table e = refl
-no_home (Some ClearOffset) table e = refl
-no_home (Some DropOffset) table e = refl
+no_home (Some CancelOffsetAndParameters) table e = refl
+no_home (Some CancelOffset) table e = refl
 no_home (Some RestoreOffset) table e = refl
 no_home (Some MachineCoordinates) table e = refl
 no_home (Some Dwell) table e = refl

@@ -18,8 +18,8 @@ use Rattle.ng_modal.specs.declared.movement.Movement.TheVariants as movement
 use Rattle.ng_modal.specs.declared.movement.StraightKind.{StraightKind}
 use Rattle.ng_modal.specs.declared.requests.NonModal.{NonModal}
 use Rattle.ng_modal.specs.declared.requests.NonModal.TheVariants.{Dwell, SetOrigin, Home, SecondHome}
-use Rattle.ng_modal.specs.declared.requests.NonModal.TheVariants.{MachineCoordinates, SetOffset, ClearOffset}
-use Rattle.ng_modal.specs.declared.requests.NonModal.TheVariants.{DropOffset, RestoreOffset}
+use Rattle.ng_modal.specs.declared.requests.NonModal.TheVariants.{MachineCoordinates, SetOffset, CancelOffsetAndParameters}
+use Rattle.ng_modal.specs.declared.requests.NonModal.TheVariants.{CancelOffset, RestoreOffset}
 use Rattle.ng_modal.specs.declared.block.Block.{Block}
 use Rattle.ng_state.specs.declared.modes.Distance.{Distance}
 use Rattle.ng_state.specs.declared.modes.Distance.TheVariants.{Absolute, Incremental}
@@ -182,8 +182,8 @@ far_axis_data (Some SecondHome) b m machine o table = found _
 far_axis_data (Some MachineCoordinates) b m machine o table = found _
 far_axis_data (Some SetOrigin) b m machine o table = far_origin (system_on b.values.p) b m o table
 far_axis_data (Some SetOffset) b m machine o table = far_offset b m machine o
-far_axis_data (Some ClearOffset) b m machine o table = found _
-far_axis_data (Some DropOffset) b m machine o table = found _
+far_axis_data (Some CancelOffsetAndParameters) b m machine o table = found _
+far_axis_data (Some CancelOffset) b m machine o table = found _
 far_axis_data (Some RestoreOffset) b m machine o table =
     let new : Offsets = record o { g92 = g92_stored table } in
     far_then (printed new) _ (far_printed new) (λ restored. found (record { new = Some restored; stored = None }))

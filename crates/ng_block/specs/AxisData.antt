@@ -10,7 +10,7 @@ use Rattle.ng_num.specs.declared.fault.Fault.{Fault}
 use Rattle.ng_params.specs.Points.{g92_changes}
 use Rattle.ng_modal.specs.WholeNumbers.{system_on}
 use Rattle.ng_modal.specs.declared.requests.NonModal.{NonModal}
-use Rattle.ng_modal.specs.declared.requests.NonModal.TheVariants.{SetOrigin, SetOffset, ClearOffset, DropOffset, RestoreOffset}
+use Rattle.ng_modal.specs.declared.requests.NonModal.TheVariants.{SetOrigin, SetOffset, CancelOffsetAndParameters, CancelOffset, RestoreOffset}
 use Rattle.ng_modal.specs.declared.block.Block.{Block}
 use Rattle.ng_state.specs.declared.modes.Modes.{Modes}
 use Rattle.ng_offsets.specs.Named.{named_by}
@@ -66,8 +66,8 @@ with_offset b m machine o =
 abbrev pub axis_data_by : Option NonModal → Block → Modes → Point → Offsets → List ℤ → Result AxisData Fault
 axis_data_by (Some SetOrigin) b m machine o table = with_origin (system_on b.values.p) b m o table
 axis_data_by (Some SetOffset) b m machine o table = with_offset b m machine o
-axis_data_by (Some ClearOffset) b m machine o table = Ok (record { new = Some (dropped o); stored = Some (g92_changes zero_point) })
-axis_data_by (Some DropOffset) b m machine o table = Ok (record { new = Some (dropped o); stored = None })
+axis_data_by (Some CancelOffsetAndParameters) b m machine o table = Ok (record { new = Some (dropped o); stored = Some (g92_changes zero_point) })
+axis_data_by (Some CancelOffset) b m machine o table = Ok (record { new = Some (dropped o); stored = None })
 axis_data_by (Some RestoreOffset) b m machine o table = and_then (restored o table) (λ new. Ok (record { new = Some new; stored = None }))
 axis_data_by _ b m machine o table = Ok no_axis_data
 

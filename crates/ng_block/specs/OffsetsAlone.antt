@@ -6,7 +6,7 @@ use Rattle.ng_modal.specs.BlockOfWords.{block_of}
 use Rattle.ng_modal.specs.ByLetter.{has_axis}
 use Rattle.ng_modal.specs.Block.{takes_axes}
 use Rattle.ng_modal.specs.declared.requests.NonModal.{NonModal}
-use Rattle.ng_modal.specs.declared.requests.NonModal.TheVariants.{SetOrigin, SetOffset, ClearOffset, DropOffset, RestoreOffset}
+use Rattle.ng_modal.specs.declared.requests.NonModal.TheVariants.{SetOrigin, SetOffset, CancelOffsetAndParameters, CancelOffset, RestoreOffset}
 use Rattle.ng_modal.specs.declared.block.Block.{Block}
 use Rattle.ng_state.specs.State.{StateModel}
 
@@ -23,8 +23,8 @@ abbrev pub sets_at_most : Option NonModal → Bool
 sets_at_most None = true
 sets_at_most (Some SetOrigin) = true
 sets_at_most (Some SetOffset) = true
-sets_at_most (Some ClearOffset) = true
-sets_at_most (Some DropOffset) = true
+sets_at_most (Some CancelOffsetAndParameters) = true
+sets_at_most (Some CancelOffset) = true
 sets_at_most (Some RestoreOffset) = true
 sets_at_most _ = false
 

@@ -105,11 +105,11 @@ pub(crate) fn axis_data_of<A: Allocator + Copy + Drop>(
         Some(NonModal::SetOffset) => {
             return with_offset(block, &modal.modes, modal.point, offsets);
         }
-        Some(NonModal::ClearOffset) => {
+        Some(NonModal::CancelOffsetAndParameters) => {
             let (new, stored) = offsets.g92_1();
             (Some(new), Some(stored))
         }
-        Some(NonModal::DropOffset) => (Some(offsets.g92_2()), None),
+        Some(NonModal::CancelOffset) => (Some(offsets.g92_2()), None),
         Some(NonModal::RestoreOffset) => (Some(offsets.g92_3(params, assignments)?), None),
         _ => (None, None),
     };

@@ -3,17 +3,17 @@ use Rattle.std.proofs.Common.{◌≡◌, ℕ, ℤ, pos, Bool, true, false, List,
 use Rattle.std.specs.Prelude.{if◌then◌else◌}
 use Rattle.std.specs.Ordering.{int_eq}
 use Rattle.std.proofs.lemmas.Bool.Decides.{Decides-int_eq}
-use Rattle.ng_modal.specs.Codes.{beside}
+use Rattle.ng_modal.specs.Codes.{lookup}
 
 abbrev pub NoRow : {W : Type 0} → ℤ → List (ℕ × W) → Type 0
 NoRow n [] = Unit {0}
 NoRow n (row ∷ rows) = (n ≡ pos row.0 → ⊥) × NoRow n rows
 
-pub nothing_beside : {W : Type 0} (n : ℤ) (rows : List (ℕ × W)) → NoRow n rows → None ≡ beside n rows
-nothing_beside n [] none = refl
-nothing_beside {W} n (row ∷ rows) none =
-    let P : Bool → Type 0 = λ t. int_eq (pos row.0) n ≡ t → None ≡ (if t then Some row.1 else beside n rows) in
+pub nothing_found : {W : Type 0} (n : ℤ) (rows : List (ℕ × W)) → NoRow n rows → None ≡ lookup n rows
+nothing_found n [] none = refl
+nothing_found {W} n (row ∷ rows) none =
+    let P : Bool → Type 0 = λ t. int_eq (pos row.0) n ≡ t → None ≡ (if t then Some row.1 else lookup n rows) in
     elim (int_eq (pos row.0) n) as P [
       | true ↦ λ e. absurd (none.0 (sym ((Decides-int_eq _ _).0 e)))
-      | false ↦ λ _. nothing_beside n rows none.1
+      | false ↦ λ _. nothing_found n rows none.1
     ] refl

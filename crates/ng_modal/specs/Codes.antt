@@ -15,8 +15,8 @@ use Rattle.ng_state.specs.declared.modes.FeedMode.TheVariants.{PerMinute, Invers
 use Rattle.ng_state.specs.declared.modes.Retract.TheVariants.{OldZ, ToR}
 use Rattle.ng_state.specs.declared.modes.PathMode.TheVariants.{Exact, ExactStop, Continuous}
 use Rattle.ng_modal.specs.declared.requests.NonModal.TheVariants.{Dwell, SetOrigin, Home, SecondHome}
-use Rattle.ng_modal.specs.declared.requests.NonModal.TheVariants.{MachineCoordinates, SetOffset, ClearOffset}
-use Rattle.ng_modal.specs.declared.requests.NonModal.TheVariants.{DropOffset, RestoreOffset}
+use Rattle.ng_modal.specs.declared.requests.NonModal.TheVariants.{MachineCoordinates, SetOffset, CancelOffsetAndParameters}
+use Rattle.ng_modal.specs.declared.requests.NonModal.TheVariants.{CancelOffset, RestoreOffset}
 use Rattle.ng_modal.specs.declared.requests.ToolLength.TheVariants.{OfSlot, Zero}
 use Rattle.ng_modal.specs.declared.requests.StopWord.TheVariants.{Program, Optional, End, EndWithShuttle, Shuttle}
 use Rattle.ng_modal.specs.declared.requests.Coolant.TheVariants.{Mist, Flood, Off}
@@ -75,8 +75,8 @@ g_table =
     (900, Distance Absolute) ∷  -- G90 3.5.17
     (910, Distance Incremental) ∷  -- G91 3.5.17
     (920, NonModal SetOffset) ∷  -- G92 3.5.18
-    (921, NonModal ClearOffset) ∷  -- G92.1 3.5.18
-    (922, NonModal DropOffset) ∷  -- G92.2 3.5.18
+    (921, NonModal CancelOffsetAndParameters) ∷  -- G92.1 3.5.18
+    (922, NonModal CancelOffset) ∷  -- G92.2 3.5.18
     (923, NonModal RestoreOffset) ∷  -- G92.3 3.5.18
     (930, FeedMode InverseTime) ∷  -- G93 3.5.19
     (940, FeedMode PerMinute) ∷  -- G94 3.5.19
@@ -104,16 +104,16 @@ m_table =
     []
 
 -- the entry for a number in a table
-abbrev pub beside : {W : Type 0} → ℤ → List (ℕ × W) → Option W
-beside n [] = None
-beside n (row ∷ rows) = if int_eq (pos row.0) n then Some row.1 else beside n rows
+abbrev pub lookup : {W : Type 0} → ℤ → List (ℕ × W) → Option W
+lookup n [] = None
+lookup n (row ∷ rows) = if int_eq (pos row.0) n then Some row.1 else lookup n rows
 
 -- the G word with a code, given as ten times its value, and the M word with a code
 unfoldable pub g_word_of : ℤ → Option GWord
-g_word_of tenths = beside tenths g_table
+g_word_of tenths = lookup tenths g_table
 
 unfoldable pub m_word_of : ℤ → Option MWord
-m_word_of number = beside number m_table
+m_word_of number = lookup number m_table
 
 -- the word that selects a coordinate system
 abbrev pub selecting : ℕ → Option GWord

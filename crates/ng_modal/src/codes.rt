@@ -118,8 +118,8 @@ fn g_word_of(tenths: i64) -> Option<GWord>
         900 => Some(GWord::Distance(Distance::Absolute)), // G90 3.5.17
         910 => Some(GWord::Distance(Distance::Incremental)), // G91 3.5.17
         920 => Some(GWord::NonModal(NonModal::SetOffset)), // G92 3.5.18
-        921 => Some(GWord::NonModal(NonModal::ClearOffset)), // G92.1 3.5.18
-        922 => Some(GWord::NonModal(NonModal::DropOffset)), // G92.2 3.5.18
+        921 => Some(GWord::NonModal(NonModal::CancelOffsetAndParameters)), // G92.1 3.5.18
+        922 => Some(GWord::NonModal(NonModal::CancelOffset)), // G92.2 3.5.18
         923 => Some(GWord::NonModal(NonModal::RestoreOffset)), // G92.3 3.5.18
         930 => Some(GWord::FeedMode(FeedMode::InverseTime)), // G93 3.5.19
         940 => Some(GWord::FeedMode(FeedMode::PerMinute)), // G94 3.5.19

@@ -16,9 +16,9 @@ pub enum NonModal {
     /// G92 (3.5.18).
     SetOffset,
     /// G92.1 (3.5.18).
-    ClearOffset,
+    CancelOffsetAndParameters,
     /// G92.2 (3.5.18).
-    DropOffset,
+    CancelOffset,
     /// G92.3 (3.5.18).
     RestoreOffset,
 }

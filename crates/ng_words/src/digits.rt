@@ -46,7 +46,7 @@ fn first_digit(bytes: &[u8]) -> Option<(u8, &[u8])>
 impl<'a> Digits<'a> {
     /// The next digit, if it is the next byte: blanks are not skipped.
     #[inline(always)]
-    pub(crate) fn next_together(&mut self) -> Option<u8>
+    pub(crate) fn next_plain(&mut self) -> Option<u8>
         ensures { MatchOption result (self.new ≡ self.old) (λ b. (self.old ≡ b ∷ self.new) × IsTrue (is_digit b)) }
     {
         let (digit, others) = first_digit(self.rest)?;

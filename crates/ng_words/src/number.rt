@@ -7,7 +7,7 @@ ghost use Rattle.ng_words.specs.Grammar.{IsNumber, is_digit};
 ghost use Rattle.ng_words.specs.Scan.{fraction_from, front_digits, after_digits, whole_after, is_empty, unsigned_at, sign_at, number_at};
 
 use crate::cursor::{Cursor, is_blank};
-use crate::plain_number::number_together;
+use crate::plain_number::plain_number;
 use ng_num::{Fault, Num};
 
 /// From this whole part on, every number is out of range.
@@ -104,7 +104,7 @@ fn minus(cursor: &mut Cursor<'_>) -> bool
 /// Takes a number that may have blanks between its digits, and returns its count of millionths. The inner `None` says
 /// that it is out of range.
 #[cold]
-fn number_apart(cursor: &mut Cursor<'_>) -> Option<Option<Num>>
+fn spaced_number(cursor: &mut Cursor<'_>) -> Option<Option<Num>>
     ensures { MatchOption result (number_at cursor.old ≡ None) (λ v. number_at cursor.old ≡ Some (v, cursor.new)) }
 {
     let negative = minus(cursor);
@@ -117,9 +117,9 @@ fn number_apart(cursor: &mut Cursor<'_>) -> Option<Option<Num>>
 pub(crate) fn number(cursor: &mut Cursor<'_>) -> Option<Option<Num>>
     ensures { MatchOption result (number_at cursor.old ≡ None) (λ v. number_at cursor.old ≡ Some (v, cursor.new)) }
 {
-    match number_together(cursor) {
+    match plain_number(cursor) {
         Some(count) => Some(count),
-        None => number_apart(cursor),
+        None => spaced_number(cursor),
     }
 }
 

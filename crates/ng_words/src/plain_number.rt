@@ -15,7 +15,7 @@ const DECIMALS: u32 = 6;
 
 /// Takes up to seven digits of a whole part. Returns their value, and whether there are none.
 #[inline(always)]
-fn whole_together(digits: &mut Digits<'_>) -> (u32, bool)
+fn plain_whole(digits: &mut Digits<'_>) -> (u32, bool)
     ensures rest { after_digits digits.new ≡ after_digits digits.old }
     ensures value { whole_after result.0 (front_digits digits.new) ≡ whole_after 0 (front_digits digits.old) }
     ensures bound { result.0 ≤ 10_000_000 }
@@ -24,7 +24,7 @@ fn whole_together(digits: &mut Digits<'_>) -> (u32, bool)
     let mut whole: u32 = 0;
     let mut none = true;
     for _ in 0..WHOLE_DIGITS {
-        match digits.next_together() {
+        match digits.next_plain() {
             Some(digit) => {
                 whole = with_digit(whole, digit);
                 none = false;
@@ -37,7 +37,7 @@ fn whole_together(digits: &mut Digits<'_>) -> (u32, bool)
 
 /// Takes up to six digits after a point. Returns their value in millionths, and whether there are none.
 #[inline(always)]
-fn fraction_together(digits: &mut Digits<'_>) -> (u32, bool)
+fn plain_fraction(digits: &mut Digits<'_>) -> (u32, bool)
     ensures rest { after_digits digits.new ≡ after_digits digits.old }
     ensures value { is_empty (front_digits digits.new) ≡ true → result.0 * 10 ≡ fraction_from 1_000_000 (front_digits digits.old) }
     ensures bound { result.0 ≤ 1_000_000 }
@@ -47,7 +47,7 @@ fn fraction_together(digits: &mut Digits<'_>) -> (u32, bool)
     let mut unit: u32 = 100_000;
     let mut none = true;
     for _ in 0..DECIMALS {
-        match digits.next_together() {
+        match digits.next_plain() {
             Some(digit) => {
                 none = false;
                 sum += (digit - b'0') as u32 * unit;
@@ -62,11 +62,11 @@ fn fraction_together(digits: &mut Digits<'_>) -> (u32, bool)
 /// The millionths of an unsigned number with no blank between its digits, and the rest after it. `None` if there is no
 /// digit, or if the number may go on: after a blank, with an eighth digit or with a seventh decimal.
 #[inline(always)]
-fn unsigned_together<'a>(start: Digits<'a>) -> Option<(u64, Cursor<'a>)>
+fn plain_unsigned<'a>(start: Digits<'a>) -> Option<(u64, Cursor<'a>)>
     ensures { IfSome result (λ x. unsigned_at start.entry ≡ Some (x.0, x.1)) }
 {
     let mut digits = start;
-    let (whole, no_whole) = whole_together(&mut digits);
+    let (whole, no_whole) = plain_whole(&mut digits);
     if !digits.skip_point() {
         let rest = Cursor::after(&digits);
         if no_whole || rest.is_at_digit() || rest.is_at(b'.') {
@@ -74,7 +74,7 @@ fn unsigned_together<'a>(start: Digits<'a>) -> Option<(u64, Cursor<'a>)>
         }
         return Some((whole as u64 * 1_000_000, rest));
     }
-    let (millionths, no_fraction) = fraction_together(&mut digits);
+    let (millionths, no_fraction) = plain_fraction(&mut digits);
     let rest = Cursor::after(&digits);
     if (no_whole & no_fraction) || rest.is_at_digit() {
         return None;
@@ -85,11 +85,11 @@ fn unsigned_together<'a>(start: Digits<'a>) -> Option<(u64, Cursor<'a>)>
 /// Takes a number with no blank between its digits, and returns its count of millionths. The inner `None` says that it
 /// is out of range. After an outer `None` the cursor stays, and a number may still come next.
 #[inline(always)]
-pub(crate) fn number_together(cursor: &mut Cursor<'_>) -> Option<Option<Num>>
+pub(crate) fn plain_number(cursor: &mut Cursor<'_>) -> Option<Option<Num>>
     ensures { MatchOption result (cursor.new ≡ cursor.old) (λ v. number_at cursor.old ≡ Some (v, cursor.new)) }
 {
     let (negative, digits) = cursor.after_sign();
-    let (size, rest) = unsigned_together(digits)?;
+    let (size, rest) = plain_unsigned(digits)?;
     cursor.go_to(&rest);
     Some(Num::of_size(negative, size).ok())
 }

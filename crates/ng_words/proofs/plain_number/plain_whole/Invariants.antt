@@ -1,6 +1,6 @@
 use Rattle.std.proofs.Common.{◌≡◌, ◌≤◌, false, cond}
 use Rattle.ng_words.specs.Scan.{front_digits, after_digits, whole_after, is_empty}
-use Rattle.ng_words.proofs.plain_number.whole_together.Given as goal
+use Rattle.ng_words.proofs.plain_number.plain_whole.Given as goal
 
 abbrev pub invariant-loop : goal.invariant-loop
 invariant-loop l =

@@ -2,7 +2,7 @@ use Rattle.std.proofs.Common.{arith, rules, ℕ, suc, ◌+◌, ◌-◌, ◌*◌,
 use Rattle.std.proofs.lemmas.Bool.Decides.{nat_tests}
 use Rattle.std.proofs.Math.Nat.{pow-suc, mul-div_cancel, mul-le-mul_right}
 use Rattle.ng_words.specs.Scan.{fraction_from, front_digits}
-use Rattle.ng_words.proofs.plain_number.fraction_together.Goals as goal
+use Rattle.ng_words.proofs.plain_number.plain_fraction.Goals as goal
 
 -- the digit that is worth 10 ^ suc k ten-millionths goes over to the sum
 record DigitAdded (k sum digit unit total : ℕ) (others : List ℕ) : Type 0 where
@@ -29,11 +29,11 @@ loop-preserved c =
     let total = fraction_from 1000000 (front_digits c.args.digits.now) in
     let next : 6 - c.loop.counter ≡ suc k = omega (arith, c.loop-test.true) in
     let small : b - 48 ≤ 9 = grind (arith, nat_tests, c.in-Some.ensures) in
-    let front : front_digits c.loop.digits ≡ b ∷ front_digits c.next_together.new.self = search rules in
+    let front : front_digits c.loop.digits ≡ b ∷ front_digits c.next_plain.new.self = search rules in
     let value = subst (λ (l : List ℕ). c.loop.sum * 10 + fraction_from (10 ^ (6 - c.loop.counter)) l ≡ total) front c.loop.invariant.value in
-    let added = digit_added k c.loop.sum b c.loop.unit total (front_digits c.next_together.new.self) small
+    let added = digit_added k c.loop.sum b c.loop.unit total (front_digits c.next_plain.new.self) small
     (c.loop.invariant.unit ∙ ap (λ n. 10 ^ n / 10) next)
     (subst (λ n. c.loop.sum + 10 ^ n ≤ 1000000) next c.loop.invariant.bound)
-    (subst (λ n. c.loop.sum * 10 + fraction_from (10 ^ n) (b ∷ front_digits c.next_together.new.self) ≡ total) next value)
+    (subst (λ n. c.loop.sum * 10 + fraction_from (10 ^ n) (b ∷ front_digits c.next_plain.new.self) ≡ total) next value)
     in
     record { rest = search rules; value = added.value; unit = added.unit_after; bound = added.bound; none = search rules }

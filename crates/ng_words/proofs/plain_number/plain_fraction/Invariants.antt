@@ -1,6 +1,6 @@
 use Rattle.std.proofs.Common.{◌≡◌, ◌+◌, ◌-◌, ◌*◌, ◌/◌, ◌^◌, ◌≤◌, false, cond}
 use Rattle.ng_words.specs.Scan.{fraction_from, front_digits, after_digits, is_empty}
-use Rattle.ng_words.proofs.plain_number.fraction_together.Given as goal
+use Rattle.ng_words.proofs.plain_number.plain_fraction.Given as goal
 
 -- the next digit is worth 10 ^ (6 - counter) ten-millionths
 abbrev pub invariant-loop : goal.invariant-loop
