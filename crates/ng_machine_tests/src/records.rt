@@ -38,21 +38,24 @@ fn first_part(changes: i64) -> [u8; 512] {
     sector
 }
 
-/// A later part. Change n of the record sets a parameter to n + 1 millionths: the first to the last in order, and again
-/// from the first.
+/// Puts change n of the record at this byte. It sets a parameter to n + 1 millionths: the first to the last in order,
+/// and again from the first.
+fn put_change(sector: &mut [u8; 512], at: usize, change: i64) {
+    put(sector, at, 2, change.rem_euclid(5_399).saturating_add(1));
+    put(sector, at.saturating_add(2), 8, change.saturating_add(1));
+}
+
+/// A later part, with up to 48 changes.
 fn changes_part(part: i64, changes: i64) -> [u8; 512] {
     let mut sector = part_of(part, changes);
-    let first = part.saturating_sub(1).saturating_mul(48);
-    for (k, change) in (first..changes.min(first.saturating_add(48))).enumerate() {
-        let at = k.saturating_mul(10).saturating_add(32);
-        let number = change.rem_euclid(5_399).saturating_add(1);
-        put(&mut sector, at, 2, number);
-        put(
-            &mut sector,
-            at.saturating_add(2),
-            8,
-            change.saturating_add(1),
-        );
+    let mut change = part.saturating_sub(1).saturating_mul(48);
+    let mut at = 32usize;
+    for _ in 0..48 {
+        if change < changes {
+            put_change(&mut sector, at, change);
+        }
+        change = change.saturating_add(1);
+        at = at.saturating_add(10);
     }
     sector
 }
@@ -186,19 +189,31 @@ fn entered(
     }
 }
 
-/// How many parameters an entry changes, and how many calls power on and the entry make: 89 writes and 3 syncs, then a
-/// write for each part and a sync.
-const WRITTEN: &[(i64, usize)] = &[(0, 94), (48, 95), (96, 96), (97, 97), (5_399, 207)];
+/// The format, how many parameters an entry changes, and how many calls power on and the entry make: 89 writes and 3
+/// syncs, over format 1 176 and 5, then a write for each part and a sync.
+const WRITTEN: &[(i64, i64, usize)] = &[
+    (2, 0, 94),
+    (2, 48, 95),
+    (2, 96, 96),
+    (2, 97, 97),
+    (2, 5_399, 207),
+    (1, 0, 183),
+    (1, 49, 185),
+];
 
 #[test]
 fn an_entry_may_change_each_parameter(rt: HostRuntime) -> Result<(), Fail> {
-    for (changes, calls) in WRITTEN {
-        let rig = fresh(rt.alloc(), 2)?;
+    for (format, changes, calls) in WRITTEN {
+        let rig = fresh(rt.alloc(), *format)?;
         let before = rig.calls();
         let rig = entered(rt.alloc(), rig, *changes)?;
-        assert_eq!(rt; rig.calls(), before.saturating_add(*calls), "{changes}");
+        assert_eq!(rt;
+            rig.calls(),
+            before.saturating_add(*calls),
+            "{format} {changes}"
+        );
         let found = found(rt.alloc(), rig, *changes);
-        assert_eq!(rt; found, (Ok(1), None), "{changes}");
+        assert_eq!(rt; found, (Ok(1), None), "{format} {changes}");
     }
     Ok(())
 }
