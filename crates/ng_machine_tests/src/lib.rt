@@ -6,10 +6,20 @@
 #![tactic(auto)]
 
 #[cfg(test)]
+mod counting;
+#[cfg(test)]
 mod device;
 #[cfg(test)]
 mod formatting;
 #[cfg(test)]
+mod journal;
+#[cfg(test)]
+mod migration;
+#[cfg(test)]
+mod parts;
+#[cfg(test)]
 mod records;
+#[cfg(test)]
+mod replacing;
 #[cfg(test)]
 mod sectors;

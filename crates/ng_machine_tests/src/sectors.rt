@@ -40,9 +40,20 @@ pub fn sector_with(fields: &[(usize, usize, i64)]) -> [u8; 512] {
     sector
 }
 
-/// The sector of a header of this format with this epoch, without a program.
+/// The sector of a header of this format with this epoch, program area and length.
+pub fn header_of(format: i64, epoch: i64, area: i64, length: i64) -> [u8; 512] {
+    sector_with(&[
+        (0, 8, MARK),
+        (8, 4, format),
+        (16, 8, epoch),
+        (24, 8, area),
+        (32, 8, length),
+    ])
+}
+
+/// The same without a program.
 pub fn header(format: i64, epoch: i64) -> [u8; 512] {
-    sector_with(&[(0, 8, MARK), (8, 4, format), (16, 8, epoch)])
+    header_of(format, epoch, 0, 0)
 }
 
 /// What a sector reads as; all 255 if it can't be read.
