@@ -24,15 +24,14 @@ bool pace_is_full(const struct pace *pace) {
     return pace->known - pace->first >= PACE_ROOM;
 }
 
-/* The square at which pulses of so many microseconds come at a rate of so many percent. */
-static uint64_t own_square(uint64_t us, uint64_t percent) {
+uint64_t pace_own_square(uint64_t us, uint64_t percent) {
     uint64_t rate = most_of(PULSES_US * percent / most_of(us, 1), 1);
     return rate * rate;
 }
 
 static void push_pulse(struct pace *pace, const struct line *line) {
     struct pace_line *known = pace_at(pace, pace->known);
-    uint64_t own = own_square(line->us, pace->limits.most_percent);
+    uint64_t own = pace_own_square(line->us, pace->limits.most_percent);
     path_turn(pace, line->step);
     known->us = line->us;
     known->full = least_of(own, pace->before);
@@ -70,7 +69,7 @@ uint64_t pace_wanted(const struct pace *pace, unsigned percent) {
     for (uint64_t at = pace->first; at < end; at++) {
         const struct pace_line *line = &pace->lines[at % PACE_ROOM];
         if (line->full != 0) {
-            wanted = least_of(wanted, own_square(line->us, percent));
+            wanted = least_of(wanted, pace_own_square(line->us, percent));
         }
     }
     return wanted;

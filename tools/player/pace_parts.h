@@ -50,6 +50,9 @@ static inline struct pace_line *pace_at(struct pace *pace, uint64_t index) {
     return &pace->lines[index % PACE_ROOM];
 }
 
+/* pace.c: the square at which pulses of so many microseconds come at a rate of so many percent. */
+uint64_t pace_own_square(uint64_t us, uint64_t percent);
+
 /* pace_chord.c: the open chord. */
 void chord_open(struct pace_chord *chord, bool has_corner);
 

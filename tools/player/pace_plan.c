@@ -80,6 +80,11 @@ static uint64_t least_ns_of(const struct pace *pace, const struct pace_line *lin
     return plus(times(line->us / percent, 100000), over_up(line->us % percent * 100000, percent));
 }
 
+/* Whether a line is passed at the rate of its own time. One between slower lines keeps their rate, and isn't. */
+static bool is_at_own_rate(const struct pace *pace, const struct pace_line *line, uint64_t from, uint64_t to) {
+    return from == to && to == (line->full != 0 ? pace_own_square(line->us, pace->limits.most_percent) : 0);
+}
+
 bool pace_next(struct pace *pace, uint64_t wanted, uint64_t *ns) {
     if (pace->first == pace->final || (pace->square == 0 && wanted == 0)) {
         return false;
@@ -96,7 +101,7 @@ bool pace_next(struct pace *pace, uint64_t wanted, uint64_t *ns) {
     uint64_t root_from = from == pace->reached ? pace->root : root_near(from, pace->root);
     uint64_t root_to = to == from ? root_from : root_near(to, root_from);
     uint64_t least_ns = least_ns_of(pace, line);
-    *ns = from == to && to == line->full ? least_ns : time_at(least_ns, root_from + root_to);
+    *ns = is_at_own_rate(pace, line, from, to) ? least_ns : time_at(least_ns, root_from + root_to);
     pace->square = wanted == 0 && to <= start_square(pace, line) ? 0 : to;
     pace->reached = to;
     pace->root = root_to;

@@ -90,6 +90,27 @@ class OfStreams(unittest.TestCase):
         before = math.sqrt(2 * 0.5 / 200_000)  # a motor goes half a step before its first pulse
         self.assertAlmostEqual(sum(times[:1000]) / 1e9, 0.1 - before, delta=0.0002)
 
+    def test_between_slower(self) -> None:
+        """A quick pulse between slow ones keeps their rate: 10,000 pulses a second of 100 us and 20 us by turns."""
+        limits, lines = Limits((160_000,) * 3), [f"P 1 0 0 {us}" for us in (100, 20) * 4000]
+        events = list(metered(lines, 2000))
+        times = paced_in_c(limits, events)
+        self.assertEqual(paced(limits, events), times)
+        self.assertEqual(min(map(int, times)), 100_000)
+        self.assertLess(excess(timed(lines, map(int, times)), limits.accel), MOST_EXCESS)
+
+    def test_periods_by_chance(self) -> None:
+        """Motors can follow along a straight line whose pulses have any periods by turns."""
+        for seed in range(40):
+            chance = random.Random(seed)
+            periods = chance.sample((10, 20, 33, 50, 100, 101, 400), chance.randint(2, 4))
+            us = periods * 1500
+            lines = [line.rpartition(" ")[0] + f" {us[k]}" for k, line in enumerate(straight(chance, len(us), 1))]
+            limits = Limits((chance.choice((20_000, 160_000, 1_000_000)),) * 3)
+            with self.subTest(seed=seed, periods=periods):
+                times = list(map(int, paced_in_c(limits, metered(lines, 2000))))
+                self.assertLess(excess(timed(lines, times), limits.accel), MOST_EXCESS)
+
     def test_rate(self) -> None:
         """An axis of at most 25 mm/s takes 100 / 25 s and 25 / 500 s."""
         limits = Limits(FINE_LIMITS.accel, (10_000, 0, 0))

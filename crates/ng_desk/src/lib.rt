@@ -15,8 +15,6 @@ mod book;
 mod call;
 mod comparing;
 mod desk;
-#[cfg(test)]
-mod disagreeing;
 mod moments;
 mod origin;
 mod seat;

@@ -1,6 +1,5 @@
 //! Devices in memory: what a loss of power leaves of their writes.
-use crate::images::{sector_of, store};
-use crate::journal::formatting::fill;
+use crate::sectors::{fill, sector_of, store};
 use linked_list_allocator::LocalHeap;
 use ng_canon::{AxisStep, Item, Outputs, Pulse};
 use ng_rig::{FailRig, FuseRig, MemoryRig, Rig};

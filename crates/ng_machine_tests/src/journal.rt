@@ -1,42 +1,25 @@
-//! The journal over devices in memory: what it finds, writes and refuses.
-ghost use Rattle.std.specs.Prelude.{◌≡◌, ◌≤◌, ◌+◌, false, length, IsSome, IfSome};
+//! The journal over devices in memory: how often it calls the device, and what a call that fails or is the last before a
+//! cut leaves.
+ghost use Rattle.std.specs.Prelude.{◌≡◌, ◌≤◌, ◌+◌, false, IsSome, IfSome};
 ghost use Rattle.ng_layout.specs.Storable.{IsStorableHalf, IsStorable};
 ghost use Rattle.ng_offsets.specs.Tools.{AreTools, IsOneSlotFrom, IsToolLength};
 
-use crate::images::{FRESH, MARK, powered, put, sector_of, sector_with, store};
+use crate::counting::Counting;
 use crate::parts::part_with;
-use linked_list_allocator::LocalHeap;
+use crate::sectors::{FRESH, header_of, put, sector_of, sector_with, store};
 use ng_canon::Item;
 use ng_journal::{Journal, format, recover};
-use ng_layout::{Format, Half, Header, Opened, Source, Stored, text_from};
-use ng_num::{Fault, Len, Num, Point};
+use ng_layout::{Half, Opened, Source, Stored, text_from};
+use ng_num::{Fault, Len, Num};
 use ng_offsets::{SLOTS, SlotChange, Tools};
 use ng_params::Index;
 use ng_rig::{FailRig, MemoryRig, Rig};
 use std::alloc::{AllocError, Allocator, Global};
 use std::test::Fail;
 
-pub mod areas;
-pub mod counting;
-pub mod formatting;
-mod replacing;
-
-use counting::Counting;
-
 /// The sector of a header of format 2 with this epoch, program area and length.
 pub fn header(epoch: i64, area: i64, length: i64) -> [u8; 512] {
     header_of(2, epoch, area, length)
-}
-
-/// The sector of a header of this format.
-pub fn header_of(format: i64, epoch: i64, area: i64, length: i64) -> [u8; 512] {
-    sector_with(&[
-        (0, 8, MARK),
-        (8, 4, format),
-        (16, 8, epoch),
-        (24, 8, area),
-        (32, 8, length),
-    ])
 }
 
 /// Writes what a device holds after a format: the fresh state as epoch 1, in area 1, no program and no slots.
@@ -48,92 +31,10 @@ fn write_formatted<R: Rig>(rig: &mut R) -> bool {
         && rig.sync().is_ok()
 }
 
-/// The sectors of a device, whether it is formatted, and the bytes of the heap; what power on returns, and how many
-/// calls it makes. A table of parameters has 43,192 bytes, and power on needs two.
-const DEVICES: &[(usize, bool, usize, Option<Fault>, usize)] = &[
-    (0, false, 100_000, Some(Fault::NotFormatted), 0),
-    (1, false, 100_000, Some(Fault::NotFormatted), 0),
-    (1_709, false, 100_000, Some(Fault::NotFormatted), 0),
-    (1_709, true, 100_000, Some(Fault::NotFormatted), 0),
-    (1_709, true, 1_000, Some(Fault::NotFormatted), 0),
-    (1_710, false, 100_000, Some(Fault::NotFormatted), 1),
-    (1_710, true, 1_000, Some(Fault::OutOfMemory), 0),
-    (1_710, true, 50_000, Some(Fault::OutOfMemory), 0),
-    (1_710, true, 100_000, None, 92),
-    (5_000, false, 100_000, Some(Fault::NotFormatted), 1),
-    (5_000, true, 100_000, None, 92),
-    (5_806, false, 100_000, Some(Fault::NotFormatted), 1),
-    (5_806, true, 50_000, Some(Fault::OutOfMemory), 0),
-    (5_806, true, 100_000, None, 92),
-];
-
-/// A device with this many sectors, formatted or not.
-pub fn device<A: Allocator + Copy + Drop>(
-    alloc: A,
-    sectors: usize,
-    is_laid: bool,
-) -> Result<MemoryRig<A>, Fail> {
-    let mut rig = MemoryRig::new(alloc, sectors)?;
-    if !is_laid || write_formatted(&mut rig) {
-        Ok(rig)
-    } else {
-        Err(Fail::from("a device isn't laid"))
-    }
-}
-
 /// A formatted device of the least size.
-pub fn formatted<A: Allocator + Copy + Drop>(alloc: A) -> Result<MemoryRig<A>, Fail> {
-    device(alloc, 1_710, true)
-}
-
-/// What power on returns with this many bytes of heap, how many calls it makes, and the device's sectors and failures.
-fn power_on(
-    alloc: Global,
-    rig: MemoryRig<Global>,
-    heap: usize,
-) -> Result<(Option<Fault>, usize, usize, u64), Fail> {
-    let heap = LocalHeap::new(alloc, heap)?;
-    let before = rig.calls();
-    let (fault, rig) = powered(&heap, rig);
-    let calls = rig.calls().wrapping_sub(before);
-    Ok((fault, calls, rig.size(), rig.failures()))
-}
-
-#[test]
-fn devices_that_power_on_refuses(rt: HostRuntime) -> Result<(), Fail> {
-    for (sectors, is_laid, heap, wanted, calls) in DEVICES {
-        let rig = device(rt.alloc(), *sectors, *is_laid)?;
-        let found = power_on(rt.alloc(), rig, *heap)?;
-        assert_eq!(rt;
-            found,
-            (*wanted, *calls, *sectors, 0),
-            "{sectors} {is_laid} {heap}"
-        );
-    }
-    Ok(())
-}
-
-/// Writes the state of a fresh controller with this many entries to this area.
-pub fn write_state<R: Rig>(rig: &mut R, first: usize, entries: i64) -> bool {
-    let mut state = sector_with(&FRESH);
-    put(&mut state, 0, 8, entries);
-    store(rig, first, &state)
-}
-
-/// The format and the epoch of a header; epoch 0 means that there is none.
-type Head = (i64, i64);
-
-/// A device with these headers. Its state has 7 entries in area 0 and 8 in area 1.
-fn two_headers<A: Allocator + Copy + Drop>(
-    alloc: A,
-    even: Head,
-    odd: Head,
-) -> Result<MemoryRig<A>, Fail> {
+fn formatted<A: Allocator + Copy + Drop>(alloc: A) -> Result<MemoryRig<A>, Fail> {
     let mut rig = MemoryRig::new(alloc, 1_710)?;
-    let are_states = write_state(&mut rig, 2, 7) && write_state(&mut rig, 88, 8);
-    let is_even = even.1 == 0 || store(&mut rig, 0, &header_of(even.0, even.1, 0, 0));
-    let is_odd = odd.1 == 0 || store(&mut rig, 1, &header_of(odd.0, odd.1, 0, 0));
-    if are_states && is_even && is_odd {
+    if write_formatted(&mut rig) {
         Ok(rig)
     } else {
         Err(Fail::from("a device isn't laid"))
@@ -143,73 +44,6 @@ fn two_headers<A: Allocator + Copy + Drop>(
 /// The sector of a header with this epoch.
 fn header_sector(epoch: i64) -> usize {
     if epoch % 2 == 0 { 0 } else { 1 }
-}
-
-/// How many entries power on finds, and whether it writes a header of this epoch.
-pub fn entries_found<A: Allocator + Copy + Drop, R: Rig + Drop>(
-    alloc: A,
-    rig: R,
-    next: i64,
-) -> Result<(u64, bool), Fault> {
-    match recover(alloc, rig, &Tools::new()) {
-        Ok((journal, stored)) => {
-            let mut rig = journal.into_rig();
-            let written = sector_of(&mut rig, header_sector(next));
-            Ok((stored.entries, written == header(next, 0, 0)))
-        }
-        Err((fault, _)) => Err(fault),
-    }
-}
-
-/// The two headers; the entries of the area in force (7 in area 0, 8 in area 1), or the fault if there is none; and the
-/// epoch in which power on ends: the next one, or over format 1 the one after that.
-const HEADERS: &[(Head, Head, Result<u64, Fault>, i64)] = &[
-    ((2, 0), (2, 0), Err(Fault::NotFormatted), 0),
-    ((2, 2), (2, 0), Ok(7), 3),
-    ((2, 0), (2, 1), Ok(8), 2),
-    ((2, 2), (2, 1), Ok(7), 3),
-    ((2, 2), (2, 3), Ok(8), 4),
-    ((2, 256), (2, 255), Ok(7), 257),
-    ((2, 256), (2, 257), Ok(8), 258),
-    ((2, LAST), (2, 1), Err(Fault::CountersUsed), 0),
-    ((2, LAST - 2), (2, LAST - 1), Ok(8), LAST),
-    // each header in the other's sector
-    ((2, 1), (2, 2), Err(Fault::NotFormatted), 0),
-    // past the limit, so the other one is used
-    ((2, LAST + 2), (2, 3), Ok(8), 4),
-    ((1, 2), (1, 0), Ok(7), 4),
-    ((1, 0), (1, 1), Ok(8), 3),
-    ((1, 2), (1, 3), Ok(8), 5),
-    // one of each format
-    ((1, 2), (2, 1), Ok(7), 4),
-    ((1, 2), (2, 3), Ok(8), 4),
-    ((2, 2), (1, 1), Ok(7), 3),
-    ((2, 2), (1, 3), Ok(8), 5),
-    ((1, LAST - 2), (2, 1), Ok(7), LAST),
-    ((1, LAST), (2, 1), Err(Fault::CountersUsed), 0),
-    ((2, LAST - 2), (1, LAST - 1), Err(Fault::CountersUsed), 0),
-    ((1, LAST - 2), (2, LAST - 1), Ok(8), LAST),
-    // no valid format, so the other one is used
-    ((3, 4), (2, 3), Ok(8), 4),
-    ((3, 4), (1, 3), Ok(8), 5),
-    ((0, 4), (3, 3), Err(Fault::NotFormatted), 0),
-];
-
-/// The greatest epoch.
-const LAST: i64 = 1_000_000_000_000;
-
-#[test]
-fn the_header_of_the_greater_epoch_is_in_force(rt: HostRuntime) -> Result<(), Fail> {
-    for (even, odd, wanted, next) in HEADERS {
-        let rig = two_headers(rt.alloc(), *even, *odd)?;
-        let found = entries_found(rt.alloc(), rig, *next);
-        assert_eq!(rt;
-            found,
-            wanted.map(|entries| (entries, true)),
-            "{even:?} {odd:?}"
-        );
-    }
-    Ok(())
 }
 
 /// An operation on a journal after it was recovered.
@@ -230,7 +64,7 @@ enum Operation {
 const PROGRAM: &[u8; 13] = b"G0 X0.002\nM2\n";
 
 /// The Mdi block `G0X5` with its first segment open.
-pub fn open_half() -> Half
+fn open_half() -> Half
     ensures waits { IsStorableHalf result }
     ensures is_open { IsSome result.opened }
 {
@@ -464,35 +298,6 @@ fn writes_and_syncs_of_each_operation(rt: HostRuntime) -> Result<(), Fail> {
     Ok(())
 }
 
-/// The header of epoch 2, program area 1, length 13.
-fn worked_header(format: Format, byte: u8) -> (Header, [u8; 512]) {
-    let header = Header {
-        format,
-        epoch: 2,
-        area: 1,
-        length: 13,
-    };
-    let mut sector = [0; 512];
-    sector[..8].copy_from_slice(b"RS274NGC");
-    sector[8] = byte;
-    sector[16] = 2;
-    sector[24] = 1;
-    sector[32] = 13;
-    (header, sector)
-}
-
-#[test]
-fn a_header_is_written_and_read(rt: HostRuntime) {
-    for (format, byte) in [(Format::One, 1), (Format::Two, 2)] {
-        let (worked, wanted) = worked_header(format, byte);
-        let sector = worked.write();
-        assert!(rt; sector == wanted, "{byte}");
-        assert_eq!(rt; Header::read(false, 0, &sector), Some(worked), "{byte}");
-        assert_eq!(rt; Header::read(true, 0, &sector), Some(worked), "{byte}");
-        assert_eq!(rt; Header::read(false, 1, &sector), None, "{byte}");
-    }
-}
-
 /// What an operation returns, whether the journal is broken then, and the failures.
 type Done = (Result<(), Fault>, bool, u64);
 
@@ -601,6 +406,14 @@ fn cut<A: Allocator + Copy + Drop>(
     Ok([standing(alloc, none), standing(alloc, all)])
 }
 
+/// Powers on with no tools in the settings. Returns the fault, if any, and the device.
+pub fn powered<A: Allocator + Copy + Drop, R: Rig>(alloc: A, rig: R) -> (Option<Fault>, R) {
+    match recover(alloc, rig, &Tools::new()) {
+        Ok((journal, _)) => (None, journal.into_rig()),
+        Err((fault, rig)) => (Some(fault), rig),
+    }
+}
+
 /// What the device stands for after a cut after each call of an entry that changes a parameter: two writes and a sync.
 #[test]
 fn a_cut_leaves_the_old_or_the_new(rt: HostRuntime) -> Result<(), Fail> {
@@ -616,234 +429,6 @@ fn a_cut_leaves_the_old_or_the_new(rt: HostRuntime) -> Result<(), Fail> {
         };
         let found = cut(rt.alloc(), &rig, before.saturating_add(n))?;
         assert_eq!(rt; found, wanted, "{n}");
-    }
-    Ok(())
-}
-
-const USED_UP: Result<(), Fault> = Err(Fault::CountersUsed);
-
-/// The epoch in force before power on, an operation and its entry; what it returns, and how many calls there are. If
-/// the epoch or the entry count is used up, the device isn't called, and the journal isn't broken. A record doesn't use
-/// an epoch while the log has room.
-const LIMITS: &[(i64, Operation, u64, Result<(), Fault>, usize)] = &[
-    (
-        999_999_999_997,
-        Operation::Commit,
-        1_000_000_000_000,
-        Ok(()),
-        3,
-    ),
-    (
-        999_999_999_997,
-        Operation::Commit,
-        1_000_000_000_001,
-        USED_UP,
-        0,
-    ),
-    (
-        999_999_999_997,
-        Operation::Load,
-        1_000_000_000_000,
-        Ok(()),
-        93,
-    ),
-    (
-        999_999_999_997,
-        Operation::Load,
-        1_000_000_000_001,
-        USED_UP,
-        0,
-    ),
-    (999_999_999_997, Operation::Open, 0, Ok(()), 2),
-    (999_999_999_999, Operation::Commit, 1, Ok(()), 3),
-    (
-        999_999_999_999,
-        Operation::Commit,
-        1_000_000_000_001,
-        USED_UP,
-        0,
-    ),
-    (
-        999_999_999_999,
-        Operation::Tool,
-        1_000_000_000_000,
-        Ok(()),
-        2,
-    ),
-    (
-        999_999_999_999,
-        Operation::Tool,
-        1_000_000_000_001,
-        USED_UP,
-        0,
-    ),
-    (999_999_999_999, Operation::Load, 1, USED_UP, 0),
-    (999_999_999_999, Operation::Open, 1, Ok(()), 2),
-    (999_999_999_999, Operation::HandOut, 1, Ok(()), 1),
-];
-
-/// What an operation whose entry has this number returns if this epoch is in force, whether the journal is broken then,
-/// and how many calls the operation makes.
-fn limited<A: Allocator + Copy + Drop>(
-    alloc: A,
-    epoch: i64,
-    operation: Operation,
-    entries: u64,
-) -> Result<(Result<(), Fault>, bool, usize), Fail> {
-    let mut rig = formatted(alloc)?;
-    if !store(&mut rig, 1, &header(epoch, 0, 0)) {
-        return Err(Fail::from("a header isn't laid"));
-    }
-    let before = rig.calls().saturating_add(92);
-    let (done, is_broken, rig) = after(alloc, rig, operation, entries);
-    Ok((done, is_broken, rig.calls().wrapping_sub(before)))
-}
-
-#[test]
-fn calls_past_a_limit(rt: HostRuntime) -> Result<(), Fail> {
-    for (epoch, operation, entries, wanted, calls) in LIMITS {
-        let found = limited(rt.alloc(), *epoch, *operation, *entries)?;
-        assert_eq!(rt;
-            found,
-            (*wanted, false, *calls),
-            "{epoch} {operation:?} {entries}"
-        );
-    }
-    Ok(())
-}
-
-/// A line as it is read: how many bytes it has, the last of them (0 if there is none), and where the next line begins.
-type Read = Result<Option<(usize, u8, u64)>, Fault>;
-
-/// A number of bytes `x` in one line as a program: how many of them are read, the last of them, and where the next line
-/// begins. More than 131,072 are refused.
-const LENGTHS: &[(usize, Read)] = &[
-    (0, Ok(None)),
-    (131_072, Ok(Some((257, b'x', 131_072)))),
-    (131_073, Err(Fault::ProgramTooLong)),
-];
-
-/// Loads this many bytes `x` and reads the first line.
-fn line_of_length(alloc: Global, length: usize) -> Result<Read, Fail> {
-    let mut text = Vec::new(alloc);
-    text.resize(length, b'x')?;
-    Ok(line_of(alloc, formatted(alloc)?, &text, 0))
-}
-
-#[test]
-fn programs_up_to_a_limit(rt: HostRuntime) -> Result<(), Fail> {
-    for (length, wanted) in LENGTHS {
-        assert_eq!(rt; line_of_length(rt.alloc(), *length)?, *wanted, "{length}");
-    }
-    Ok(())
-}
-
-/// Loads a program and reads its line at a place.
-fn line_of<A: Allocator + Copy + Drop, R: Rig + Drop>(
-    alloc: A,
-    rig: R,
-    text: &[u8],
-    place: u64,
-) -> Read {
-    match recover(alloc, rig, &Tools::new()) {
-        Ok((mut journal, mut stored)) => {
-            let line = line_after_load(&mut journal, &mut stored, text, place);
-            drop(journal.into_rig());
-            line
-        }
-        Err((fault, rig)) => {
-            drop(rig);
-            Err(fault)
-        }
-    }
-}
-
-/// Makes this the program, as entry 1, and reads its line at a place; none past its end.
-fn line_after_load<A: Allocator + Copy + Drop, R: Rig>(
-    journal: &mut Journal<R, A>,
-    stored: &mut Stored<A>,
-    text: &[u8],
-    place: u64,
-) -> Read
-    requires whole { journal.old.broken ≡ false }
-    requires storable { IsStorable stored.old }
-    requires same { stored.old ≡ journal.old.saved }
-{
-    stored.entries = 1;
-    stored.place = 0;
-    stored.length = text.len() as u64;
-    journal.load_program(text, stored)?;
-    if place > stored.length {
-        return Ok(None);
-    }
-    let line = journal.program_line(place)?;
-    Ok(line.map(|line| (line.text.len(), last_of(line.text.as_slice()), line.next)))
-}
-
-fn last_of(text: &[u8]) -> u8 {
-    text.last().copied().unwrap_or(0)
-}
-
-/// Places of newlines and carriage returns.
-const ENDS: &[(usize, u8)] = &[
-    (9, b'\n'),
-    (11, b'\r'),
-    (12, b'\n'),
-    (13, b'\n'),
-    (14, b'\r'),
-    (15, b'\n'),
-    (272, b'\r'),
-    (273, b'\n'),
-    (530, b'\r'),
-    (532, b'\n'),
-    (1_023, b'\r'),
-    (1_024, b'\n'),
-    (1_099, b'\r'),
-];
-
-/// A program whose bytes are all `x` except for these ends.
-fn program() -> [u8; 1_100] {
-    let mut text = [b'x'; 1_100];
-    for (place, end) in ENDS {
-        if let Some(byte) = text.get_mut(*place) {
-            *byte = *end;
-        }
-    }
-    text
-}
-
-/// Its lines, by the places at which they begin: how many bytes they have, the last of them, and where the next line
-/// begins.
-const LINES: &[(u64, Option<(usize, u8, u64)>)] = &[
-    (0, Some((9, b'x', 10))),
-    (4, Some((5, b'x', 10))),
-    (9, Some((0, 0, 10))),
-    (10, Some((1, b'x', 13))),
-    (13, Some((0, 0, 14))),
-    (14, Some((0, 0, 16))),
-    // 256 bytes, then the line's end
-    (16, Some((256, b'x', 274))),
-    // 256 bytes, then a carriage return within the line
-    (274, Some((257, b'\r', 533))),
-    (533, Some((257, b'x', 1_025))),
-    (1_000, Some((23, b'x', 1_025))),
-    (1_023, Some((0, 0, 1_025))),
-    (1_024, Some((0, 0, 1_025))),
-    // a carriage return at the program's end is part of the line
-    (1_025, Some((75, b'\r', 1_100))),
-    (1_100, None),
-];
-
-#[test]
-fn lines_of_a_program(rt: HostRuntime) -> Result<(), Fail> {
-    let text = program();
-    for (place, wanted) in LINES {
-        let rig = formatted(rt.alloc())?;
-        assert_eq!(rt;
-            line_of(rt.alloc(), rig, &text, *place),
-            Ok(*wanted),
-            "{place}"
-        );
     }
     Ok(())
 }

@@ -1,21 +1,25 @@
-//! Tests of what moves a machine and keeps its state, through public functions: stepping, devices, the journal. No
-//! program depends on this crate.
+//! Tests of devices in memory and of what is written to them, through public functions, for what no case of `ngc_cases`
+//! can show. No program depends on this crate.
 //!
-//! Expected values are worked out from the formats and the language, by hand or by other means, never copied from what
-//! the crates return.
+//! Expected values are worked out from docs/DEVICE.md, by hand or by other means, never copied from what the crates
+//! return.
 #![tactic(auto)]
 
 #[cfg(test)]
+mod counting;
+#[cfg(test)]
 mod device;
 #[cfg(test)]
-mod images;
+mod formatting;
 #[cfg(test)]
 mod journal;
-#[cfg(test)]
-mod log;
 #[cfg(test)]
 mod migration;
 #[cfg(test)]
 mod parts;
 #[cfg(test)]
-mod stepping;
+mod records;
+#[cfg(test)]
+mod replacing;
+#[cfg(test)]
+mod sectors;

@@ -1,5 +1,5 @@
 //! Parts of records, made by hand.
-use crate::images::{put, sector_with};
+use crate::sectors::{put, sector_with};
 
 /// The label of a part: its epoch, the number of its record in the epoch, its own number in the record, and how many
 /// parts and how many changes the record has.

@@ -6,6 +6,7 @@ pub mod ExactLemmas
 pub mod FeedLemmas
 pub mod WaitingPulseLemmas
 pub mod FinalLimitLemmas
+pub mod IntervalLemmas
 pub mod MakingLemmas
 pub mod PathLemmas
 pub mod PathsLemmas

@@ -10,6 +10,7 @@ use Rattle.ng_pace.specs.Rest.{CanRest}
 use Rattle.ng_pace.specs.Stepping.{start_square}
 use Rattle.ng_pace.specs.Paced.{IsGiven, Waits, rest_of}
 use Rattle.ng_pace.specs.Stream.{Flow, items_of, items_waiting, all_items}
+use Rattle.ng_pace.proofs.IntervalLemmas.{own_or_no_sooner}
 use Rattle.ng_pace.specs.Run.{Event, put, end, ask, IsRun, items_put, IsPassed, IsPacedBeginning, AsksOnly}
 use Rattle.ng_pace.specs.Run.{IsGivenOut, lines_given, HoldsOnly, AreFalling, IsStopped}
 
@@ -25,6 +26,7 @@ passed_of : (old new : Motion) (wanted : ℕ) (given : Given) → IsGiven old ne
 passed_of old new wanted given g = record {
   least = g.least;
   time = g.time;
+  rates = own_or_no_sooner old.percent given.line given.from given.to given.ns g.time;
   goes_on = g.goes_on;
   starts = λ rest. (g.hasty.begins rest).holds.starts;
   within = g.within;

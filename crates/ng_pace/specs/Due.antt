@@ -28,3 +28,9 @@ own_rate percent us = max (2560000 * percent / max us 1) 1
 -- its square
 abbrev pub own_square : ℕ → ℕ → ℕ
 own_square percent us = own_rate percent us * own_rate percent us
+
+-- the square at which an item comes in its own time: a pulse's; 0 where everything stands still
+abbrev pub own_square_of : ℕ → Item → ℕ
+own_square_of percent (Pulse pulse) = own_square percent pulse.period_us
+own_square_of percent (Dwell us) = 0
+own_square_of percent (Switch outputs) = 0

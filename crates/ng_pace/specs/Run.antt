@@ -5,7 +5,7 @@ use Rattle.ng_pace.specs.declared.stepping.Given.{Given}
 use Rattle.ng_pace.specs.Due.{least_ns}
 use Rattle.ng_pace.specs.Rest.{IsRamp}
 use Rattle.ng_pace.specs.Stepping.{start_square}
-use Rattle.ng_pace.specs.Interval.{IsTimeOf}
+use Rattle.ng_pace.specs.Interval.{IsTimeOf, KeepsOwnRate, IsNoSooner}
 use Rattle.ng_pace.specs.Paced.{Waits}
 use Rattle.ng_pace.specs.Stream.{Flow, all_items}
 use Rattle.ng_pace.specs.Calls.{IsPut, IsEnded, IsFlowGiven}
@@ -49,6 +49,8 @@ pub record IsPassed (start percent square : ℕ) (given : Given) (left : ℕ) : 
   -- never sooner than in its own time, and in the time of its squares
   pub least : least_ns percent given.line.item ≤ given.ns
   pub time : IsTimeOf percent given.line given.from given.to given.ns
+  -- nor sooner than at its two rates: a line between slower ones has their time
+  pub rates : KeepsOwnRate percent given.line given.from given.to ⊎ IsNoSooner given.from given.to given.ns
   pub goes_on : 0 < square → given.from ≡ square
   pub starts : square ≡ 0 → given.from ≤ start_square given.line start
   pub within : given.from ≤ given.line.most

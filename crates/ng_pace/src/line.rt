@@ -1,6 +1,6 @@
 //! Lines, and their own times.
 ghost use Rattle.std.specs.Prelude.{◌≡◌, ◌+◌, ◌-◌, ◌*◌, ◌/◌, ◌^◌, min};
-ghost use Rattle.ng_pace.specs.Due.{IsPercent, least_ns, own_square};
+ghost use Rattle.ng_pace.specs.Due.{IsPercent, least_ns, own_square, own_square_of};
 
 use ng_canon::Item;
 
@@ -51,4 +51,15 @@ pub(crate) fn own_square(percent: u64, us: u64) -> u64
 {
     let rate = (2_560_000 * percent / us.max(1)).max(1);
     rate * rate
+}
+
+/// The square at which an item comes in its own time; 0 where everything stands still.
+pub(crate) fn own_square_of(percent: u64, item: &Item) -> u64
+    requires { IsPercent percent }
+    ensures { result ≡ own_square_of percent item.now }
+{
+    match item {
+        Item::Pulse(pulse) => own_square(percent, pulse.period_us),
+        Item::Dwell { .. } | Item::Switch(_) => 0,
+    }
 }

@@ -3,10 +3,10 @@ ghost use Rattle.std.specs.Prelude.{ℕ, ◌≡◌, ◌≤◌, ◌<◌, ◌^◌,
 ghost use Rattle.ng_pace.specs.Planning.{most_now, FollowsWithin};
 ghost use Rattle.ng_pace.specs.Due.{IsPercent, least_ns};
 ghost use Rattle.ng_pace.specs.Stepping.{start_square};
-ghost use Rattle.ng_pace.specs.Interval.{IsRoot, time_at, is_at_full_rate, IsTimeOf};
+ghost use Rattle.ng_pace.specs.Interval.{IsRoot, time_at, is_at_own_rate, IsTimeOf};
 ghost use Rattle.ng_pace.specs.Paced.{rest_of};
 
-use crate::line::{Line, least_ns};
+use crate::line::{Line, least_ns, own_square_of};
 
 /// Two seconds in nanoseconds, times 2^8. Over the sum of the rates at its two ends it is the time of a line.
 const TWO_SECONDS: u64 = 512_000_000_000;
@@ -59,11 +59,12 @@ fn time_at(least_ns: u64, both: u64) -> u64
     ((TWO_SECONDS + both - 1) / both).max(least_ns)
 }
 
-/// Whether a line is passed at the rate of its own time.
-fn is_at_full_rate(line: &Line, from: u64, to: u64) -> bool
-    ensures { result ≡ is_at_full_rate line.now from to }
+/// Whether a line is passed at the rate of its own time. One between slower lines keeps their rate, and isn't.
+fn is_at_own_rate(percent: u64, line: &Line, from: u64, to: u64) -> bool
+    requires { IsPercent percent }
+    ensures { result ≡ is_at_own_rate percent line.now from to }
 {
-    from == to && to == line.full
+    from == to && to == own_square_of(percent, &line.item)
 }
 
 /// The time of a line whose square goes from one to another. Their roots are given. Its own time is at so many percent.
@@ -83,7 +84,7 @@ pub(crate) fn time_of(
     ensures least { least_ns percent line.now.item ≤ result }
 {
     let least = least_ns(percent, &line.item);
-    if is_at_full_rate(line, from, to) {
+    if is_at_own_rate(percent, line, from, to) {
         return least;
     }
     time_at(least, root_from + root_to)

@@ -1,12 +1,8 @@
 //! Whole programs, from bytes to text, with a reader, a writer, memory or a number of lines as the subject. The rest of
 //! what programs write is tested by the cases of `ngc_cases`.
 mod bad_input;
-mod blocks;
 mod cuts;
 mod memory;
-mod modal;
-mod offsets;
-mod resuming;
 mod streams;
 
 use ng_block::{Effect, Tools, execute};

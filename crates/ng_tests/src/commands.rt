@@ -1,6 +1,6 @@
-//! Canonical commands printed in little memory; the limits of axes and machines.
+//! Canonical commands printed in little memory.
 use linked_list_allocator::LocalHeap;
-use ng_canon::{ArcDirection, ArcFeed, Axis, Canon, CanonicalCommand, Feed, Geometry, Rate, print};
+use ng_canon::{ArcDirection, ArcFeed, Canon, CanonicalCommand, print};
 use ng_num::{Len, Point};
 use std::alloc::Allocator;
 use std::test::Fail;
@@ -55,49 +55,4 @@ fn refused_growth_leaves_the_text(rt: HostRuntime) -> Result<(), Fail> {
     }
     assert_eq!(rt; (refused, printed), (1, 1));
     Ok(())
-}
-
-/// The most nanometres of an axis on either side.
-const FAR: i64 = 10_000_000_000;
-
-/// An axis's step, its ends, and whether they are within the limits.
-const AXES: &[(u32, i64, i64, bool)] = &[
-    (10, 0, 0, true),
-    (1_000_000, -FAR, FAR, true),
-    (9, 0, 0, false),
-    (1_000_001, 0, 0, false),
-    (10, 1, 1, false),
-    (10, -1, -1, false),
-    (10, -FAR - 1, 0, false),
-    (10, 0, FAR + 1, false),
-];
-
-#[test]
-fn axes_have_limits(rt: HostRuntime) {
-    for (step, low, high, want) in AXES {
-        let axis = Axis::new(*step, nm(*low), nm(*high));
-        assert_eq!(rt; axis.is_some(), *want, "{step} {low} {high}");
-    }
-}
-
-/// A machine's traverse rate in nanometres a minute, its period in microseconds, and whether they are within the
-/// limits.
-const MACHINES: &[(i64, u32, bool)] = &[
-    (1, 1, true),
-    (100_000_000_000, 1_000_000, true),
-    (100_000_000_001, 1, false),
-    (1, 0, false),
-    (1, 1_000_001, false),
-];
-
-#[test]
-fn machines_have_limits(rt: HostRuntime) {
-    let standard = Geometry::standard();
-    for (traverse, period, want) in MACHINES {
-        let machine = match Rate::of(Feed::of(nm(*traverse))) {
-            Some(rate) => Geometry::new(standard.x, standard.y, standard.z, rate, *period),
-            None => None,
-        };
-        assert_eq!(rt; machine.is_some(), *want, "{traverse} {period}");
-    }
 }

@@ -27,9 +27,10 @@ fn put_row(device: &mut Vec<u8>, row: &str) -> Result<()> {
     if device.len() < end {
         device.resize(end, 0)?;
     }
-    let pairs = digits.as_bytes().chunks(2);
-    for (to, pair) in device.iter_mut().skip(from).zip(pairs) {
-        *to = byte_of(pair)?;
+    let behind = device.as_mut_slice().split_at_mut_checked(from);
+    let (_, to) = behind.context("past the end")?;
+    for (byte, pair) in to.iter_mut().zip(digits.as_bytes().chunks(2)) {
+        *byte = byte_of(pair)?;
     }
     Ok(())
 }
@@ -63,6 +64,9 @@ pub fn first_difference(alloc: Global, rows: &[u8], device: &[u8]) -> Result<Opt
     let (length, found) = (wanted.len(), device.len());
     if length != found {
         return Ok(Some(format!(in alloc; "there are {found} bytes, wanted were {length}")?));
+    }
+    if wanted.as_slice() == device {
+        return Ok(None);
     }
     first_other_byte(alloc, wanted.as_slice(), device)
 }

@@ -82,7 +82,7 @@ class Pace:
         self._planned = max(self._planned, self.first)
         percent = self.limits.most_percent if line.full else 100
         least_ns = capped(-(-line.us * 100_000 // percent))
-        if square == after == line.full:
+        if square == after == (_own_square(line.us, percent) if line.full else 0):  # between slower lines it has theirs
             return least_ns
         both = isqrt(square) + isqrt(after)
         return max(least_ns, -(-_TWO_SECONDS // both) if both else _STANDING_NS)

@@ -1,4 +1,4 @@
-use Rattle.std.proofs.Common.{rules, ◌≡◌, refl, Err, ◌∙◌, ◌+ℤ◌, ◌-ℤ◌}
+use Rattle.std.proofs.Common.{rules, ◌≡◌, refl, Err, ◌∙◌, ◌+ℤ◌, ◌-ℤ◌, arith}
 use Rattle.ng_cycles.proofs.RangeSumLemmas.{near_ok, near_err, far_alone, far_third}
 use Rattle.ng_cycles.proofs.heights.r_of.Goals as goal
 
@@ -25,3 +25,27 @@ returns-in_ok-add c =
 
 pub returns-else-is_incremental : goal.returns-else-is_incremental
 returns-else-is_incremental c = rw c.if-is_incremental.false (c.to_machine.ensures.value ∙ far_alone (c.args.word +ℤ c.args.shift))
+
+pub to_program-requires : goal.to_program-requires
+to_program-requires c = omega arith
+
+pub branch-current-requires : goal.branch-current-requires
+branch-current-requires c κs = search rules
+
+pub from_residual-requires : goal.from_residual-requires
+from_residual-requires c κs = search rules
+
+pub add-requires : goal.add-requires
+add-requires c = omega arith
+
+pub branch-add-requires : goal.branch-add-requires
+branch-add-requires c κs = search rules
+
+pub from_residual-requires-in_err-add : goal.from_residual-requires-in_err-add
+from_residual-requires-in_err-add c κs = search rules
+
+pub add-requires-then-is_incremental : goal.add-requires-then-is_incremental
+add-requires-then-is_incremental c = omega arith
+
+pub to_machine-requires : goal.to_machine-requires
+to_machine-requires c = omega arith

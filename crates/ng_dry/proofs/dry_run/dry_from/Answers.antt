@@ -1,4 +1,4 @@
-use Rattle.std.proofs.Common.{arith, [], ◌≡◌, ap, ◌<◌, ◌≤◌, ◌++◌, length-take, take, length}
+use Rattle.std.proofs.Common.{arith, [], ◌≡◌, ap, ◌<◌, ◌≤◌, ◌++◌, length-take, take, length, rules}
 use Rattle.ng_block.specs.Program.{TermsModel}
 use Rattle.ng_dry.specs.Dry.{output_from}
 use Rattle.ng_dry.specs.declared.ending.DryFault.TheVariants.{Memory}
@@ -74,3 +74,72 @@ loop-pass-init g c =
     let terms : TermsModel = record { block_delete = c.args.block_delete; tools = c.args.tools.now; geometry = c.args.geometry.now } in
     let first : c.in-Ok.run'.number ≡ 1 = ap (λ (p : DryRunModel). p.number) c.in-Ok.ensures in
     (([], Consumes-nil _, Goes-begun _ terms _ _ _ c.in-Ok.ensures c.new-2.ensures), rw c.new-2.ensures tt, omega (arith, first))
+
+pub new-requires : goal.new-requires
+new-requires g c κs = grind arith
+
+pub new-requires-2 : goal.new-requires-2
+new-requires-2 g c = omega arith
+
+pub slice_bounds-read-end : goal.slice_bounds-read-end
+slice_bounds-read-end g c = omega arith
+
+pub read-requires : goal.read-requires
+read-requires g c κs = grind arith
+
+pub break_off-requires : goal.break_off-requires
+break_off-requires g c κs = grind arith
+
+pub drop-splitter-requires : goal.drop-splitter-requires
+drop-splitter-requires g c κs = search rules
+
+pub drop-splitter-requires-in-Err-read : goal.drop-splitter-requires-in-Err-read
+drop-splitter-requires-in-Err-read g c κs = search rules
+
+pub close-requires-clause-partial : goal.close-requires-clause-partial
+close-requires-clause-partial g c = grind arith
+
+pub close-requires-clause-number : goal.close-requires-clause-number
+close-requires-clause-number g c = omega arith
+
+pub drop-splitter-requires-in-Ok-eq0 : goal.drop-splitter-requires-in-Ok-eq0
+drop-splitter-requires-in-Ok-eq0 g c κs = search rules
+
+pub drop-splitter-requires-in-Ok-eq0-2 : goal.drop-splitter-requires-in-Ok-eq0-2
+drop-splitter-requires-in-Ok-eq0-2 g c κs = search rules
+
+pub slice_bounds-buffer-end : goal.slice_bounds-buffer-end
+slice_bounds-buffer-end g c = grind arith
+
+pub slice_bounds-take-end : goal.slice_bounds-take-end
+slice_bounds-take-end g c = grind arith
+
+pub take-requires-clause-partial : goal.take-requires-clause-partial
+take-requires-clause-partial g c = grind arith
+
+pub take-requires-clause-number : goal.take-requires-clause-number
+take-requires-clause-number g c = grind arith
+
+pub drop-splitter-requires-in-Ok-Some : goal.drop-splitter-requires-in-Ok-Some
+drop-splitter-requires-in-Ok-Some g c κs = search rules
+
+pub drop-splitter-requires-in-Ok-Some-2 : goal.drop-splitter-requires-in-Ok-Some-2
+drop-splitter-requires-in-Ok-Some-2 g c κs = search rules
+
+pub drop-splitter-requires-in-Err-take : goal.drop-splitter-requires-in-Err-take
+drop-splitter-requires-in-Err-take g c κs = search rules
+
+pub drop-splitter-requires-in-Err-take-2 : goal.drop-splitter-requires-in-Err-take-2
+drop-splitter-requires-in-Err-take-2 g c κs = search rules
+
+pub loop-pass-smaller : goal.loop-pass-smaller
+loop-pass-smaller g c = omega arith
+
+pub break_off-requires-2 : goal.break_off-requires-2
+break_off-requires-2 g c κs = grind arith
+
+pub drop-splitter-requires-2 : goal.drop-splitter-requires-2
+drop-splitter-requires-2 g c κs = search rules
+
+pub drop-splitter-requires-3 : goal.drop-splitter-requires-3
+drop-splitter-requires-3 g c κs = search rules

@@ -1,4 +1,4 @@
-use Rattle.std.proofs.Common.{pos, refl}
+use Rattle.std.proofs.Common.{pos, refl, arith, rules}
 use Rattle.std.proofs.lemmas.Result.{err_from_is_err_and}
 use Rattle.ng_rig.specs.Trace.{reads}
 use Rattle.ng_layout.specs.Header.{program_limit_of}
@@ -169,3 +169,87 @@ returns-clause-formats g c =
           (sync.holds hs) (write.holds h4) (last.holds (write.keeps h4)) in
           record { writes = f.writes; at = f.at; laid = f.laid; zeros = f.zeros };
     }
+
+pub clear_headers-requires : goal.clear_headers-requires
+clear_headers-requires g c = omega arith
+
+pub branch-clear_headers-requires : goal.branch-clear_headers-requires
+branch-clear_headers-requires g c κs = search rules
+
+pub from_residual-requires : goal.from_residual-requires
+from_residual-requires g c κs = search rules
+
+pub returns-in_err-clear_headers-clause-call : goal.returns-in_err-clear_headers-clause-call
+returns-in_err-clear_headers-clause-call g c = grind arith
+
+pub clear_log-requires : goal.clear_log-requires
+clear_log-requires g c = omega arith
+
+pub branch-clear_log-requires : goal.branch-clear_log-requires
+branch-clear_log-requires g c κs = search rules
+
+pub from_residual-requires-in_err-clear_log : goal.from_residual-requires-in_err-clear_log
+from_residual-requires-in_err-clear_log g c κs = search rules
+
+pub returns-in_err-clear_log-clause-call : goal.returns-in_err-clear_log-clause-call
+returns-in_err-clear_log-clause-call g c = grind arith
+
+pub snapshot_first-requires : goal.snapshot_first-requires
+snapshot_first-requires g c = omega arith
+
+pub write_fresh_snapshot-requires-clause-within : goal.write_fresh_snapshot-requires-clause-within
+write_fresh_snapshot-requires-clause-within g c = omega arith
+
+pub branch-write_fresh_snapshot-requires : goal.branch-write_fresh_snapshot-requires
+branch-write_fresh_snapshot-requires g c κs = search rules
+
+pub tools_first-requires : goal.tools_first-requires
+tools_first-requires g c = omega arith
+
+pub clear_tools-requires-clause-sectors : goal.clear_tools-requires-clause-sectors
+clear_tools-requires-clause-sectors g c = omega arith
+
+pub clear_tools-requires-clause-within : goal.clear_tools-requires-clause-within
+clear_tools-requires-clause-within g c = omega arith
+
+pub branch-clear_tools-requires : goal.branch-clear_tools-requires
+branch-clear_tools-requires g c κs = search rules
+
+pub from_residual-requires-in_err-clear_tools : goal.from_residual-requires-in_err-clear_tools
+from_residual-requires-in_err-clear_tools g c κs = search rules
+
+pub returns-in_err-clear_tools-clause-call : goal.returns-in_err-clear_tools-clause-call
+returns-in_err-clear_tools-clause-call g c = grind arith
+
+pub sync-requires : goal.sync-requires
+sync-requires g c κs = grind arith
+
+pub branch-sync-requires : goal.branch-sync-requires
+branch-sync-requires g c κs = search rules
+
+pub from_residual-requires-in_err-sync : goal.from_residual-requires-in_err-sync
+from_residual-requires-in_err-sync g c κs = search rules
+
+pub returns-in_err-sync-clause-call : goal.returns-in_err-sync-clause-call
+returns-in_err-sync-clause-call g c = grind arith
+
+pub header_sector-requires : goal.header_sector-requires
+header_sector-requires g c = omega arith
+
+pub write-requires : goal.write-requires
+write-requires g c = omega arith
+
+pub branch-write-requires : goal.branch-write-requires
+branch-write-requires g c κs = search rules
+
+pub from_residual-requires-in_err-write : goal.from_residual-requires-in_err-write
+from_residual-requires-in_err-write g c κs = search rules
+
+pub returns-in_err-write-clause-call : goal.returns-in_err-write-clause-call
+returns-in_err-write-clause-call g c = grind arith
+
+pub sync-requires-2 : goal.sync-requires-2
+sync-requires-2 g c κs = grind arith
+
+pub returns-clause-call : goal.returns-clause-call
+returns-clause-call g c = grind arith

@@ -1,4 +1,4 @@
-use Rattle.std.proofs.Common.{◌≡◌, ◌∙◌, ap, true, false}
+use Rattle.std.proofs.Common.{◌≡◌, ◌∙◌, ap, true, false, arith, rules}
 use Rattle.ng_rig.proofs.GuaranteeLemmas.{onto, meaning}
 use Rattle.ng_rig.specs.Trace.{reads}
 use Rattle.ng_layout.specs.Areas.{snapshot_first}
@@ -76,3 +76,150 @@ returns-else-has_tools-clause-read g c =
           (tools_as c.args.header c.in_ok-bytes.bytes c.read_tools.new.tools old _
           c.in_ok-has_tools-in-Some.has_tools false p.0 c.if-has_tools.false q.right));
     })
+
+pub snapshot_first-first-requires : goal.snapshot_first-first-requires
+snapshot_first-first-requires g c = omega arith
+
+pub read_sector-requires : goal.read_sector-requires
+read_sector-requires g c = omega arith
+
+pub branch-bytes-requires : goal.branch-bytes-requires
+branch-bytes-requires g c κs = search rules
+
+pub from_residual-requires : goal.from_residual-requires
+from_residual-requires g c κs = search rules
+
+pub returns-in_err-bytes-clause-read : goal.returns-in_err-bytes-clause-read
+returns-in_err-bytes-clause-read g c = grind arith
+
+pub returns-in_err-bytes-clause-none : goal.returns-in_err-bytes-clause-none
+returns-in_err-bytes-clause-none g c = grind arith
+
+pub returns-in_err-bytes-clause-storable : goal.returns-in_err-bytes-clause-storable
+returns-in_err-bytes-clause-storable g c = grind arith
+
+pub returns-in_err-bytes-clause-count : goal.returns-in_err-bytes-clause-count
+returns-in_err-bytes-clause-count g c = grind arith
+
+pub returns-in_err-bytes-clause-long : goal.returns-in_err-bytes-clause-long
+returns-in_err-bytes-clause-long g c = grind arith
+
+pub returns-in_err-bytes-clause-program_limit : goal.returns-in_err-bytes-clause-program_limit
+returns-in_err-bytes-clause-program_limit g c = omega arith
+
+pub returns-in_err-bytes-clause-call : goal.returns-in_err-bytes-clause-call
+returns-in_err-bytes-clause-call g c = grind arith
+
+pub decoded_state_of_snapshot-requires : goal.decoded_state_of_snapshot-requires
+decoded_state_of_snapshot-requires g c = omega arith
+
+pub read_table-requires-clause-sectors : goal.read_table-requires-clause-sectors
+read_table-requires-clause-sectors g c = omega arith
+
+pub read_table-requires-clause-within : goal.read_table-requires-clause-within
+read_table-requires-clause-within g c = omega arith
+
+pub read_table-requires-clause-long : goal.read_table-requires-clause-long
+read_table-requires-clause-long g c = grind arith
+
+pub branch-is_whole-requires : goal.branch-is_whole-requires
+branch-is_whole-requires g c κs = search rules
+
+pub invariant_of-stored-inside : goal.invariant_of-stored-inside
+invariant_of-stored-inside g c = omega arith
+
+pub returns-in_err-is_whole-in-Some-clause-read : goal.returns-in_err-is_whole-in-Some-clause-read
+returns-in_err-is_whole-in-Some-clause-read g c = grind arith
+
+pub returns-in_err-is_whole-in-Some-clause-none : goal.returns-in_err-is_whole-in-Some-clause-none
+returns-in_err-is_whole-in-Some-clause-none g c = grind arith
+
+pub returns-in_err-is_whole-in-Some-clause-long : goal.returns-in_err-is_whole-in-Some-clause-long
+returns-in_err-is_whole-in-Some-clause-long g c = grind arith
+
+pub returns-in_err-is_whole-in-Some-clause-call : goal.returns-in_err-is_whole-in-Some-clause-call
+returns-in_err-is_whole-in-Some-clause-call g c = grind arith
+
+pub returns-then-not-is_whole-clause-none : goal.returns-then-not-is_whole-clause-none
+returns-then-not-is_whole-clause-none g c = omega arith
+
+pub returns-then-not-is_whole-clause-storable : goal.returns-then-not-is_whole-clause-storable
+returns-then-not-is_whole-clause-storable g c = omega arith
+
+pub returns-then-not-is_whole-clause-count : goal.returns-then-not-is_whole-clause-count
+returns-then-not-is_whole-clause-count g c = omega arith
+
+pub returns-then-not-is_whole-clause-long : goal.returns-then-not-is_whole-clause-long
+returns-then-not-is_whole-clause-long g c = omega arith
+
+pub returns-then-not-is_whole-clause-call : goal.returns-then-not-is_whole-clause-call
+returns-then-not-is_whole-clause-call g c = grind arith
+
+pub read_tools-requires-clause-least : goal.read_tools-requires-clause-least
+read_tools-requires-clause-least g c = omega arith
+
+pub read_tools-requires-clause-none : goal.read_tools-requires-clause-none
+read_tools-requires-clause-none g c = grind arith
+
+pub invariant_of-stored-inside-in-Some : goal.invariant_of-stored-inside-in-Some
+invariant_of-stored-inside-in-Some g c = omega arith
+
+pub branch-has_tools-requires : goal.branch-has_tools-requires
+branch-has_tools-requires g c κs = search rules
+
+pub take_decoded_state-requires : goal.take_decoded_state-requires
+take_decoded_state-requires g c κs = grind arith
+
+pub returns-in-None-clause-none : goal.returns-in-None-clause-none
+returns-in-None-clause-none g c = omega arith
+
+pub returns-in-None-clause-storable : goal.returns-in-None-clause-storable
+returns-in-None-clause-storable g c = omega arith
+
+pub returns-in-None-clause-count : goal.returns-in-None-clause-count
+returns-in-None-clause-count g c = omega arith
+
+pub returns-in-None-clause-long : goal.returns-in-None-clause-long
+returns-in-None-clause-long g c = omega arith
+
+pub returns-in-None-clause-program_limit : goal.returns-in-None-clause-program_limit
+returns-in-None-clause-program_limit g c = omega arith
+
+pub returns-in-None-clause-call : goal.returns-in-None-clause-call
+returns-in-None-clause-call g c = grind arith
+
+pub returns-then-has_tools-clause-none : goal.returns-then-has_tools-clause-none
+returns-then-has_tools-clause-none g c = grind arith
+
+pub returns-then-has_tools-clause-storable : goal.returns-then-has_tools-clause-storable
+returns-then-has_tools-clause-storable g c = grind arith
+
+pub returns-then-has_tools-clause-count : goal.returns-then-has_tools-clause-count
+returns-then-has_tools-clause-count g c = grind arith
+
+pub returns-then-has_tools-clause-long : goal.returns-then-has_tools-clause-long
+returns-then-has_tools-clause-long g c = grind arith
+
+pub returns-then-has_tools-clause-program_limit : goal.returns-then-has_tools-clause-program_limit
+returns-then-has_tools-clause-program_limit g c = grind arith
+
+pub returns-then-has_tools-clause-call : goal.returns-then-has_tools-clause-call
+returns-then-has_tools-clause-call g c = grind arith
+
+pub returns-else-has_tools-clause-none : goal.returns-else-has_tools-clause-none
+returns-else-has_tools-clause-none g c = grind arith
+
+pub returns-else-has_tools-clause-storable : goal.returns-else-has_tools-clause-storable
+returns-else-has_tools-clause-storable g c = grind arith
+
+pub returns-else-has_tools-clause-count : goal.returns-else-has_tools-clause-count
+returns-else-has_tools-clause-count g c = grind arith
+
+pub returns-else-has_tools-clause-long : goal.returns-else-has_tools-clause-long
+returns-else-has_tools-clause-long g c = grind arith
+
+pub returns-else-has_tools-clause-program_limit : goal.returns-else-has_tools-clause-program_limit
+returns-else-has_tools-clause-program_limit g c = grind arith
+
+pub returns-else-has_tools-clause-call : goal.returns-else-has_tools-clause-call
+returns-else-has_tools-clause-call g c = grind arith

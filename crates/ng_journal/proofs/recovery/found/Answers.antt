@@ -1,4 +1,4 @@
-use Rattle.std.proofs.Common.{◌≡◌, ◌∙◌, sym, ap, subst}
+use Rattle.std.proofs.Common.{◌≡◌, ◌∙◌, sym, ap, subst, arith, rules}
 use Rattle.ng_rig.specs.Trace.{Trace, reads}
 use Rattle.ng_rig.proofs.GuaranteeLemmas.{onto, meaning}
 use Rattle.ng_layout.specs.Header.{program_limit_of}
@@ -74,3 +74,135 @@ returns-in-Some-2-clause-read g c =
       right = all_found (reads old) header snap saved answer c.in-Some-2.field-0 p.1
           c.in-Some-2.is room run (stays ∙ ap program_limit_of (sym p.2));
     })
+
+pub header_in_force-requires-clause-sectors : goal.header_in_force-requires-clause-sectors
+header_in_force-requires-clause-sectors g c = omega arith
+
+pub header_in_force-requires-clause-large : goal.header_in_force-requires-clause-large
+header_in_force-requires-clause-large g c = grind arith
+
+pub branch-header_in_force-requires : goal.branch-header_in_force-requires
+branch-header_in_force-requires g c κs = search rules
+
+pub from_residual-requires : goal.from_residual-requires
+from_residual-requires g c κs = search rules
+
+pub returns-in_err-header_in_force-clause-none : goal.returns-in_err-header_in_force-clause-none
+returns-in_err-header_in_force-clause-none g c = grind arith
+
+pub returns-in_err-header_in_force-clause-read : goal.returns-in_err-header_in_force-clause-read
+returns-in_err-header_in_force-clause-read g c = grind arith
+
+pub returns-in_err-header_in_force-clause-whole : goal.returns-in_err-header_in_force-clause-whole
+returns-in_err-header_in_force-clause-whole g c = grind arith
+
+pub returns-in_err-header_in_force-clause-call : goal.returns-in_err-header_in_force-clause-call
+returns-in_err-header_in_force-clause-call g c = grind arith
+
+pub read_snapshot-requires-clause-least : goal.read_snapshot-requires-clause-least
+read_snapshot-requires-clause-least g c = omega arith
+
+pub read_snapshot-requires-clause-program : goal.read_snapshot-requires-clause-program
+read_snapshot-requires-clause-program g c = grind arith
+
+pub read_snapshot-requires-clause-most : goal.read_snapshot-requires-clause-most
+read_snapshot-requires-clause-most g c = grind arith
+
+pub read_snapshot-requires-clause-long : goal.read_snapshot-requires-clause-long
+read_snapshot-requires-clause-long g c = omega arith
+
+pub read_snapshot-requires-clause-none : goal.read_snapshot-requires-clause-none
+read_snapshot-requires-clause-none g c = grind arith
+
+pub branch-is_whole-requires : goal.branch-is_whole-requires
+branch-is_whole-requires g c κs = search rules
+
+pub returns-in_err-is_whole-in-Some-clause-none : goal.returns-in_err-is_whole-in-Some-clause-none
+returns-in_err-is_whole-in-Some-clause-none g c = grind arith
+
+pub returns-in_err-is_whole-in-Some-clause-read : goal.returns-in_err-is_whole-in-Some-clause-read
+returns-in_err-is_whole-in-Some-clause-read g c = grind arith
+
+pub returns-in_err-is_whole-in-Some-clause-call : goal.returns-in_err-is_whole-in-Some-clause-call
+returns-in_err-is_whole-in-Some-clause-call g c = grind arith
+
+pub returns-then-not-is_whole-clause-none : goal.returns-then-not-is_whole-clause-none
+returns-then-not-is_whole-clause-none g c = omega arith
+
+pub returns-then-not-is_whole-clause-whole : goal.returns-then-not-is_whole-clause-whole
+returns-then-not-is_whole-clause-whole g c = omega arith
+
+pub returns-then-not-is_whole-clause-faults : goal.returns-then-not-is_whole-clause-faults
+returns-then-not-is_whole-clause-faults g c = grind arith
+
+pub returns-then-not-is_whole-clause-call : goal.returns-then-not-is_whole-clause-call
+returns-then-not-is_whole-clause-call g c = grind arith
+
+pub read_log-requires-clause-sectors : goal.read_log-requires-clause-sectors
+read_log-requires-clause-sectors g c = omega arith
+
+pub read_log-requires-clause-storable : goal.read_log-requires-clause-storable
+read_log-requires-clause-storable g c = grind arith
+
+pub read_log-requires-clause-count : goal.read_log-requires-clause-count
+read_log-requires-clause-count g c = grind arith
+
+pub read_log-requires-clause-long : goal.read_log-requires-clause-long
+read_log-requires-clause-long g c = grind arith
+
+pub branch-read_log-requires : goal.branch-read_log-requires
+branch-read_log-requires g c κs = search rules
+
+pub returns-in_err-read_log-in-Some-clause-none : goal.returns-in_err-read_log-in-Some-clause-none
+returns-in_err-read_log-in-Some-clause-none g c = grind arith
+
+pub returns-in_err-read_log-in-Some-clause-read : goal.returns-in_err-read_log-in-Some-clause-read
+returns-in_err-read_log-in-Some-clause-read g c = grind arith
+
+pub returns-in_err-read_log-in-Some-clause-call : goal.returns-in_err-read_log-in-Some-clause-call
+returns-in_err-read_log-in-Some-clause-call g c = grind arith
+
+pub returns-in-None-clause-none : goal.returns-in-None-clause-none
+returns-in-None-clause-none g c = omega arith
+
+pub returns-in-None-clause-whole : goal.returns-in-None-clause-whole
+returns-in-None-clause-whole g c = omega arith
+
+pub returns-in-None-clause-program_limit : goal.returns-in-None-clause-program_limit
+returns-in-None-clause-program_limit g c = omega arith
+
+pub returns-in-None-clause-faults : goal.returns-in-None-clause-faults
+returns-in-None-clause-faults g c = grind arith
+
+pub returns-in-None-clause-call : goal.returns-in-None-clause-call
+returns-in-None-clause-call g c = grind arith
+
+pub returns-in-None-2-clause-none : goal.returns-in-None-2-clause-none
+returns-in-None-2-clause-none g c = omega arith
+
+pub returns-in-None-2-clause-whole : goal.returns-in-None-2-clause-whole
+returns-in-None-2-clause-whole g c = omega arith
+
+pub returns-in-None-2-clause-program_limit : goal.returns-in-None-2-clause-program_limit
+returns-in-None-2-clause-program_limit g c = omega arith
+
+pub returns-in-None-2-clause-faults : goal.returns-in-None-2-clause-faults
+returns-in-None-2-clause-faults g c = grind arith
+
+pub returns-in-None-2-clause-call : goal.returns-in-None-2-clause-call
+returns-in-None-2-clause-call g c = grind arith
+
+pub returns-in-Some-2-clause-none : goal.returns-in-Some-2-clause-none
+returns-in-Some-2-clause-none g c = grind arith
+
+pub returns-in-Some-2-clause-whole : goal.returns-in-Some-2-clause-whole
+returns-in-Some-2-clause-whole g c = grind arith
+
+pub returns-in-Some-2-clause-program_limit : goal.returns-in-Some-2-clause-program_limit
+returns-in-Some-2-clause-program_limit g c = omega arith
+
+pub returns-in-Some-2-clause-faults : goal.returns-in-Some-2-clause-faults
+returns-in-Some-2-clause-faults g c = omega arith
+
+pub returns-in-Some-2-clause-call : goal.returns-in-Some-2-clause-call
+returns-in-Some-2-clause-call g c = grind arith

@@ -1,4 +1,4 @@
-use Rattle.std.proofs.Common.{ℤ, List, sym, ◌∙◌, ap}
+use Rattle.std.proofs.Common.{ℤ, List, sym, ◌∙◌, ap, arith, rules}
 use Rattle.ng_layout.specs.Stands.{saved_beside}
 use Rattle.ng_layout.specs.declared.header.Format.{Format}
 use Rattle.std.proofs.lemmas.Result.{err_from_is_err_and}
@@ -61,3 +61,45 @@ pub returns-in_ok-checkpoint-in-One-clause-saved : goal.returns-in_ok-checkpoint
 returns-in_ok-checkpoint-in-One-clause-saved g c = λ table over.
     c.take_tools.ensures ∙ ap (λ (t : List ℤ). record c.args.stored.now { tools = t }) (sym (over c.in-One.is))
     ∙ ap (λ (f : Format). saved_beside table f c.args.stored.now) (sym c.in-One.is)
+
+pub take_tools-requires : goal.take_tools-requires
+take_tools-requires g c κs = grind arith
+
+pub migrated-last-requires : goal.migrated-last-requires
+migrated-last-requires g c = omega arith
+
+pub checkpoint-requires-clause-least : goal.checkpoint-requires-clause-least
+checkpoint-requires-clause-least g c = omega arith
+
+pub checkpoint-requires-clause-long : goal.checkpoint-requires-clause-long
+checkpoint-requires-clause-long g c = grind arith
+
+pub checkpoint-requires-clause-count : goal.checkpoint-requires-clause-count
+checkpoint-requires-clause-count g c = grind arith
+
+pub checkpoint-requires-clause-storable : goal.checkpoint-requires-clause-storable
+checkpoint-requires-clause-storable g c = grind arith
+
+pub checkpoint-requires-clause-tools : goal.checkpoint-requires-clause-tools
+checkpoint-requires-clause-tools g c = grind arith
+
+pub branch-checkpoint-requires : goal.branch-checkpoint-requires
+branch-checkpoint-requires g c κs = search rules
+
+pub from_residual-requires : goal.from_residual-requires
+from_residual-requires g c κs = search rules
+
+pub returns-in-Two-clause-header : goal.returns-in-Two-clause-header
+returns-in-Two-clause-header g c = grind arith
+
+pub returns-in-Two-clause-whole : goal.returns-in-Two-clause-whole
+returns-in-Two-clause-whole g c = grind arith
+
+pub returns-in-Two-clause-program_limit : goal.returns-in-Two-clause-program_limit
+returns-in-Two-clause-program_limit g c = omega arith
+
+pub returns-in-Two-clause-call : goal.returns-in-Two-clause-call
+returns-in-Two-clause-call g c = omega arith
+
+pub returns-in_ok-checkpoint-in-One-clause-call : goal.returns-in_ok-checkpoint-in-One-clause-call
+returns-in_ok-checkpoint-in-One-clause-call g c = grind arith

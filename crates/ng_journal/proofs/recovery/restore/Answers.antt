@@ -1,4 +1,4 @@
-use Rattle.std.proofs.Common.{◌≡◌, Some, sym, ap, subst, ◌∙◌, arith}
+use Rattle.std.proofs.Common.{◌≡◌, Some, sym, ap, subst, ◌∙◌, arith, rules}
 use Rattle.ng_rig.specs.Trace.{Trace, reads}
 use Rattle.ng_layout.specs.declared.header.Header.{Header}
 use Rattle.ng_layout.specs.declared.header.Format.TheVariants.{One}
@@ -130,3 +130,159 @@ returns-in_ok-last-in-Ok-clause-restores g c =
           made.writes made.stops
           c.in_ok-last-in-Ok.ensures.header.0 (c.in_ok-last-in-Ok.ensures.saved table given);
     }
+
+pub sync-requires : goal.sync-requires
+sync-requires g c κs = grind arith
+
+pub branch-sync-requires : goal.branch-sync-requires
+branch-sync-requires g c κs = search rules
+
+pub from_residual-requires : goal.from_residual-requires
+from_residual-requires g c κs = search rules
+
+pub returns-in_err-sync-clause-format : goal.returns-in_err-sync-clause-format
+returns-in_err-sync-clause-format g c = grind arith
+
+pub returns-in_err-sync-clause-whole : goal.returns-in_err-sync-clause-whole
+returns-in_err-sync-clause-whole g c = grind arith
+
+pub returns-in_err-sync-clause-program_limit : goal.returns-in_err-sync-clause-program_limit
+returns-in_err-sync-clause-program_limit g c = omega arith
+
+pub returns-in_err-sync-clause-faults : goal.returns-in_err-sync-clause-faults
+returns-in_err-sync-clause-faults g c = grind arith
+
+pub returns-in_err-sync-clause-call : goal.returns-in_err-sync-clause-call
+returns-in_err-sync-clause-call g c = grind arith
+
+pub found-requires-clause-least : goal.found-requires-clause-least
+found-requires-clause-least g c = omega arith
+
+pub found-requires-clause-large : goal.found-requires-clause-large
+found-requires-clause-large g c = grind arith
+
+pub found-requires-clause-program_limit : goal.found-requires-clause-program_limit
+found-requires-clause-program_limit g c = omega arith
+
+pub found-requires-clause-long : goal.found-requires-clause-long
+found-requires-clause-long g c = omega arith
+
+pub found-requires-clause-none : goal.found-requires-clause-none
+found-requires-clause-none g c = grind arith
+
+pub branch-fault-requires : goal.branch-fault-requires
+branch-fault-requires g c κs = search rules
+
+pub from_residual-requires-in_err-fault : goal.from_residual-requires-in_err-fault
+from_residual-requires-in_err-fault g c κs = search rules
+
+pub returns-in_err-fault-clause-format : goal.returns-in_err-fault-clause-format
+returns-in_err-fault-clause-format g c = grind arith
+
+pub returns-in_err-fault-clause-whole : goal.returns-in_err-fault-clause-whole
+returns-in_err-fault-clause-whole g c = grind arith
+
+pub returns-in_err-fault-clause-program_limit : goal.returns-in_err-fault-clause-program_limit
+returns-in_err-fault-clause-program_limit g c = omega arith
+
+pub returns-in_err-fault-clause-faults : goal.returns-in_err-fault-clause-faults
+returns-in_err-fault-clause-faults g c = grind arith
+
+pub returns-in_err-fault-clause-call : goal.returns-in_err-fault-clause-call
+returns-in_err-fault-clause-call g c = grind arith
+
+pub epochs_for-requires : goal.epochs_for-requires
+epochs_for-requires g c = omega arith
+
+pub overflow_add-header : goal.overflow_add-header
+overflow_add-header g c = grind arith
+
+pub close-requires : goal.close-requires
+close-requires g c κs = grind arith
+
+pub next_header-next-requires : goal.next_header-next-requires
+next_header-next-requires g c = grind arith
+
+pub checkpoint-requires-clause-least : goal.checkpoint-requires-clause-least
+checkpoint-requires-clause-least g c = omega arith
+
+pub checkpoint-requires-clause-long : goal.checkpoint-requires-clause-long
+checkpoint-requires-clause-long g c = grind arith
+
+pub checkpoint-requires-clause-count : goal.checkpoint-requires-clause-count
+checkpoint-requires-clause-count g c = grind arith
+
+pub checkpoint-requires-clause-storable : goal.checkpoint-requires-clause-storable
+checkpoint-requires-clause-storable g c = grind arith
+
+pub checkpoint-requires-clause-tools : goal.checkpoint-requires-clause-tools
+checkpoint-requires-clause-tools g c = grind arith
+
+pub branch-checkpoint-requires : goal.branch-checkpoint-requires
+branch-checkpoint-requires g c κs = search rules
+
+pub returns-in_err-checkpoint-in-Ok-clause-call : goal.returns-in_err-checkpoint-in-Ok-clause-call
+returns-in_err-checkpoint-in-Ok-clause-call g c = grind arith
+
+pub modernize-requires-clause-least : goal.modernize-requires-clause-least
+modernize-requires-clause-least g c = omega arith
+
+pub modernize-requires-clause-epoch : goal.modernize-requires-clause-epoch
+modernize-requires-clause-epoch g c = grind arith
+
+pub modernize-requires-clause-long : goal.modernize-requires-clause-long
+modernize-requires-clause-long g c = grind arith
+
+pub modernize-requires-clause-count : goal.modernize-requires-clause-count
+modernize-requires-clause-count g c = grind arith
+
+pub modernize-requires-clause-storable : goal.modernize-requires-clause-storable
+modernize-requires-clause-storable g c = grind arith
+
+pub modernize-requires-clause-tools : goal.modernize-requires-clause-tools
+modernize-requires-clause-tools g c = omega arith
+
+pub branch-last-requires : goal.branch-last-requires
+branch-last-requires g c κs = search rules
+
+pub from_residual-requires-in_err-last-in-Ok : goal.from_residual-requires-in_err-last-in-Ok
+from_residual-requires-in_err-last-in-Ok g c κs = search rules
+
+pub returns-in_err-last-in-Ok-clause-format : goal.returns-in_err-last-in-Ok-clause-format
+returns-in_err-last-in-Ok-clause-format g c = grind arith
+
+pub returns-in_err-last-in-Ok-clause-whole : goal.returns-in_err-last-in-Ok-clause-whole
+returns-in_err-last-in-Ok-clause-whole g c = grind arith
+
+pub returns-in_err-last-in-Ok-clause-faults : goal.returns-in_err-last-in-Ok-clause-faults
+returns-in_err-last-in-Ok-clause-faults g c = grind arith
+
+pub returns-in_err-last-in-Ok-clause-call : goal.returns-in_err-last-in-Ok-clause-call
+returns-in_err-last-in-Ok-clause-call g c = grind arith
+
+pub returns-in-Err-clause-format : goal.returns-in-Err-clause-format
+returns-in-Err-clause-format g c = omega arith
+
+pub returns-in-Err-clause-whole : goal.returns-in-Err-clause-whole
+returns-in-Err-clause-whole g c = omega arith
+
+pub returns-in-Err-clause-program_limit : goal.returns-in-Err-clause-program_limit
+returns-in-Err-clause-program_limit g c = omega arith
+
+pub returns-in-Err-clause-faults : goal.returns-in-Err-clause-faults
+returns-in-Err-clause-faults g c = grind arith
+
+pub returns-in-Err-clause-call : goal.returns-in-Err-clause-call
+returns-in-Err-clause-call g c = grind arith
+
+pub returns-in_ok-last-in-Ok-clause-format : goal.returns-in_ok-last-in-Ok-clause-format
+returns-in_ok-last-in-Ok-clause-format g c = grind arith
+
+pub returns-in_ok-last-in-Ok-clause-whole : goal.returns-in_ok-last-in-Ok-clause-whole
+returns-in_ok-last-in-Ok-clause-whole g c = grind arith
+
+pub returns-in_ok-last-in-Ok-clause-faults : goal.returns-in_ok-last-in-Ok-clause-faults
+returns-in_ok-last-in-Ok-clause-faults g c = omega arith
+
+pub returns-in_ok-last-in-Ok-clause-call : goal.returns-in_ok-last-in-Ok-clause-call
+returns-in_ok-last-in-Ok-clause-call g c = grind arith

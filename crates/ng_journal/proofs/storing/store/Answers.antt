@@ -1,4 +1,4 @@
-use Rattle.std.proofs.Common.{◌≡◌, ◌≤◌, ◌∙◌, ℕ, length, ap, subst, arith}
+use Rattle.std.proofs.Common.{◌≡◌, ◌≤◌, ◌∙◌, ℕ, length, ap, subst, arith, rules}
 use Rattle.std.proofs.lemmas.Result.{err_from_is_err_and}
 use Rattle.ng_rig.proofs.GuaranteeLemmas.{onto, meaning}
 use Rattle.ng_journal.specs.Private.Records.{IsRoom, ledger}
@@ -55,3 +55,51 @@ returns-clause-tip g c =
     tip_after c.append_to.result l copy
     (ledger_after c.append_to.result c.in_ok-tip.tip l (length c.changes_between-changes.result) copy
     (ap length c.changes_between-changes.ensures.changes) room c.append_to.ensures.end) c.append_to.ensures.tip
+
+pub slot_between-slot-requires : goal.slot_between-slot-requires
+slot_between-slot-requires g c κs = grind arith
+
+pub changes_between-changes-requires : goal.changes_between-changes-requires
+changes_between-changes-requires g c κs = grind arith
+
+pub count-requires : goal.count-requires
+count-requires g c κs = grind arith
+
+pub make_room-requires-clause-sectors : goal.make_room-requires-clause-sectors
+make_room-requires-clause-sectors g c = omega arith
+
+pub make_room-requires-clause-tip : goal.make_room-requires-clause-tip
+make_room-requires-clause-tip g c = grind arith
+
+pub make_room-requires-clause-few : goal.make_room-requires-clause-few
+make_room-requires-clause-few g c = omega arith
+
+pub make_room-requires-clause-epoch : goal.make_room-requires-clause-epoch
+make_room-requires-clause-epoch g c = grind arith
+
+pub make_room-requires-clause-stands : goal.make_room-requires-clause-stands
+make_room-requires-clause-stands g c = grind arith
+
+pub branch-tip-requires : goal.branch-tip-requires
+branch-tip-requires g c κs = search rules
+
+pub from_residual-requires : goal.from_residual-requires
+from_residual-requires g c κs = search rules
+
+pub returns-in_err-tip-clause-tip : goal.returns-in_err-tip-clause-tip
+returns-in_err-tip-clause-tip g c = grind arith
+
+pub returns-in_err-tip-clause-call : goal.returns-in_err-tip-clause-call
+returns-in_err-tip-clause-call g c = grind arith
+
+pub append_to-requires-clause-sectors : goal.append_to-requires-clause-sectors
+append_to-requires-clause-sectors g c = omega arith
+
+pub append_to-requires-clause-few : goal.append_to-requires-clause-few
+append_to-requires-clause-few g c = omega arith
+
+pub append_to-requires-clause-stands : goal.append_to-requires-clause-stands
+append_to-requires-clause-stands g c = grind arith
+
+pub returns-clause-call : goal.returns-clause-call
+returns-clause-call g c = grind arith

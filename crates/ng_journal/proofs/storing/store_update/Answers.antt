@@ -1,4 +1,4 @@
-use Rattle.std.proofs.Common.{◌≡◌, ◌≤◌, ◌∙◌, ℕ, List, length, sym, ap, subst, arith}
+use Rattle.std.proofs.Common.{◌≡◌, ◌≤◌, ◌∙◌, ℕ, List, length, sym, ap, subst, arith, rules}
 use Rattle.std.specs.Prelude.{IfOk}
 use Rattle.std.proofs.lemmas.Result.{err_from_is_err_and}
 use Rattle.ng_rig.proofs.GuaranteeLemmas.{onto, meaning}
@@ -83,3 +83,54 @@ returns-clause-tip g c =
     tip_after c.append_to.result l next
     (ledger_after c.append_to.result c.in_ok-tip.tip l (length c.listed-changes.result) next count room c.append_to.ensures.end)
     (subst (λ (s : StoredModel). IfOk c.append_to.result (λ t. IsTip s.length t.header t.end)) c.take_update.ensures c.append_to.ensures.tip)
+
+pub slot_of-slot-requires : goal.slot_of-slot-requires
+slot_of-slot-requires g c = grind arith
+
+pub make_room-requires-clause-sectors : goal.make_room-requires-clause-sectors
+make_room-requires-clause-sectors g c = omega arith
+
+pub make_room-requires-clause-tip : goal.make_room-requires-clause-tip
+make_room-requires-clause-tip g c = grind arith
+
+pub make_room-requires-clause-epoch : goal.make_room-requires-clause-epoch
+make_room-requires-clause-epoch g c = grind arith
+
+pub make_room-requires-clause-stands : goal.make_room-requires-clause-stands
+make_room-requires-clause-stands g c = grind arith
+
+pub branch-tip-requires : goal.branch-tip-requires
+branch-tip-requires g c κs = search rules
+
+pub from_residual-requires : goal.from_residual-requires
+from_residual-requires g c κs = search rules
+
+pub returns-in_err-tip-clause-saved : goal.returns-in_err-tip-clause-saved
+returns-in_err-tip-clause-saved g c = grind arith
+
+pub returns-in_err-tip-clause-either : goal.returns-in_err-tip-clause-either
+returns-in_err-tip-clause-either g c = grind arith
+
+pub returns-in_err-tip-clause-tip : goal.returns-in_err-tip-clause-tip
+returns-in_err-tip-clause-tip g c = grind arith
+
+pub returns-in_err-tip-clause-call : goal.returns-in_err-tip-clause-call
+returns-in_err-tip-clause-call g c = grind arith
+
+pub take_update-requires : goal.take_update-requires
+take_update-requires g c = grind arith
+
+pub listed-changes-requires : goal.listed-changes-requires
+listed-changes-requires g c κs = grind arith
+
+pub append_to-requires-clause-sectors : goal.append_to-requires-clause-sectors
+append_to-requires-clause-sectors g c = omega arith
+
+pub returns-clause-saved : goal.returns-clause-saved
+returns-clause-saved g c = grind arith
+
+pub returns-clause-either : goal.returns-clause-either
+returns-clause-either g c = grind arith
+
+pub returns-clause-call : goal.returns-clause-call
+returns-clause-call g c = grind arith

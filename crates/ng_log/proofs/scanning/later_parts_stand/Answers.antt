@@ -1,4 +1,4 @@
-use Rattle.std.proofs.Common.{◌+◌, refl, ◌∙◌, arith}
+use Rattle.std.proofs.Common.{◌+◌, refl, ◌∙◌, arith, rules}
 use Rattle.ng_rig.proofs.GuaranteeLemmas.{promised, onto, meaning}
 use Rattle.ng_rig.specs.Trace.{reads}
 use Rattle.ng_layout.specs.Part.{label_of}
@@ -42,3 +42,39 @@ loop-part-preserved g c =
 pub returns-clause-read : goal.returns-clause-read
 returns-clause-read g c = meaning c.loop-part.invariant.read
     (λ p. record { same = p.0; right = λ j some below. p.1 j some (omega (arith, below, c.loop-part-test.false)) })
+
+pub overflow_add-at : goal.overflow_add-at
+overflow_add-at g c = omega arith
+
+pub overflow_cast-part : goal.overflow_cast-part
+overflow_cast-part g c = omega arith
+
+pub overflow_add-at-in-loop-part : goal.overflow_add-at-in-loop-part
+overflow_add-at-in-loop-part g c = omega arith
+
+pub read_sector-requires : goal.read_sector-requires
+read_sector-requires g c = omega arith
+
+pub branch-sector-requires : goal.branch-sector-requires
+branch-sector-requires g c κs = search rules
+
+pub from_residual-requires : goal.from_residual-requires
+from_residual-requires g c κs = search rules
+
+pub returns-in_err-sector-clause-read : goal.returns-in_err-sector-clause-read
+returns-in_err-sector-clause-read g c = grind arith
+
+pub returns-in_err-sector-clause-call : goal.returns-in_err-sector-clause-call
+returns-in_err-sector-clause-call g c = grind arith
+
+pub is_of-requires : goal.is_of-requires
+is_of-requires g c = omega arith
+
+pub returns-then-not-is_of-clause-call : goal.returns-then-not-is_of-clause-call
+returns-then-not-is_of-clause-call g c = grind arith
+
+pub loop-part-smaller : goal.loop-part-smaller
+loop-part-smaller g c = omega arith
+
+pub returns-clause-call : goal.returns-clause-call
+returns-clause-call g c = omega arith

@@ -1,4 +1,4 @@
-use Rattle.std.proofs.Common.{◌≡◌, ◌≤◌, ◌∙◌, Some, sym, subst, arith}
+use Rattle.std.proofs.Common.{◌≡◌, ◌≤◌, ◌∙◌, Some, sym, subst, arith, rules}
 use Rattle.ng_rig.proofs.GuaranteeLemmas.{onto, meaning}
 use Rattle.ng_rig.specs.Trace.{reads}
 use Rattle.ng_layout.specs.Areas.{log_size_of}
@@ -87,3 +87,132 @@ returns-clause-read g c =
         inv.long,
       );
     })
+
+pub log_size-end-requires : goal.log_size-end-requires
+log_size-end-requires g c = omega arith
+
+pub records-init : goal.records-init
+records-init g c = grind arith
+
+pub next_record-requires-clause-sectors : goal.next_record-requires-clause-sectors
+next_record-requires-clause-sectors g c = omega arith
+
+pub next_record-requires-clause-room : goal.next_record-requires-clause-room
+next_record-requires-clause-room g c = omega arith
+
+pub next_record-requires-clause-number : goal.next_record-requires-clause-number
+next_record-requires-clause-number g c = omega arith
+
+pub next_record-requires-clause-storable : goal.next_record-requires-clause-storable
+next_record-requires-clause-storable g c = grind arith
+
+pub next_record-requires-clause-count : goal.next_record-requires-clause-count
+next_record-requires-clause-count g c = omega arith
+
+pub next_record-requires-clause-long : goal.next_record-requires-clause-long
+next_record-requires-clause-long g c = omega arith
+
+pub branch-next_record-requires : goal.branch-next_record-requires
+branch-next_record-requires g c κs = search rules
+
+pub from_residual-requires : goal.from_residual-requires
+from_residual-requires g c κs = search rules
+
+pub returns-in_err-next_record-clause-read : goal.returns-in_err-next_record-clause-read
+returns-in_err-next_record-clause-read g c = grind arith
+
+pub returns-in_err-next_record-clause-room : goal.returns-in_err-next_record-clause-room
+returns-in_err-next_record-clause-room g c = grind arith
+
+pub returns-in_err-next_record-clause-number : goal.returns-in_err-next_record-clause-number
+returns-in_err-next_record-clause-number g c = grind arith
+
+pub returns-in_err-next_record-clause-storable : goal.returns-in_err-next_record-clause-storable
+returns-in_err-next_record-clause-storable g c = grind arith
+
+pub returns-in_err-next_record-clause-count : goal.returns-in_err-next_record-clause-count
+returns-in_err-next_record-clause-count g c = grind arith
+
+pub returns-in_err-next_record-clause-long : goal.returns-in_err-next_record-clause-long
+returns-in_err-next_record-clause-long g c = grind arith
+
+pub returns-in_err-next_record-clause-none : goal.returns-in_err-next_record-clause-none
+returns-in_err-next_record-clause-none g c = grind arith
+
+pub returns-in_err-next_record-clause-call : goal.returns-in_err-next_record-clause-call
+returns-in_err-next_record-clause-call g c = grind arith
+
+pub returns-in-Last-clause-room : goal.returns-in-Last-clause-room
+returns-in-Last-clause-room g c = omega arith
+
+pub returns-in-Last-clause-number : goal.returns-in-Last-clause-number
+returns-in-Last-clause-number g c = omega arith
+
+pub returns-in-Last-clause-storable : goal.returns-in-Last-clause-storable
+returns-in-Last-clause-storable g c = grind arith
+
+pub returns-in-Last-clause-count : goal.returns-in-Last-clause-count
+returns-in-Last-clause-count g c = grind arith
+
+pub returns-in-Last-clause-long : goal.returns-in-Last-clause-long
+returns-in-Last-clause-long g c = grind arith
+
+pub returns-in-Last-clause-none : goal.returns-in-Last-clause-none
+returns-in-Last-clause-none g c = grind arith
+
+pub returns-in-Last-clause-program_limit : goal.returns-in-Last-clause-program_limit
+returns-in-Last-clause-program_limit g c = omega arith
+
+pub returns-in-Last-clause-call : goal.returns-in-Last-clause-call
+returns-in-Last-clause-call g c = grind arith
+
+pub returns-in-Damaged-clause-room : goal.returns-in-Damaged-clause-room
+returns-in-Damaged-clause-room g c = omega arith
+
+pub returns-in-Damaged-clause-number : goal.returns-in-Damaged-clause-number
+returns-in-Damaged-clause-number g c = omega arith
+
+pub returns-in-Damaged-clause-storable : goal.returns-in-Damaged-clause-storable
+returns-in-Damaged-clause-storable g c = omega arith
+
+pub returns-in-Damaged-clause-count : goal.returns-in-Damaged-clause-count
+returns-in-Damaged-clause-count g c = omega arith
+
+pub returns-in-Damaged-clause-long : goal.returns-in-Damaged-clause-long
+returns-in-Damaged-clause-long g c = omega arith
+
+pub returns-in-Damaged-clause-none : goal.returns-in-Damaged-clause-none
+returns-in-Damaged-clause-none g c = omega arith
+
+pub returns-in-Damaged-clause-program_limit : goal.returns-in-Damaged-clause-program_limit
+returns-in-Damaged-clause-program_limit g c = omega arith
+
+pub returns-in-Damaged-clause-call : goal.returns-in-Damaged-clause-call
+returns-in-Damaged-clause-call g c = grind arith
+
+pub records-smaller : goal.records-smaller
+records-smaller g c = omega arith
+
+pub returns-clause-room : goal.returns-clause-room
+returns-clause-room g c = omega arith
+
+pub returns-clause-number : goal.returns-clause-number
+returns-clause-number g c = omega arith
+
+pub returns-clause-storable : goal.returns-clause-storable
+returns-clause-storable g c = grind arith
+
+pub returns-clause-count : goal.returns-clause-count
+returns-clause-count g c = omega arith
+
+pub returns-clause-long : goal.returns-clause-long
+returns-clause-long g c = omega arith
+
+pub returns-clause-none : goal.returns-clause-none
+returns-clause-none g c = grind arith
+
+pub returns-clause-program_limit : goal.returns-clause-program_limit
+returns-clause-program_limit g c = omega arith
+
+pub returns-clause-call : goal.returns-clause-call
+returns-clause-call g c = omega arith

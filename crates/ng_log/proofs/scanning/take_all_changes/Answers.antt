@@ -1,4 +1,4 @@
-use Rattle.std.proofs.Common.{◌+◌, ◌*◌, ◌<◌, length, ap, refl, ◌∙◌, arith}
+use Rattle.std.proofs.Common.{◌+◌, ◌*◌, ◌<◌, length, ap, refl, ◌∙◌, arith, rules}
 use Rattle.ng_rig.proofs.GuaranteeLemmas.{promised, onto}
 use Rattle.ng_rig.specs.Trace.{reads}
 use Rattle.ng_log.specs.Private.ReadSteps.{from_log}
@@ -42,3 +42,66 @@ loop-i-preserved g c =
       size = c.in_ok-sector.ensures.call.size ∙ inv.size;
       failures = c.in_ok-sector.ensures.call.failures ∙ inv.failures;
     }
+
+pub parts_for-i-end-requires : goal.parts_for-i-end-requires
+parts_for-i-end-requires g c = omega arith
+
+pub overflow_sub-i-end : goal.overflow_sub-i-end
+overflow_sub-i-end g c = omega arith
+
+pub overflow_add-at : goal.overflow_add-at
+overflow_add-at g c = omega arith
+
+pub overflow_add-at-in-loop-i : goal.overflow_add-at-in-loop-i
+overflow_add-at-in-loop-i g c = omega arith
+
+pub overflow_add-at-in-loop-i-2 : goal.overflow_add-at-in-loop-i-2
+overflow_add-at-in-loop-i-2 g c = omega arith
+
+pub read_sector-requires : goal.read_sector-requires
+read_sector-requires g c = omega arith
+
+pub branch-sector-requires : goal.branch-sector-requires
+branch-sector-requires g c κs = search rules
+
+pub from_residual-requires : goal.from_residual-requires
+from_residual-requires g c κs = search rules
+
+pub returns-in_err-sector-clause-read : goal.returns-in_err-sector-clause-read
+returns-in_err-sector-clause-read g c = grind arith
+
+pub returns-in_err-sector-clause-long : goal.returns-in_err-sector-clause-long
+returns-in_err-sector-clause-long g c = grind arith
+
+pub returns-in_err-sector-clause-call : goal.returns-in_err-sector-clause-call
+returns-in_err-sector-clause-call g c = grind arith
+
+pub overflow_mul-i : goal.overflow_mul-i
+overflow_mul-i g c = omega arith
+
+pub overflow_sub-changes : goal.overflow_sub-changes
+overflow_sub-changes g c = omega arith
+
+pub min-count-requires : goal.min-count-requires
+min-count-requires g c = omega arith
+
+pub take_changes-requires : goal.take_changes-requires
+take_changes-requires g c = omega arith
+
+pub returns-then-not-take_changes-clause-long : goal.returns-then-not-take_changes-clause-long
+returns-then-not-take_changes-clause-long g c = omega arith
+
+pub returns-then-not-take_changes-clause-call : goal.returns-then-not-take_changes-clause-call
+returns-then-not-take_changes-clause-call g c = grind arith
+
+pub loop-i-smaller : goal.loop-i-smaller
+loop-i-smaller g c = omega arith
+
+pub returns-clause-read : goal.returns-clause-read
+returns-clause-read g c = grind arith
+
+pub returns-clause-long : goal.returns-clause-long
+returns-clause-long g c = omega arith
+
+pub returns-clause-call : goal.returns-clause-call
+returns-clause-call g c = omega arith

@@ -1,3 +1,4 @@
+use Rattle.std.proofs.lemmas.Grind.{common_steps}
 use Rattle.std.proofs.Common.{length, take, sym, ◌∙◌, ap, arith, slice_index}
 use Rattle.ng_rig.specs.RecordedCalls.{contents, trace_of_calls}
 use Rattle.ng_rig.proofs.TraceLemmas.{trace_of_calls-next}
@@ -44,3 +45,45 @@ loop-call-preserved c =
             bound = λ n. omega (arith, ap (λ xs. slice_index xs n) w.written-is, h.bound n);
           })
     ]
+
+pub loop-call-init : goal.loop-call-init
+loop-call-init c = grind arith
+
+pub offset_bounds-calls-call-index : goal.offset_bounds-calls-call-index
+offset_bounds-calls-call-index c = omega arith
+
+pub bounds-calls-call-index : goal.bounds-calls-call-index
+bounds-calls-call-index c = omega arith
+
+pub offset_bounds-written-sector : goal.offset_bounds-written-sector
+offset_bounds-written-sector c = grind (arith, common_steps)
+
+pub bounds-written-sector : goal.bounds-written-sector
+bounds-written-sector c = grind (arith, common_steps)
+
+pub number_at-requires : goal.number_at-requires
+number_at-requires c = omega arith
+
+pub offset_bounds-image-sector : goal.offset_bounds-image-sector
+offset_bounds-image-sector c = grind (arith, common_steps)
+
+pub bounds-image-sector : goal.bounds-image-sector
+bounds-image-sector c = grind (arith, common_steps)
+
+pub overflow_add-written : goal.overflow_add-written
+overflow_add-written c = omega arith
+
+pub offset_bounds-written-sector-in-Write : goal.offset_bounds-written-sector-in-Write
+offset_bounds-written-sector-in-Write c = grind (arith, common_steps)
+
+pub bounds-written-sector-in-Write : goal.bounds-written-sector-in-Write
+bounds-written-sector-in-Write c = grind (arith, common_steps)
+
+pub loop-call-smaller : goal.loop-call-smaller
+loop-call-smaller c = omega arith
+
+pub returns-clause-whole : goal.returns-clause-whole
+returns-clause-whole c = grind arith
+
+pub returns-clause-image : goal.returns-clause-image
+returns-clause-image c = grind (arith, common_steps)

@@ -1,4 +1,4 @@
-use Rattle.std.proofs.Common.{Err, subst, ◌<◌, ◌∙◌, ◌++◌, [], List, ℕ, arith, length, refl, sym, take}
+use Rattle.std.proofs.Common.{Err, subst, ◌<◌, ◌∙◌, ◌++◌, [], List, ℕ, arith, length, refl, sym, take, rules}
 use Rattle.ng_text.specs.Split.{HasNoNewline}
 use Rattle.ng_schedule.specs.Private.Parts.{IsUnderWay}
 use Rattle.ng_schedule.specs.declared.ending.ScheduleFault.TheVariants.{Reader}
@@ -65,3 +65,69 @@ loop-pass-init g c =
       subst HasNoNewline (sym c.new-2.ensures) tt,
       made.shown,
     )
+
+pub new-requires : goal.new-requires
+new-requires g c κs = grind arith
+
+pub new-requires-2 : goal.new-requires-2
+new-requires-2 g c = omega arith
+
+pub slice_bounds-read-end : goal.slice_bounds-read-end
+slice_bounds-read-end g c = omega arith
+
+pub read-requires : goal.read-requires
+read-requires g c κs = grind arith
+
+pub drop-splitter-requires : goal.drop-splitter-requires
+drop-splitter-requires g c κs = search rules
+
+pub drop-splitter-requires-in-Err-read : goal.drop-splitter-requires-in-Err-read
+drop-splitter-requires-in-Err-read g c κs = search rules
+
+pub drop-splitter-requires-in-Err-read-2 : goal.drop-splitter-requires-in-Err-read-2
+drop-splitter-requires-in-Err-read-2 g c κs = search rules
+
+pub close-requires : goal.close-requires
+close-requires g c = grind arith
+
+pub drop-splitter-requires-in-Ok-eq0 : goal.drop-splitter-requires-in-Ok-eq0
+drop-splitter-requires-in-Ok-eq0 g c κs = search rules
+
+pub drop-splitter-requires-in-Ok-eq0-2 : goal.drop-splitter-requires-in-Ok-eq0-2
+drop-splitter-requires-in-Ok-eq0-2 g c κs = search rules
+
+pub drop-splitter-requires-in-Ok-eq0-3 : goal.drop-splitter-requires-in-Ok-eq0-3
+drop-splitter-requires-in-Ok-eq0-3 g c κs = search rules
+
+pub slice_bounds-buffer-end : goal.slice_bounds-buffer-end
+slice_bounds-buffer-end g c = grind arith
+
+pub slice_bounds-take-end : goal.slice_bounds-take-end
+slice_bounds-take-end g c = grind arith
+
+pub take-requires : goal.take-requires
+take-requires g c = grind arith
+
+pub stop-requires : goal.stop-requires
+stop-requires g c κs = grind arith
+
+pub drop-splitter-requires-in-Err-take : goal.drop-splitter-requires-in-Err-take
+drop-splitter-requires-in-Err-take g c κs = search rules
+
+pub drop-splitter-requires-in-Err-take-2 : goal.drop-splitter-requires-in-Err-take-2
+drop-splitter-requires-in-Err-take-2 g c κs = search rules
+
+pub drop-splitter-requires-in-Err-take-3 : goal.drop-splitter-requires-in-Err-take-3
+drop-splitter-requires-in-Err-take-3 g c κs = search rules
+
+pub loop-pass-smaller : goal.loop-pass-smaller
+loop-pass-smaller g c = omega arith
+
+pub drop-splitter-requires-2 : goal.drop-splitter-requires-2
+drop-splitter-requires-2 g c κs = search rules
+
+pub drop-splitter-requires-3 : goal.drop-splitter-requires-3
+drop-splitter-requires-3 g c κs = search rules
+
+pub drop-splitter-requires-4 : goal.drop-splitter-requires-4
+drop-splitter-requires-4 g c κs = search rules

@@ -1,4 +1,4 @@
-use Rattle.std.proofs.Common.{◌∙◌, ap, sym, Ok}
+use Rattle.std.proofs.Common.{◌∙◌, ap, sym, Ok, arith}
 use Rattle.ng_block.specs.Program.{TermsModel, executed_after}
 use Rattle.ng_session.specs.Entries.{done_of}
 use Rattle.ng_session.proofs.ShortLineLemmas.{after_short}
@@ -17,3 +17,9 @@ returns-in-Ok g c =
       short = after_short (Ok c.in-Ok.effect) _ _ _ c.args.text.now _ c.in-Ok.ensures;
       stands = rw (← c.stored.view_is) (after-stands (Ok c.in-Ok.effect) _ _ _ c.args.text.now _ c.terms_over-terms.ensures.few c.in-Ok.ensures);
     }
+
+pub terms_over-terms-requires : goal.terms_over-terms-requires
+terms_over-terms-requires g c κs = grind arith
+
+pub execute_after-requires : goal.execute_after-requires
+execute_after-requires g c κs = grind arith

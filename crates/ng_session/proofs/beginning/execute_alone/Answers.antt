@@ -1,4 +1,4 @@
-use Rattle.std.proofs.Common.{◌∙◌, ap, sym, Ok}
+use Rattle.std.proofs.Common.{◌∙◌, ap, sym, Ok, arith}
 use Rattle.ng_block.specs.Program.{TermsModel, executed_unless_deleted}
 use Rattle.ng_session.specs.Entries.{done_of}
 use Rattle.ng_session.proofs.ShortLineLemmas.{alone_short}
@@ -14,3 +14,9 @@ returns-in-Ok g c =
       short = alone_short (Ok c.in-Ok.effect) _ _ c.args.text.now _ c.in-Ok.ensures;
       stands = rw (← c.stored.view_is) (alone-stands (Ok c.in-Ok.effect) _ _ c.args.text.now _ c.terms_over-terms.ensures.few c.in-Ok.ensures);
     }
+
+pub terms_over-terms-requires : goal.terms_over-terms-requires
+terms_over-terms-requires g c κs = grind arith
+
+pub execute_unless_deleted-requires : goal.execute_unless_deleted-requires
+execute_unless_deleted-requires g c κs = grind arith

@@ -1,4 +1,4 @@
-use Rattle.std.proofs.Common.{◌∙◌, ap, sym, Ok}
+use Rattle.std.proofs.Common.{◌∙◌, ap, sym, Ok, arith}
 use Rattle.ng_block.specs.Effects.{executed}
 use Rattle.ng_block.specs.Program.{TermsModel}
 use Rattle.ng_session.specs.Entries.{done_again}
@@ -13,3 +13,12 @@ returns-in-Ok g c =
           (sym c.terms_over-terms.ensures.terms) ∙ rw (← c.stored.view_is) c.in-Ok.ensures.does;
       stands = rw (← c.stored.view_is) (again-stands (Ok c.in-Ok.effect) _ _ _ _ _ c.terms_over-terms.ensures.few c.in-Ok.ensures.does);
     })
+
+pub terms_over-terms-requires : goal.terms_over-terms-requires
+terms_over-terms-requires g c κs = grind arith
+
+pub as_slice-requires : goal.as_slice-requires
+as_slice-requires g c = omega arith
+
+pub execute-requires : goal.execute-requires
+execute-requires g c κs = grind arith

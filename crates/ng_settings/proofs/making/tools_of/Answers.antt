@@ -1,3 +1,4 @@
+use Rattle.std.proofs.lemmas.Grind.{common_steps}
 use Rattle.std.proofs.Common.{◌≡◌, ◌<◌, ◌+◌, pos, length, sym, rules, arith, append_assoc, length-append, to_z, of_z, w64, ◌∙◌}
 use Rattle.ng_settings.proofs.BoundLemmas.{head_within}
 use Rattle.ng_settings.proofs.LengthLemmas.{numbers_from, with_number, with_other}
@@ -43,3 +44,39 @@ loop-value-preserved c =
             fits = before.fits;
           }))
     ]
+
+pub new-tools-requires : goal.new-tools-requires
+new-tools-requires c = omega arith
+
+pub deref-value-items-requires : goal.deref-value-items-requires
+deref-value-items-requires c κs = search rules
+
+pub loop-value-init : goal.loop-value-init
+loop-value-init c = grind arith
+
+pub offset_bounds-value-items-value-index : goal.offset_bounds-value-items-value-index
+offset_bounds-value-items-value-index c = omega arith
+
+pub bounds-value-items-value-index : goal.bounds-value-items-value-index
+bounds-value-items-value-index c = omega arith
+
+pub as_integer-requires : goal.as_integer-requires
+as_integer-requires c = omega arith
+
+pub slots-requires : goal.slots-requires
+slots-requires c = omega arith
+
+pub returns-then-slots-eq-SLOTS : goal.returns-then-slots-eq-SLOTS
+returns-then-slots-eq-SLOTS c = grind (arith, common_steps)
+
+pub push-requires-clause-fits : goal.push-requires-clause-fits
+push-requires-clause-fits c = omega arith
+
+pub push-requires-clause-tool : goal.push-requires-clause-tool
+push-requires-clause-tool c = grind arith
+
+pub loop-value-smaller : goal.loop-value-smaller
+loop-value-smaller c = omega arith
+
+pub returns : goal.returns
+returns c = grind (arith, common_steps)

@@ -1,4 +1,4 @@
-use Rattle.std.proofs.Common.{◌∙◌, sym}
+use Rattle.std.proofs.Common.{◌∙◌, sym, arith, rules}
 use Rattle.ng_cycles.specs.Faults.{names_no_axis}
 use Rattle.ng_cycles.proofs.ValidCycleLemmas.{valid_far, valid_axis, valid_r, valid_hole, valid_travel, valid_ok, not_true, not_false, some_not_none, lengths_x}
 use Rattle.ng_cycles.proofs.canned.Canned.of.Goals as goal
@@ -49,3 +49,33 @@ returns c =
     (sym c.in-Some.is ∙ c.lengths.ensures)
     (rw c.over-in_force.ensures at c.in-Ok-drill_in.ensures.drill)
     (sym c.leaves_travel.ensures.leaves ∙ c.if-leaves_travel.false)
+
+pub over-in_force-requires : goal.over-in_force-requires
+over-in_force-requires c = omega arith
+
+pub optional_lengths_of-requires : goal.optional_lengths_of-requires
+optional_lengths_of-requires c = omega arith
+
+pub names_axis-requires : goal.names_axis-requires
+names_axis-requires c = omega arith
+
+pub is_none-requires : goal.is_none-requires
+is_none-requires c κs = search rules
+
+pub returns-then-is_none : goal.returns-then-is_none
+returns-then-is_none c = grind arith
+
+pub lengths-requires : goal.lengths-requires
+lengths-requires c = omega arith
+
+pub drill_in-requires-clause-some : goal.drill_in-requires-clause-some
+drill_in-requires-clause-some c = omega arith
+
+pub drill_in-requires-clause-y : goal.drill_in-requires-clause-y
+drill_in-requires-clause-y c = grind arith
+
+pub leaves_travel-requires : goal.leaves_travel-requires
+leaves_travel-requires c = grind arith
+
+pub invariant_of-result : goal.invariant_of-result
+invariant_of-result c = grind arith

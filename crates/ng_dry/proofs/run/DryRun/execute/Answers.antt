@@ -1,4 +1,4 @@
-use Rattle.std.proofs.Common.{◌∷◌, ◌++◌, ◌∙◌, ap, sym, ◌+◌, Ok, Err, None}
+use Rattle.std.proofs.Common.{◌∷◌, ◌++◌, ◌∙◌, ap, sym, ◌+◌, Ok, Err, None, arith}
 use Rattle.ng_dry.specs.Private.Parts.{DryRunModel, due, outcome_by}
 use Rattle.ng_words.specs.Start.{kind_of}
 use Rattle.ng_block.specs.Effects.{in_state}
@@ -82,3 +82,54 @@ returns-clause-step g c =
     (here.number + 1) more) tt
     (λ more. due-next here c.args.self.now c.args.line.now done more c.self.view_is c.in-Ok.ensures
     (sym c.is_end.ensures ∙ c.if-is_end.false)) c.in_default.ensures)
+
+pub execute_after-requires : goal.execute_after-requires
+execute_after-requires g c κs = grind arith
+
+pub refuse-requires : goal.refuse-requires
+refuse-requires g c κs = grind arith
+
+pub returns-in-Ok-refuse-clause-step : goal.returns-in-Ok-refuse-clause-step
+returns-in-Ok-refuse-clause-step g c = grind arith
+
+pub returns-in-Ok-refuse-clause-number : goal.returns-in-Ok-refuse-clause-number
+returns-in-Ok-refuse-clause-number g c = grind arith
+
+pub returns-in-Err-refuse-clause-step : goal.returns-in-Err-refuse-clause-step
+returns-in-Err-refuse-clause-step g c = grind arith
+
+pub returns-in-Err-refuse-clause-number : goal.returns-in-Err-refuse-clause-number
+returns-in-Err-refuse-clause-number g c = grind arith
+
+pub put_effect-requires : goal.put_effect-requires
+put_effect-requires g c κs = grind arith
+
+pub returns-in-Err-put_effect-clause-number : goal.returns-in-Err-put_effect-clause-number
+returns-in-Err-put_effect-clause-number g c = grind arith
+
+pub as_slice-requires : goal.as_slice-requires
+as_slice-requires g c = omega arith
+
+pub take_over-requires : goal.take_over-requires
+take_over-requires g c κs = grind arith
+
+pub first_kind-self-inside-requires : goal.first_kind-self-inside-requires
+first_kind-self-inside-requires g c = omega arith
+
+pub is_end-requires : goal.is_end-requires
+is_end-requires g c = omega arith
+
+pub end-requires : goal.end-requires
+end-requires g c κs = grind arith
+
+pub returns-in-Ok-end-clause-number : goal.returns-in-Ok-end-clause-number
+returns-in-Ok-end-clause-number g c = grind arith
+
+pub returns-in-Err-end-clause-number : goal.returns-in-Err-end-clause-number
+returns-in-Err-end-clause-number g c = grind arith
+
+pub overflow_add-self : goal.overflow_add-self
+overflow_add-self g c = grind arith
+
+pub returns-clause-number : goal.returns-clause-number
+returns-clause-number g c = grind arith

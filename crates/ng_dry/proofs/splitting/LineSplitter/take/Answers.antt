@@ -1,4 +1,5 @@
-use Rattle.std.proofs.Common.{◌++◌, ap, arith, length, length-append, Ok, Err, None, Some}
+use Rattle.std.proofs.lemmas.Grind.{common_steps}
+use Rattle.std.proofs.Common.{◌++◌, ap, arith, length, length-append, Ok, Err, None, Some, rules}
 use Rattle.ng_dry.specs.Private.Parts.{rest_of}
 use Rattle.ng_dry.proofs.RunPartLemmas.{LineStepSpec-next, LineStepSpec-after}
 use Rattle.ng_dry.proofs.splitting.LineSplitter.take.Goals as goal
@@ -41,3 +42,45 @@ returns-in-Err-clause-step g c =
 
 pub returns-clause-step : goal.returns-clause-step
 returns-clause-step g c = LineStepSpec-after _ _ _ _ _ _ _ c.loop-line.invariant.goes c.keep.ensures.step
+
+pub loop-line-init : goal.loop-line-init
+loop-line-init g c = search rules
+
+pub split_line-requires : goal.split_line-requires
+split_line-requires g c = omega arith
+
+pub end_line-requires-clause-partial : goal.end_line-requires-clause-partial
+end_line-requires-clause-partial g c = grind arith
+
+pub end_line-requires-clause-line : goal.end_line-requires-clause-line
+end_line-requires-clause-line g c = grind arith
+
+pub end_line-requires-clause-number : goal.end_line-requires-clause-number
+end_line-requires-clause-number g c = omega arith
+
+pub loop-line-smaller : goal.loop-line-smaller
+loop-line-smaller g c = grind (arith, common_steps)
+
+pub returns-in-Ok-Some-clause-partial : goal.returns-in-Ok-Some-clause-partial
+returns-in-Ok-Some-clause-partial g c = grind arith
+
+pub returns-in-Ok-Some-clause-number : goal.returns-in-Ok-Some-clause-number
+returns-in-Ok-Some-clause-number g c = grind (arith, common_steps)
+
+pub returns-in-Err-clause-partial : goal.returns-in-Err-clause-partial
+returns-in-Err-clause-partial g c = grind arith
+
+pub returns-in-Err-clause-number : goal.returns-in-Err-clause-number
+returns-in-Err-clause-number g c = grind (arith, common_steps)
+
+pub keep-requires-clause-partial : goal.keep-requires-clause-partial
+keep-requires-clause-partial g c = grind arith
+
+pub keep-requires-clause-bytes : goal.keep-requires-clause-bytes
+keep-requires-clause-bytes g c = grind arith
+
+pub returns-clause-partial : goal.returns-clause-partial
+returns-clause-partial g c = grind arith
+
+pub returns-clause-number : goal.returns-clause-number
+returns-clause-number g c = omega arith

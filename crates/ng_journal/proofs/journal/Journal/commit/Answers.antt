@@ -1,4 +1,4 @@
-use Rattle.std.proofs.Common.{refl}
+use Rattle.std.proofs.Common.{refl, arith}
 use Rattle.ng_rig.proofs.GuaranteeLemmas.{meaning}
 use Rattle.ng_journal.proofs.ProgramHeldLemmas.{area_few}
 use Rattle.ng_journal.proofs.ProgramLimitLemmas.{with_limit}
@@ -18,3 +18,42 @@ returns-clause-stores g c =
       | in-Err w ↦ rw w.result-is (rw w.self-inside-is (rw (← c.self.view_is) (meaning c.store.ensures.stores
           (λ s. entry_not_stored _ c.store.result _ _ limited _ _ s))))
     ]
+
+pub is_used_up_between-requires : goal.is_used_up_between-requires
+is_used_up_between-requires g c κs = grind arith
+
+pub store-requires-clause-sectors : goal.store-requires-clause-sectors
+store-requires-clause-sectors g c = omega arith
+
+pub store-requires-clause-tip : goal.store-requires-clause-tip
+store-requires-clause-tip g c = grind arith
+
+pub store-requires-clause-one : goal.store-requires-clause-one
+store-requires-clause-one g c = grind arith
+
+pub store-requires-clause-epoch : goal.store-requires-clause-epoch
+store-requires-clause-epoch g c = grind arith
+
+pub store-requires-clause-old : goal.store-requires-clause-old
+store-requires-clause-old g c = grind arith
+
+pub store-requires-clause-new : goal.store-requires-clause-new
+store-requires-clause-new g c = grind arith
+
+pub store-requires-clause-long : goal.store-requires-clause-long
+store-requires-clause-long g c = grind arith
+
+pub take_state-requires-clause-own : goal.take_state-requires-clause-own
+take_state-requires-clause-own g c = omega arith
+
+pub take_state-requires-clause-other : goal.take_state-requires-clause-other
+take_state-requires-clause-other g c = omega arith
+
+pub invariant_of-self : goal.invariant_of-self
+invariant_of-self g c = grind arith
+
+pub returns-clause-keeps : goal.returns-clause-keeps
+returns-clause-keeps g c = grind arith
+
+pub returns-clause-call : goal.returns-clause-call
+returns-clause-call g c = grind arith

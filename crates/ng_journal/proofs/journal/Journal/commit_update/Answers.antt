@@ -1,4 +1,4 @@
-use Rattle.std.proofs.Common.{◌≤◌, ◌∙◌, List, length, refl, sym, ap, subst}
+use Rattle.std.proofs.Common.{◌≤◌, ◌∙◌, List, length, refl, sym, ap, subst, arith}
 use Rattle.ng_rig.proofs.GuaranteeLemmas.{meaning}
 use Rattle.ng_params.specs.declared.change.Change.{Change}
 use Rattle.ng_layout.specs.Update.{UpdateModel, updated}
@@ -31,3 +31,30 @@ returns-clause-stores g c =
       | in-Err w ↦ rw w.result-is (rw w.self-inside-is (rw (← c.self.view_is) (meaning c.store_update.ensures.stores
           (λ s. entry_not_stored _ c.store_update.result _ _ next _ _ s))))
     ]
+
+pub store_update-requires-clause-sectors : goal.store_update-requires-clause-sectors
+store_update-requires-clause-sectors g c = omega arith
+
+pub store_update-requires-clause-tip : goal.store_update-requires-clause-tip
+store_update-requires-clause-tip g c = grind arith
+
+pub store_update-requires-clause-settled : goal.store_update-requires-clause-settled
+store_update-requires-clause-settled g c = grind arith
+
+pub store_update-requires-clause-epoch : goal.store_update-requires-clause-epoch
+store_update-requires-clause-epoch g c = grind arith
+
+pub store_update-requires-clause-old : goal.store_update-requires-clause-old
+store_update-requires-clause-old g c = grind arith
+
+pub store_update-requires-clause-new : goal.store_update-requires-clause-new
+store_update-requires-clause-new g c = grind arith
+
+pub invariant_of-self : goal.invariant_of-self
+invariant_of-self g c = grind arith
+
+pub returns-clause-keeps : goal.returns-clause-keeps
+returns-clause-keeps g c = grind arith
+
+pub returns-clause-call : goal.returns-clause-call
+returns-clause-call g c = grind arith

@@ -140,3 +140,87 @@ invariant_of-self g c =
     rw c.beginning-self-inside.ensures
     (subst (λ (x : StoredModel). IsSteady (g.R.Rig.seen c.load.new.rig).sectors c.next_header-next.result
     no_records x) (sym c.take_state.ensures) steady)
+
+pub returns-then-text-self-clause-stores : goal.returns-then-text-self-clause-stores
+returns-then-text-self-clause-stores g c = grind arith
+
+pub returns-then-text-self-clause-keeps : goal.returns-then-text-self-clause-keeps
+returns-then-text-self-clause-keeps g c = omega arith
+
+pub returns-then-text-self-clause-fails : goal.returns-then-text-self-clause-fails
+returns-then-text-self-clause-fails g c = grind arith
+
+pub returns-then-text-self-clause-call : goal.returns-then-text-self-clause-call
+returns-then-text-self-clause-call g c = grind arith
+
+pub is_used_up-requires : goal.is_used_up-requires
+is_used_up-requires g c κs = grind arith
+
+pub returns-then-is_used_up-clause-stores : goal.returns-then-is_used_up-clause-stores
+returns-then-is_used_up-clause-stores g c = grind arith
+
+pub returns-then-is_used_up-clause-keeps : goal.returns-then-is_used_up-clause-keeps
+returns-then-is_used_up-clause-keeps g c = omega arith
+
+pub returns-then-is_used_up-clause-call : goal.returns-then-is_used_up-clause-call
+returns-then-is_used_up-clause-call g c = grind arith
+
+pub size-requires : goal.size-requires
+size-requires g c κs = grind arith
+
+pub spare_area-area-requires : goal.spare_area-area-requires
+spare_area-area-requires g c = grind arith
+
+pub next_header-next-requires : goal.next_header-next-requires
+next_header-next-requires g c = grind arith
+
+pub load-requires-clause-least : goal.load-requires-clause-least
+load-requires-clause-least g c = omega arith
+
+pub load-requires-clause-counted : goal.load-requires-clause-counted
+load-requires-clause-counted g c = grind arith
+
+pub load-requires-clause-area : goal.load-requires-clause-area
+load-requires-clause-area g c = grind arith
+
+pub load-requires-clause-apart : goal.load-requires-clause-apart
+load-requires-clause-apart g c = omega arith
+
+pub load-requires-clause-sectors : goal.load-requires-clause-sectors
+load-requires-clause-sectors g c = grind arith
+
+pub load-requires-clause-short : goal.load-requires-clause-short
+load-requires-clause-short g c = grind arith
+
+pub load-requires-clause-count : goal.load-requires-clause-count
+load-requires-clause-count g c = grind arith
+
+pub load-requires-clause-storable : goal.load-requires-clause-storable
+load-requires-clause-storable g c = grind arith
+
+pub load-requires-clause-long : goal.load-requires-clause-long
+load-requires-clause-long g c = omega arith
+
+pub load-requires-clause-format : goal.load-requires-clause-format
+load-requires-clause-format g c = grind arith
+
+pub take_state-requires-clause-own : goal.take_state-requires-clause-own
+take_state-requires-clause-own g c = omega arith
+
+pub take_state-requires-clause-other : goal.take_state-requires-clause-other
+take_state-requires-clause-other g c = grind arith
+
+pub beginning-self-inside-requires : goal.beginning-self-inside-requires
+beginning-self-inside-requires g c = omega arith
+
+pub invariant_of-self-in-Err : goal.invariant_of-self-in-Err
+invariant_of-self-in-Err g c = grind arith
+
+pub returns-in-Ok-clause-call : goal.returns-in-Ok-clause-call
+returns-in-Ok-clause-call g c = grind arith
+
+pub returns-in-Err-clause-keeps : goal.returns-in-Err-clause-keeps
+returns-in-Err-clause-keeps g c = omega arith
+
+pub returns-in-Err-clause-call : goal.returns-in-Err-clause-call
+returns-in-Err-clause-call g c = grind arith

@@ -1,4 +1,4 @@
-use Rattle.std.proofs.Common.{◌≡◌, ◌≤◌, ◌∙◌, ℕ, Some, None, refl, sym, ap, subst}
+use Rattle.std.proofs.Common.{◌≡◌, ◌≤◌, ◌∙◌, ℕ, Some, None, refl, sym, ap, subst, arith}
 use Rattle.ng_params.proofs.DifferenceLemmas.{differences-none}
 use Rattle.ng_layout.specs.Limits.{greatest_count}
 use Rattle.ng_layout.specs.Stored.{DecodedStateModel}
@@ -19,3 +19,27 @@ returns-clause-fails g c =
     let count = ap (λ (d : DecodedStateModel). d.entries) c.decoded_with-decoded.ensures ∙ saved_is in
     opens_as c.commit_update.result c.args.half.now _ c.args.self.now c.commit_update.new.self few count refl
     c.commit_update.ensures.fails
+
+pub copy-requires : goal.copy-requires
+copy-requires g c = omega arith
+
+pub decoded_with-decoded-requires : goal.decoded_with-decoded-requires
+decoded_with-decoded-requires g c κs = grind arith
+
+pub slice_bounds-commit_update-end : goal.slice_bounds-commit_update-end
+slice_bounds-commit_update-end g c = omega arith
+
+pub commit_update-requires-clause-whole : goal.commit_update-requires-clause-whole
+commit_update-requires-clause-whole g c = grind arith
+
+pub commit_update-requires-clause-storable : goal.commit_update-requires-clause-storable
+commit_update-requires-clause-storable g c = grind arith
+
+pub returns-clause-stores : goal.returns-clause-stores
+returns-clause-stores g c = grind arith
+
+pub returns-clause-keeps : goal.returns-clause-keeps
+returns-clause-keeps g c = grind arith
+
+pub returns-clause-call : goal.returns-clause-call
+returns-clause-call g c = grind arith

@@ -1,4 +1,4 @@
-use Rattle.std.proofs.Common.{◌∙◌, ℕ, take, drop, sym, ap}
+use Rattle.std.proofs.Common.{◌∙◌, ℕ, take, drop, sym, ap, arith}
 use Rattle.std.proofs.lemmas.List.{take_min, drop_min}
 use Rattle.ng_log.specs.RecordChanges.{changes_left}
 use Rattle.ng_log.proofs.DifferencePieceLemmas.{taken-piece, taken-rest}
@@ -24,3 +24,24 @@ returns-in-Listed-clause-rest g c =
     let changes = c.in-Listed.changes.now in
     c.split_at.ensures.back ∙ ap (λ (n : ℕ). drop n changes) c.min.ensures ∙ drop_min 48 changes
     ∙ ap (λ s. drop 48 (changes_left s)) (sym c.in-Listed.is)
+
+pub next_differences-piece-requires : goal.next_differences-piece-requires
+next_differences-piece-requires g c = grind arith
+
+pub min-requires : goal.min-requires
+min-requires g c = omega arith
+
+pub split_at-requires : goal.split_at-requires
+split_at-requires g c = omega arith
+
+pub try_from-requires : goal.try_from-requires
+try_from-requires g c = omega arith
+
+pub unwrap-requires : goal.unwrap-requires
+unwrap-requires g c = grind arith
+
+pub returns-in-Between-clause-compared : goal.returns-in-Between-clause-compared
+returns-in-Between-clause-compared g c = omega arith
+
+pub returns-in-Listed-clause-compared : goal.returns-in-Listed-clause-compared
+returns-in-Listed-clause-compared g c = omega arith

@@ -1,4 +1,4 @@
-use Rattle.std.proofs.Common.{◌≡◌, ◌∙◌, ◌+◌, ◌≤◌, [], ap, length, refl, subst, sym, false}
+use Rattle.std.proofs.Common.{◌≡◌, ◌∙◌, ◌+◌, ◌≤◌, [], ap, length, refl, subst, sym, false, arith}
 use Rattle.ng_pace.specs.Stream.{Flow}
 use Rattle.ng_schedule.specs.Private.Parts.{IsFull}
 use Rattle.ng_schedule.proofs.ScheduleRunLemmas.{cut, told}
@@ -42,3 +42,45 @@ returns-in-Ok-true-give_next-clause-step g c limits start bytes partial here ful
 
 pub returns-in-Err-clause-step : goal.returns-in-Err-clause-step
 returns-in-Err-clause-step g c limits start bytes partial here full = c.in-Err.ensures.step false limits start bytes partial here (λ no. full)
+
+pub give_next-requires : goal.give_next-requires
+give_next-requires g c κs = grind arith
+
+pub returns-in-Ok-true-clause-step : goal.returns-in-Ok-true-clause-step
+returns-in-Ok-true-clause-step g c = grind arith
+
+pub returns-in-Ok-true-clause-one : goal.returns-in-Ok-true-clause-one
+returns-in-Ok-true-clause-one g c = grind arith
+
+pub returns-in-Ok-true-clause-shown : goal.returns-in-Ok-true-clause-shown
+returns-in-Ok-true-clause-shown g c = grind arith
+
+pub returns-in-Err-clause-one : goal.returns-in-Err-clause-one
+returns-in-Err-clause-one g c = omega arith
+
+pub returns-in-Err-clause-shown : goal.returns-in-Err-clause-shown
+returns-in-Err-clause-shown g c = grind arith
+
+pub end-requires : goal.end-requires
+end-requires g c κs = grind arith
+
+pub give_next-requires-2 : goal.give_next-requires-2
+give_next-requires-2 g c κs = grind arith
+
+pub returns-in-Ok-true-give_next-clause-one : goal.returns-in-Ok-true-give_next-clause-one
+returns-in-Ok-true-give_next-clause-one g c = grind arith
+
+pub returns-in-Ok-true-give_next-clause-shown : goal.returns-in-Ok-true-give_next-clause-shown
+returns-in-Ok-true-give_next-clause-shown g c = grind arith
+
+pub returns-in-Ok-false-give_next-clause-one : goal.returns-in-Ok-false-give_next-clause-one
+returns-in-Ok-false-give_next-clause-one g c = omega arith
+
+pub returns-in-Ok-false-give_next-clause-shown : goal.returns-in-Ok-false-give_next-clause-shown
+returns-in-Ok-false-give_next-clause-shown g c = grind arith
+
+pub returns-in-Err-give_next-clause-one : goal.returns-in-Err-give_next-clause-one
+returns-in-Err-give_next-clause-one g c = omega arith
+
+pub returns-in-Err-give_next-clause-shown : goal.returns-in-Err-give_next-clause-shown
+returns-in-Err-give_next-clause-shown g c = grind arith

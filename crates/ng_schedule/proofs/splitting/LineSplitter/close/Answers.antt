@@ -1,4 +1,5 @@
-use Rattle.std.proofs.Common.{refl}
+use Rattle.std.proofs.lemmas.Grind.{common_steps}
+use Rattle.std.proofs.Common.{refl, arith}
 use Rattle.ng_schedule.proofs.FinishLemmas.{ScheduleSpec-from, not_empty}
 use Rattle.ng_schedule.proofs.EndedLineLemmas.{unended}
 use Rattle.ng_schedule.proofs.RunStepLemmas.{without_partial}
@@ -11,3 +12,15 @@ returns g c limits start bytes here =
     ScheduleSpec-from limits _ _ _ bytes start _ c.refuse.result refl parts.2
     (c.refuse.ensures limits start parts.0 partial parts.1 (not_empty partial c.is_empty.result c.is_empty.ensures c.if-is_empty.false)
     (unended partial c.requires))
+
+pub is_empty-requires : goal.is_empty-requires
+is_empty-requires g c = omega arith
+
+pub finish-requires : goal.finish-requires
+finish-requires g c κs = grind arith
+
+pub returns-then-is_empty : goal.returns-then-is_empty
+returns-then-is_empty g c = grind (arith, common_steps)
+
+pub refuse-requires : goal.refuse-requires
+refuse-requires g c κs = grind arith

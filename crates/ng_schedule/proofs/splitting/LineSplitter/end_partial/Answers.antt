@@ -1,4 +1,4 @@
-use Rattle.std.proofs.Common.{◌≡◌, ◌++◌, ◌∷◌, ◌∙◌, List, ℕ, [], ap, append_assoc, subst, sym}
+use Rattle.std.proofs.Common.{◌≡◌, ◌++◌, ◌∷◌, ◌∙◌, List, ℕ, [], ap, append_assoc, subst, sym, arith}
 use Rattle.ng_text.specs.Split.{HasNoNewline}
 use Rattle.ng_schedule.proofs.EndedLineLemmas.{HasNoNewline-append}
 use Rattle.ng_schedule.proofs.RunStepLemmas.{TakeSpec-from, too_long_to_fit, stops_at_long, without_partial}
@@ -28,3 +28,24 @@ returns-in-Ok-clause-step g c limits start bytes here =
     ∙ ap (λ (l : List ℕ). l ++ 10 ∷ []) (sym text_is)) in
     TakeSpec-from limits start _ _ _ _ _ c.take_line-taken.new.self c.take_line-taken.result bytes_are
     c.clear.ensures (c.take_line-taken.ensures.step limits start parts.0 parts.1)
+
+pub try_extend_from_slice-requires : goal.try_extend_from_slice-requires
+try_extend_from_slice-requires g c = omega arith
+
+pub as_slice-requires : goal.as_slice-requires
+as_slice-requires g c = omega arith
+
+pub clear-requires : goal.clear-requires
+clear-requires g c = omega arith
+
+pub returns-in-Err-clause-partial : goal.returns-in-Err-clause-partial
+returns-in-Err-clause-partial g c = grind arith
+
+pub returns-in-Err-clause-shown : goal.returns-in-Err-clause-shown
+returns-in-Err-clause-shown g c = grind arith
+
+pub returns-in-Ok-clause-partial : goal.returns-in-Ok-clause-partial
+returns-in-Ok-clause-partial g c = grind arith
+
+pub returns-in-Ok-clause-shown : goal.returns-in-Ok-clause-shown
+returns-in-Ok-clause-shown g c = grind arith

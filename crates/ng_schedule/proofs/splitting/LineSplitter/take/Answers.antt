@@ -1,4 +1,5 @@
-use Rattle.std.proofs.Common.{◌≡◌, ◌++◌, ◌∷◌, ◌∙◌, List, ℕ, [], ap, append_assoc, subst, sym}
+use Rattle.std.proofs.lemmas.Grind.{common_steps}
+use Rattle.std.proofs.Common.{◌≡◌, ◌++◌, ◌∷◌, ◌∙◌, List, ℕ, [], ap, append_assoc, subst, sym, arith}
 use Rattle.ng_lines.specs.Lines.{pulse_line}
 use Rattle.ng_schedule.specs.Private.Parts.{IsUnderWay, TakeSpec}
 use Rattle.ng_schedule.proofs.RunStepLemmas.{empty_is, goes_on, stops_within, with_nothing}
@@ -72,3 +73,54 @@ returns-in_default-clause-step g c limits start before here =
     subst (λ (b : List ℕ). TakeSpec limits start (g.W.Write.contents c.loop-left.writer) b
     c.keep.new.self.partial.items c.keep.new.self.schedule c.keep.result) (sym all)
     (c.keep.ensures.step limits start (g.W.Write.contents c.loop-left.writer) (before ++ so_far.0) (so_far.2 limits start before here))
+
+pub loop-left-init : goal.loop-left-init
+loop-left-init g c = grind (arith, common_steps)
+
+pub is_empty-requires : goal.is_empty-requires
+is_empty-requires g c = omega arith
+
+pub take_pulse-requires : goal.take_pulse-requires
+take_pulse-requires g c = omega arith
+
+pub take_read-requires : goal.take_read-requires
+take_read-requires g c κs = grind arith
+
+pub returns-in-Err-clause-partial : goal.returns-in-Err-clause-partial
+returns-in-Err-clause-partial g c = grind arith
+
+pub returns-in-Err-clause-shown : goal.returns-in-Err-clause-shown
+returns-in-Err-clause-shown g c = grind arith
+
+pub loop-left-smaller-in-loop-left : goal.loop-left-smaller-in-loop-left
+loop-left-smaller-in-loop-left g c = grind (arith, common_steps)
+
+pub split_line-requires : goal.split_line-requires
+split_line-requires g c = omega arith
+
+pub end_line-requires-clause-partial : goal.end_line-requires-clause-partial
+end_line-requires-clause-partial g c = grind arith
+
+pub end_line-requires-clause-line : goal.end_line-requires-clause-line
+end_line-requires-clause-line g c = grind arith
+
+pub loop-left-smaller : goal.loop-left-smaller
+loop-left-smaller g c = grind (arith, common_steps)
+
+pub returns-in-Err-end_line-clause-partial : goal.returns-in-Err-end_line-clause-partial
+returns-in-Err-end_line-clause-partial g c = grind arith
+
+pub returns-in-Err-end_line-clause-shown : goal.returns-in-Err-end_line-clause-shown
+returns-in-Err-end_line-clause-shown g c = grind arith
+
+pub keep-requires-clause-partial : goal.keep-requires-clause-partial
+keep-requires-clause-partial g c = grind arith
+
+pub keep-requires-clause-bytes : goal.keep-requires-clause-bytes
+keep-requires-clause-bytes g c = grind arith
+
+pub returns-in_default-clause-partial : goal.returns-in_default-clause-partial
+returns-in_default-clause-partial g c = grind arith
+
+pub returns-in_default-clause-shown : goal.returns-in_default-clause-shown
+returns-in_default-clause-shown g c = grind arith

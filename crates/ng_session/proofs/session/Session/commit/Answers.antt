@@ -1,4 +1,4 @@
-use Rattle.std.proofs.Common.{◌≡◌, ◌≢◌, ◌<◌, Option, Some, MatchBool, refl, sym, ◌∙◌, ap, subst}
+use Rattle.std.proofs.Common.{◌≡◌, ◌≢◌, ◌<◌, Option, Some, MatchBool, refl, sym, ◌∙◌, ap, subst, arith}
 use Rattle.std.specs.Prelude.{IfSome}
 use Rattle.std.specs.Option.{option_map}
 use Rattle.ng_session.specs.BareBlock.{BareBlock, block_on, IsReady}
@@ -43,3 +43,51 @@ invariant_of-self-2 g c =
           c.take_update.ensures (update.value s refl) off ready in
           rw w.self-inside-is (subst (λ (z : BareBlock). IsSessionInvariant c.take_update.new.self (Some z)) (sym c.end_approach.ensures.next) approach_holds)
     ]
+
+pub invariant_of-self : goal.invariant_of-self
+invariant_of-self g c = grind arith
+
+pub rest-requires : goal.rest-requires
+rest-requires g c κs = grind arith
+
+pub returns-in_default-clause-reply : goal.returns-in_default-clause-reply
+returns-in_default-clause-reply g c = grind arith
+
+pub returns-in_default-clause-next : goal.returns-in_default-clause-next
+returns-in_default-clause-next g c = grind arith
+
+pub returns-in_default-clause-rest_next : goal.returns-in_default-clause-rest_next
+returns-in_default-clause-rest_next g c = grind arith
+
+pub update-update-requires-clause-count : goal.update-update-requires-clause-count
+update-update-requires-clause-count g c = omega arith
+
+pub update-update-requires-clause-storable : goal.update-update-requires-clause-storable
+update-update-requires-clause-storable g c = grind arith
+
+pub update-update-requires-clause-ready : goal.update-update-requires-clause-ready
+update-update-requires-clause-ready g c = grind arith
+
+pub take_update-requires : goal.take_update-requires
+take_update-requires g c = grind arith
+
+pub end_approach-requires : goal.end_approach-requires
+end_approach-requires g c = omega arith
+
+pub after-self-inside-inside-requires : goal.after-self-inside-inside-requires
+after-self-inside-inside-requires g c = omega arith
+
+pub invariant_of-self-inside : goal.invariant_of-self-inside
+invariant_of-self-inside g c = omega arith
+
+pub returns-clause-reply : goal.returns-clause-reply
+returns-clause-reply g c = grind arith
+
+pub returns-clause-next : goal.returns-clause-next
+returns-clause-next g c = grind arith
+
+pub returns-clause-rest_reply : goal.returns-clause-rest_reply
+returns-clause-rest_reply g c = grind arith
+
+pub returns-clause-rest_next : goal.returns-clause-rest_next
+returns-clause-rest_next g c = grind arith

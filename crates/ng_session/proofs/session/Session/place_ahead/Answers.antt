@@ -18,3 +18,27 @@ returns-clause-within g c =
     let long : last.stored.length ≡ s.stored.length = end_length (base_of s) c.args.lines.now.ahead ∙ base_length s.stored s.current in
     let within : last.stored.place ≤ last.stored.length = storable.place in
     omega (arith, within, long, there)
+
+pub is_done-requires : goal.is_done-requires
+is_done-requires g c κs = grind arith
+
+pub ends_at_end-requires : goal.ends_at_end-requires
+ends_at_end-requires g c κs = grind arith
+
+pub returns-then-is_done-clause-place : goal.returns-then-is_done-clause-place
+returns-then-is_done-clause-place g c = omega arith
+
+pub returns-then-is_done-clause-within : goal.returns-then-is_done-clause-within
+returns-then-is_done-clause-within g c = omega arith
+
+pub returns-then-is_done-clause-end : goal.returns-then-is_done-clause-end
+returns-then-is_done-clause-end g c = grind arith
+
+pub place_at_end-requires : goal.place_at_end-requires
+place_at_end-requires g c κs = grind arith
+
+pub returns-clause-place : goal.returns-clause-place
+returns-clause-place g c = grind arith
+
+pub returns-clause-end : goal.returns-clause-end
+returns-clause-end g c = grind arith

@@ -67,3 +67,30 @@ returns-clause-holds g c = λ program lines line.
           (subst (λ (k : KnownModel). IsOneMore f.new.self p k) (sym w.lines-is) w.push.ensures)
       | in-None w ↦ subst (λ (k : KnownModel). AreLinesOf program k.ahead) (sym (w.lines-is ∙ w.end.ensures)) same
     ]
+
+pub find_base-requires : goal.find_base-requires
+find_base-requires g c = grind arith
+
+pub base-requires : goal.base-requires
+base-requires g c κs = grind arith
+
+pub base-requires-2 : goal.base-requires-2
+base-requires-2 g c κs = grind arith
+
+pub plan_line-requires-clause-beginning : goal.plan_line-requires-clause-beginning
+plan_line-requires-clause-beginning g c = grind arith
+
+pub push-requires : goal.push-requires
+push-requires g c = grind arith
+
+pub end-requires : goal.end-requires
+end-requires g c κs = grind arith
+
+pub invariant_of-self : goal.invariant_of-self
+invariant_of-self g c = grind arith
+
+pub returns-clause-session : goal.returns-clause-session
+returns-clause-session g c = grind arith
+
+pub returns-clause-before : goal.returns-clause-before
+returns-clause-before g c = grind arith

@@ -51,3 +51,27 @@ returns-in-Yz-clause-value c =
     closing_at Yz c.args.self c.args.distance.now c.args.net_a c.args.net_b _ _ c.pick_a.result c.pick_b.result
     c.mirrored.result c.in-Yz.is a b (simp to_z-of_z at c.mirrored.ensures.value) (omega (arith, ints))
     (omega (arith, ints))
+
+pub pick_a-requires : goal.pick_a-requires
+pick_a-requires c κs = search rules
+
+pub overflow_sub-a : goal.overflow_sub-a
+overflow_sub-a c = search rules
+
+pub pick_b-requires : goal.pick_b-requires
+pick_b-requires c κs = search rules
+
+pub mirrored-requires : goal.mirrored-requires
+mirrored-requires c = grind arith
+
+pub overflow_sub-b : goal.overflow_sub-b
+overflow_sub-b c = search rules
+
+pub returns-in-Xy-clause-sizes : goal.returns-in-Xy-clause-sizes
+returns-in-Xy-clause-sizes c = search rules
+
+pub returns-in-Xz-clause-sizes : goal.returns-in-Xz-clause-sizes
+returns-in-Xz-clause-sizes c = search rules
+
+pub returns-in-Yz-clause-sizes : goal.returns-in-Yz-clause-sizes
+returns-in-Yz-clause-sizes c = search rules

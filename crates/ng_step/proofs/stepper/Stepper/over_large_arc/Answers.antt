@@ -25,3 +25,93 @@ returns c =
 
 pub pulse_us-period_us-requires-clause-length : goal.pulse_us-period_us-requires-clause-length
 pulse_us-period_us-requires-clause-length c = λ some. arc_length_few _ c.larger.result _ c.larger.ensures c.requires.walkable.step
+
+pub new-walk-requires-clause-arc : goal.new-walk-requires-clause-arc
+new-walk-requires-clause-arc c = grind arith
+
+pub new-walk-requires-clause-small : goal.new-walk-requires-clause-small
+new-walk-requires-clause-small c = omega arith
+
+pub new-walk-requires-clause-some : goal.new-walk-requires-clause-some
+new-walk-requires-clause-some c = omega arith
+
+pub new-walk-requires-clause-a : goal.new-walk-requires-clause-a
+new-walk-requires-clause-a c = omega arith
+
+pub new-walk-requires-clause-b : goal.new-walk-requires-clause-b
+new-walk-requires-clause-b c = omega arith
+
+pub quadrants_to_walk-requires-clause-start : goal.quadrants_to_walk-requires-clause-start
+quadrants_to_walk-requires-clause-start c = omega arith
+
+pub quadrants_to_walk-requires-clause-end : goal.quadrants_to_walk-requires-clause-end
+quadrants_to_walk-requires-clause-end c = omega arith
+
+pub count-count-requires-clause-walks : goal.count-count-requires-clause-walks
+count-count-requires-clause-walks c = grind arith
+
+pub count-count-requires-clause-end_a : goal.count-count-requires-clause-end_a
+count-count-requires-clause-end_a c = omega arith
+
+pub count-count-requires-clause-end_b : goal.count-count-requires-clause-end_b
+count-count-requires-clause-end_b c = omega arith
+
+pub count-count-requires-clause-few : goal.count-count-requires-clause-few
+count-count-requires-clause-few c = omega arith
+
+pub across-across-requires : goal.across-across-requires
+across-across-requires c = omega arith
+
+pub closing_after-closing-requires-clause-a : goal.closing_after-closing-requires-clause-a
+closing_after-closing-requires-clause-a c = grind arith
+
+pub closing_after-closing-requires-clause-b : goal.closing_after-closing-requires-clause-b
+closing_after-closing-requires-clause-b c = grind arith
+
+pub unsigned_abs-requires : goal.unsigned_abs-requires
+unsigned_abs-requires c = omega arith
+
+pub max-requires : goal.max-requires
+max-requires c = omega arith
+
+pub largest-requires : goal.largest-requires
+largest-requires c = omega arith
+
+pub overflow_add-pulses : goal.overflow_add-pulses
+overflow_add-pulses c = omega arith
+
+pub overflow_cast-length : goal.overflow_cast-length
+overflow_cast-length c = omega arith
+
+pub larger-requires : goal.larger-requires
+larger-requires c = omega arith
+
+pub overflow_cast-length-2 : goal.overflow_cast-length-2
+overflow_cast-length-2 c = omega arith
+
+pub overflow_mul-length : goal.overflow_mul-length
+overflow_mul-length c = grind arith
+
+pub pulse_us-period_us-requires-clause-pulses : goal.pulse_us-period_us-requires-clause-pulses
+pulse_us-period_us-requires-clause-pulses c = search rules
+
+pub new-requires-clause-walks : goal.new-requires-clause-walks
+new-requires-clause-walks c = grind arith
+
+pub new-requires-clause-count : goal.new-requires-clause-count
+new-requires-clause-count c = omega arith
+
+pub new-requires-clause-third : goal.new-requires-clause-third
+new-requires-clause-third c = grind arith
+
+pub new-requires-2-clause-x : goal.new-requires-2-clause-x
+new-requires-2-clause-x c = omega arith
+
+pub new-requires-2-clause-y : goal.new-requires-2-clause-y
+new-requires-2-clause-y c = omega arith
+
+pub new-requires-2-clause-z : goal.new-requires-2-clause-z
+new-requires-2-clause-z c = omega arith
+
+pub over-requires : goal.over-requires
+over-requires c = omega arith

@@ -1,4 +1,4 @@
-use Rattle.std.proofs.Common.{arith, ℕ, ◌+◌, ◌-◌, ◌*◌, ◌<◌, ⊎_elim, sym, subst, ◌∙◌, ap}
+use Rattle.std.proofs.Common.{arith, ℕ, ◌+◌, ◌-◌, ◌*◌, ◌<◌, ⊎_elim, sym, subst, ◌∙◌, ap, rules}
 use Rattle.ng_step.specs.Periods.{ceil_div}
 use Rattle.ng_step.specs.Private.Sweeps.{IsLeaving, inner_at, LeavesBefore, IsFirstPast}
 use Rattle.ng_step.proofs.SweepLemmas.{Enters, enters_at_none, enters_below, first_past_is, comes_fits, fits_few}
@@ -42,3 +42,51 @@ returns-clause-first c = first c
 
 pub returns-clause-fits : goal.returns-clause-fits
 returns-clause-fits c = comes_fits c.args.self.now c.args.end _ (first c)
+
+pub overflow_sub-inward : goal.overflow_sub-inward
+overflow_sub-inward c = omega arith
+
+pub outward_to-before-requires : goal.outward_to-before-requires
+outward_to-before-requires c = grind arith
+
+pub overflow_mul-outer : goal.overflow_mul-outer
+overflow_mul-outer c = grind arith
+
+pub overflow_add-outer : goal.overflow_add-outer
+overflow_add-outer c = grind arith
+
+pub overflow_mul-ahead : goal.overflow_mul-ahead
+overflow_mul-ahead c = omega arith
+
+pub overflow_sub-ahead : goal.overflow_sub-ahead
+overflow_sub-ahead c = omega arith
+
+pub overflow_cast-ahead-2 : goal.overflow_cast-ahead-2
+overflow_cast-ahead-2 c = omega arith
+
+pub overflow_mul-ahead-2 : goal.overflow_mul-ahead-2
+overflow_mul-ahead-2 c = grind arith
+
+pub overflow_cast-passed-2 : goal.overflow_cast-passed-2
+overflow_cast-passed-2 c = omega arith
+
+pub overflow_mul-passed : goal.overflow_mul-passed
+overflow_mul-passed c = search rules
+
+pub saturating_sub-requires : goal.saturating_sub-requires
+saturating_sub-requires c = omega arith
+
+pub overflow_cast-end : goal.overflow_cast-end
+overflow_cast-end c = omega arith
+
+pub overflow_mul-self : goal.overflow_mul-self
+overflow_mul-self c = grind arith
+
+pub ceil_div-more-requires-clause-some : goal.ceil_div-more-requires-clause-some
+ceil_div-more-requires-clause-some c = grind arith
+
+pub ceil_div-more-requires-clause-small : goal.ceil_div-more-requires-clause-small
+ceil_div-more-requires-clause-small c = grind arith
+
+pub ceil_div-more-requires-clause-small_b : goal.ceil_div-more-requires-clause-small_b
+ceil_div-more-requires-clause-small_b c = grind arith

@@ -1,4 +1,4 @@
-use Rattle.std.proofs.Common.{arith, ◌+◌, ◌-◌, ap, ◌∙◌}
+use Rattle.std.proofs.Common.{arith, ◌+◌, ◌-◌, ap, ◌∙◌, rules}
 use Rattle.std.proofs.lemmas.Int.{ints}
 use Rattle.ng_canon.specs.declared.plane_point.PlanePoint.{PlanePoint}
 use Rattle.ng_step.specs.Arcs.{net_a, net_b}
@@ -54,3 +54,78 @@ returns-clause-b c = λ ms arc.
     let small_last = c.spot-last.ensures.b in
     stored c.whole_steps-2.result (omega (arith, c.whole_steps-2.ensures.size))
     ∙ c.whole_steps-2.ensures.value (net_b ms) (omega (arith, ints, net.1, first, last))
+
+pub quadrants-init : goal.quadrants-init
+quadrants-init c = grind arith
+
+pub passage-passage-requires : goal.passage-passage-requires
+passage-passage-requires c = grind arith
+
+pub last-requires : goal.last-requires
+last-requires c = omega arith
+
+pub across-leap-requires-clause-walks : goal.across-leap-requires-clause-walks
+across-leap-requires-clause-walks c = grind arith
+
+pub across-leap-requires-clause-from : goal.across-leap-requires-clause-from
+across-leap-requires-clause-from c = omega arith
+
+pub across-leap-requires-clause-last : goal.across-leap-requires-clause-last
+across-leap-requires-clause-last c = grind arith
+
+pub across-leap-requires-clause-fits : goal.across-leap-requires-clause-fits
+across-leap-requires-clause-fits c = omega arith
+
+pub overflow_sub-left : goal.overflow_sub-left
+overflow_sub-left c = omega arith
+
+pub quadrants-smaller : goal.quadrants-smaller
+quadrants-smaller c = omega arith
+
+pub to_end-leap-requires-clause-walks : goal.to_end-leap-requires-clause-walks
+to_end-leap-requires-clause-walks c = grind arith
+
+pub to_end-leap-requires-clause-end_a : goal.to_end-leap-requires-clause-end_a
+to_end-leap-requires-clause-end_a c = omega arith
+
+pub to_end-leap-requires-clause-end_b : goal.to_end-leap-requires-clause-end_b
+to_end-leap-requires-clause-end_b c = omega arith
+
+pub to_end-leap-requires-clause-last : goal.to_end-leap-requires-clause-last
+to_end-leap-requires-clause-last c = omega arith
+
+pub spot-first-requires : goal.spot-first-requires
+spot-first-requires c = grind arith
+
+pub spot-last-requires : goal.spot-last-requires
+spot-last-requires c = grind arith
+
+pub overflow_add-result : goal.overflow_add-result
+overflow_add-result c = omega arith
+
+pub whole_steps-requires-clause-step : goal.whole_steps-requires-clause-step
+whole_steps-requires-clause-step c = omega arith
+
+pub whole_steps-requires-clause-from : goal.whole_steps-requires-clause-from
+whole_steps-requires-clause-from c = grind arith
+
+pub whole_steps-requires-clause-to : goal.whole_steps-requires-clause-to
+whole_steps-requires-clause-to c = grind arith
+
+pub whole_steps-requires-2-clause-step : goal.whole_steps-requires-2-clause-step
+whole_steps-requires-2-clause-step c = omega arith
+
+pub whole_steps-requires-2-clause-from : goal.whole_steps-requires-2-clause-from
+whole_steps-requires-2-clause-from c = grind arith
+
+pub whole_steps-requires-2-clause-to : goal.whole_steps-requires-2-clause-to
+whole_steps-requires-2-clause-to c = search rules
+
+pub returns-clause-bounded : goal.returns-clause-bounded
+returns-clause-bounded c = omega arith
+
+pub returns-clause-size_a : goal.returns-clause-size_a
+returns-clause-size_a c = grind arith
+
+pub returns-clause-size_b : goal.returns-clause-size_b
+returns-clause-size_b c = grind arith

@@ -1,0 +1,66 @@
+use Rattle.std.proofs.lemmas.Grind.{common_steps}
+use Rattle.std.proofs.Common.{arith}
+use Rattle.ng_lines.proofs.reading.take_spindle.Goals as goal
+
+pub bounds-text-0 : goal.bounds-text-0
+bounds-text-0 c = grind arith
+
+pub bounds-text-1 : goal.bounds-text-1
+bounds-text-1 c = grind arith
+
+pub slice_bounds-after-count : goal.slice_bounds-after-count
+slice_bounds-after-count c = omega arith
+
+pub slice_bounds-after-start : goal.slice_bounds-after-start
+slice_bounds-after-start c = omega arith
+
+pub slice_bounds-after-end : goal.slice_bounds-after-end
+slice_bounds-after-end c = omega arith
+
+pub bounds-text-1-in-49-1 : goal.bounds-text-1-in-49-1
+bounds-text-1-in-49-1 c = grind arith
+
+pub slice_bounds-after-count-in-32-text-3 : goal.slice_bounds-after-count-in-32-text-3
+slice_bounds-after-count-in-32-text-3 c = omega arith
+
+pub slice_bounds-after-start-in-32-text-3 : goal.slice_bounds-after-start-in-32-text-3
+slice_bounds-after-start-in-32-text-3 c = omega arith
+
+pub slice_bounds-after-end-in-32-text-3 : goal.slice_bounds-after-end-in-32-text-3
+slice_bounds-after-end-in-32-text-3 c = omega arith
+
+pub bounds-text-1-in-50-1 : goal.bounds-text-1-in-50-1
+bounds-text-1-in-50-1 c = grind arith
+
+pub slice_bounds-after-count-in-32-text-4 : goal.slice_bounds-after-count-in-32-text-4
+slice_bounds-after-count-in-32-text-4 c = omega arith
+
+pub slice_bounds-after-start-in-32-text-4 : goal.slice_bounds-after-start-in-32-text-4
+slice_bounds-after-start-in-32-text-4 c = omega arith
+
+pub slice_bounds-after-end-in-32-text-4 : goal.slice_bounds-after-end-in-32-text-4
+slice_bounds-after-end-in-32-text-4 c = omega arith
+
+pub returns-in-48-clause-found : goal.returns-in-48-clause-found
+returns-in-48-clause-found c = grind (arith, common_steps)
+
+pub returns-in-48-clause-only : goal.returns-in-48-clause-only
+returns-in-48-clause-only c = grind (arith, common_steps)
+
+pub returns-in-49-clause-found : goal.returns-in-49-clause-found
+returns-in-49-clause-found c = grind (arith, common_steps)
+
+pub returns-in-49-clause-only : goal.returns-in-49-clause-only
+returns-in-49-clause-only c = grind (arith, common_steps)
+
+pub returns-in-50-clause-found : goal.returns-in-50-clause-found
+returns-in-50-clause-found c = grind (arith, common_steps)
+
+pub returns-in-50-clause-only : goal.returns-in-50-clause-only
+returns-in-50-clause-only c = grind (arith, common_steps)
+
+pub returns-in_default-clause-found : goal.returns-in_default-clause-found
+returns-in_default-clause-found c = omega arith
+
+pub returns-in_default-clause-only : goal.returns-in_default-clause-only
+returns-in_default-clause-only c = grind arith
