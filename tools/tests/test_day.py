@@ -159,9 +159,12 @@ class Day(InC, PlayerTest):
         self.send("home")
         self.send("T1 M6", "Enter there\n")
         for typed in ("go", "jog X+ 1200 for 3", "jog Z- 1200 for 6", "seek Z- 6 within 1", "touch tool 1 probe",
-                      "G53 G0 Z8", "G43 H1", "jog X+ 1200 for 1", "jog Z- 1200 for 6", "zero X Y", "zero Z 1",
-                      "load part.ngc"):
+                      "G53 G0 Z8", "G43 H1", "jog X+ 1200 for 1", "jog Z- 1200 for 6"):
             self.send(typed)
+        for typed in ("zero X Y", "zero Z 1"):
+            self.send(typed, "moves it: ")
+            self.send("yes")
+        self.send("load part.ngc")
 
     def cut(self) -> None:
         """The door is opened in the midst of line 5, of which 3 of 6 mm are cut then; at a stop the table is moved."""

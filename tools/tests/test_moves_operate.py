@@ -92,7 +92,8 @@ class Moves(Core):
         self.assertEqual(self.do("home")[:3], [f"home: {why}", "reference 0.000000 0.000000 0.000000", "done 1"])
         self.axes.fails = "the probe isn't touched within 1.000 mm"
         self.assertEqual(self.do("seek Z- 60 within 1")[0], "seek Z-: the probe isn't touched within 1.000 mm")
-        self.assertEqual(self.do("zero Z probe"), ["the probe wasn't touched since home: seek Z- RATE within MM"])
+        self.assertEqual(self.do("zero Z probe"), ["the probe wasn't touched since the machine moved last, or its place was"
+                                                   " used: seek Z- RATE within MM"])
         self.face.looks, self.face.holds_at = 0, 2
         self.assertEqual(self.do("jog X+ 600 for 10")[0], "jog X+: stopped")
         self.assertEqual(self.axes.words[-1], "stop")
@@ -171,18 +172,6 @@ class Moves(Core):
         self.assertEqual(self.status().at[0], "2.000000")
         said = self.do("recover")
         self.assertNotIn("recover is for what the last session left, before anything else is done", said)
-
-    def test_probe(self) -> None:
-        """A zero and a length by where the probe was touched, also once the machine is elsewhere; not after home."""
-        self.begin(self.link)
-        self.do("seek Z- 60 within 10", "jog Z+ 600 for 4")
-        self.assertIn("G10 L2 P1 Z-7", self.do("zero Z 2 Probe"))
-        self.assertIn("G10 L2 P1 Z-1.02", self.do("zero Z"))  # 5.02 below, 4 up
-        self.assertEqual(self.do("touch tool 1 -60 probe")[:2],
-                         ["the probe was touched at machine Z -5, and the setter's top is at -60", "tool 1 55"])
-        self.do("home")
-        self.assertEqual(self.do("touch tool 1 -60 probe"),
-                         ["the probe wasn't touched since home: seek Z- RATE within MM"])
 
 
 class Alarms(Core):

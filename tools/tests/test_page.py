@@ -432,13 +432,16 @@ class Moves(Served):
                          ("-290.000000", ["X+", "600", "for", "8"]))
         state = self.moved(page, "seek", {"axis": "Z", "sign": -1, "rate": "60", "within": "10"})
         self.assertEqual(state["touched"], ["-290.000000", "-198.000000", "-5.000000"])
-        state = self.moved(page, "zero", {"axes": {"X": "0", "Z": "10"}})
+        self.assertEqual(page.post("zero", {"axes": {"X": "0", "Z": "10"}}), (200, {}))
+        page.agree(page.asked())  # it is far from the zero before
+        state = page.until("it is over", lambda state: not state["busy"] and state["undo"])
         self.assertEqual((state["work"][0], state["work"][2], state["undo"]),
                          ("0.000000", "10.000000", "G10 L2 P1 X0 Y0 Z0"))
         state = self.moved(page, "undo", {})
         self.assertEqual((state["work"][0], state["undo"]), ("-290.000000", ""))
         self.moved(page, "touch", {"slot": 1, "height": "-9", "probe": True})
-        self.assertEqual(page.until("it is read", lambda state: state["tools"])["tools"], ["4.000000"])
+        state = page.until("it is read", lambda state: state["tools"])
+        self.assertEqual((state["tools"], state["touched"]), (["4.000000"], None))  # its place counts once
         for what, words in (("jog", {"axis": "A", "sign": 1, "rate": "1"}), ("jog", {"axis": "X", "sign": 2}),
                             ("home", {"axes": "ZX"}), ("zero", {"axes": {}}), ("zero", {"axes": {"X": "0 probe"}}),
                             ("seek", {"axis": "Z", "sign": -1, "rate": "60"}), ("touch", {"slot": "1 2"})):

@@ -194,23 +194,33 @@ class Day(Walk):
         self.press("Tool 1 is in", "#run")
         self.rests("s.slot === 1")
         self.tab("Setup")
-        self.browser.press("Z\u2212", "#tab-setup .five button")
+        self.assertTrue(self.is_dead("Tool 1 stands on the setter"))  # it wasn't touched
+        self.press("Z\u2212", "#tab-setup .five button")
         self.rests("s.touched?.[2] === '2.000000'")
         self.browser.fill("input[aria-label='Machine Z of the setter, in mm']", "-48")
-        self.browser.press("Where the probe was touched", "#tab-setup button")
+        self.browser.wait("document.querySelector('#tab-setup').innerText.includes('Length 50.000 mm, 1.500 by now:"
+                          " touched at machine Z 2.000, setter at \u221248.000')")
         self.press("Tool 1 stands on the setter", "#tab-setup button")
-        self.rests("s.tools[0] === '50.000000'")
+        self.press("Yes: sets it", "#over button")
+        self.rests("s.tools[0] === '50.000000' && s.touched === null")  # its place counts once
+        self.assertTrue(self.is_dead("Tool 1 stands on the setter"))
         self.done.append("Tools")
+
+    def is_dead(self, says: str) -> bool:
+        """Whether a button of Setup is disabled; all of its text is in sight."""
+        button = f"[...document.querySelectorAll('#tab-setup button')].find(one => one.textContent === '{says}')"
+        self.assertEqual(self.browser.js(f"{button}.scrollWidth - {button}.clientWidth"), 0)
+        return bool(self.browser.wait(f"{button}.disabled ? 1 : 2") == 1)
 
     def zero(self) -> None:
         """This place is 0 in XY, and 2 in Z, which is taken back, and set."""
-        self.browser.press("Where the probe was touched", "#tab-setup button")
         self.press("Set XY", "#tab-setup button")
+        self.press("Yes: moves it", "#over button")
         self.rests("s.work[0] === '0.000000' && s.work[1] === '0.000000'")
         self.browser.fill("input[aria-label='Work coordinate of this place, in mm']", "2")
         for undoes in (True, False):
             self.press("Set Z", "#tab-setup button")
-            self.rests("s.work[2] === '2.000000'")
+            self.rests("s.work[2] === '2.000000'")  # by less than 5 mm
             if undoes:
                 self.press("Undo", "#tab-setup button")
                 self.rests("s.work[2] === s.at[2]")

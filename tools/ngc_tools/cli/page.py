@@ -19,7 +19,7 @@ from ngc_tools.ngc.usable_settings import look_at_settings
 from ngc_tools.operator.meter import LIMIT, Meter
 from ngc_tools.operator.operator import Operator
 from ngc_tools.operator.recovery import OutFound
-from ngc_tools.operator.setter import read_setter
+from ngc_tools.operator.setter import Setter
 from ngc_tools.operator.synced import SyncedLink
 from ngc_tools.page.face import PageFace
 from ngc_tools.page.server import Server
@@ -147,7 +147,7 @@ class Opener:
         operator = Operator(console, face, meter)
         operator.recover.found = out
         if self.args.machine:
-            operator.touch.setter_nm = read_setter(self.args.machine)
+            operator.touch.know(Setter.read(self.args.machine))
             limits = read_limits(self.args.machine, operator.session.settings.step_nm)
             operator.recover.most_percent = limits.most_percent
         said = bound(self.args, meter, pipe)

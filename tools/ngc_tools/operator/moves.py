@@ -2,6 +2,7 @@
 import re
 import time
 from collections.abc import Callable
+from dataclasses import dataclass
 
 from ngc_tools.formats.device import Device
 from ngc_tools.formats.position import nanometres
@@ -16,7 +17,7 @@ from ngc_tools.operator.motors import Motors
 from ngc_tools.operator.numbers import length_of, nanometres_of
 from ngc_tools.operator.recover import Recover
 from ngc_tools.operator.session import ALARM, BROKEN, Session
-from ngc_tools.player.progress import Link, MoveReport, NoAnswer
+from ngc_tools.player.progress import Link, MoveReport, NoAnswer, Report
 
 ASKED_S = 0.05
 """Between two questions: without one for a second the player brings a move to rest."""
@@ -41,16 +42,30 @@ MoveAnswer = tuple[int, str]
 """The number of a move, and why it is refused; nothing where it is taken."""
 
 
+@dataclass(frozen=True, slots=True)
+class Touched:
+    """Where the probe was touched, in nm, the slot of the tool that was in the spindle, as `ngc` knows it, and how the
+    motors came to rest behind it: where, and behind how many lines of OUT."""
+
+    point_nm: tuple[int, int, int]
+    slot: int | None
+    at: str
+    lines: int
+
+    def is_last(self, report: Report) -> bool:
+        """Whether the motors didn't move since, by what their player says now."""
+        return (report.at, report.received) == (self.at, self.lines)
+
+
 class Moves:
-    """What they do. `do` does a command that is given meanwhile. `touched_nm` is where the probe was touched last, and
-    `touched_by` the slot of the tool that was in the spindle, as `ngc` knows it."""
+    """What they do. `do` does a command that is given meanwhile. `touched` is where the probe was touched, until
+    something else moves or its place was used."""
 
     def __init__(self, session: Session, motors: Motors, left: Left, recover: Recover,
                  alarm: Alarm, do: Callable[[str], None]) -> None:
         self.session, self.motors, self.left, self.recover, self.do = session, motors, left, recover, do
         self.alarm = alarm
-        self.touched_nm: tuple[int, int, int] | None = None
-        self.touched_by: int | None = None
+        self.touched: Touched | None = None
 
     def home(self, rest: str) -> None:
         """Homes all axes, or those that are named."""
@@ -58,7 +73,6 @@ class Moves:
             self._refuse(_FORMS["home"])
         elif self.begins("home"):
             names = "".join(sorted(set("".join(rest.upper().split()))))
-            self.touched_nm = None
             self._go("home", lambda link: link.home(names))
 
     def jog(self, rest: str) -> None:
@@ -79,7 +93,6 @@ class Moves:
         """Goes along an axis until the probe is on."""
         words = self._read("seek", _SEEK, re.sub(r"\s+until\s+probe\b", "", rest, flags=re.IGNORECASE))
         if words and self.begins("seek"):
-            self.touched_nm = None
             self._go(f"seek {words[0]}", lambda link: link.seek(*words))
 
     def begins(self, word: str) -> bool:
@@ -110,6 +123,7 @@ class Moves:
 
     def _go(self, name: str, begin: Callable[[Link], MoveAnswer], keep: Callable[[int], None] | None = None) -> None:
         """Makes a move, and says how it ended. `keep` is called with its number as long as it goes."""
+        self.touched = None
         try:
             number, why = begin(self.session.meter.link)
             if why:
@@ -159,10 +173,23 @@ class Moves:
         elif name == "home":
             self.session.face.say(f"homed: {' '.join(machine.homed)}")
         if name.startswith("seek") and machine.how == DONE and machine.touched:
-            x, y, z = map(nanometres, machine.touched.split())
-            device = self.session.stored()
-            self.touched_nm, self.touched_by = (x, y, z), device.slot if isinstance(device, Device) else None
+            self._keep_touched(machine.touched)
             self.session.face.say(f"the probe was touched at {axes(machine.touched.split())}", SAID)
+
+    def _keep_touched(self, at: str) -> None:
+        """Keeps where the probe was touched."""
+        device, report = self.session.stored(), self.session.report()
+        if report:
+            x, y, z = map(nanometres, at.split())
+            slot = device.slot if isinstance(device, Device) else None
+            self.touched = Touched((x, y, z), slot, report.at, report.received)
+
+    def touched_now(self) -> Touched | None:
+        """Where the probe was touched, if nothing moved since; None else."""
+        report = self.session.report() if self.touched else None
+        if report is None or not self.touched.is_last(report):
+            self.touched = None
+        return self.touched
 
     def tell(self) -> None:
         """Tells `ngc` where the machine is now."""

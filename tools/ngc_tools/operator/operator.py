@@ -274,7 +274,7 @@ class Operator:
             self.left.keep()
         self.places.reference(typed.rest.lower().split(), typed.anyway)
         if typed.rest.lower() != "player":
-            self.moves.touched_nm = None
+            self.moves.touched = None
 
     def _recover(self, _: Typed) -> None:
         """Brings the motors to where a half-done segment begins, and takes it up."""

@@ -100,9 +100,14 @@ class Pictured:
         machine = self.stand.machine
         if machine is None:
             return {"machine": None, "homed": "", "alarm": "", "left": "", "inputs": [], "touched": None}
-        touched = machine.touched.split() if machine.touched else None
         return {"machine": machine.does, "homed": machine.homed, "alarm": machine.alarm, "left": self._left,
-                "inputs": machine.on, "touched": touched}
+                "inputs": machine.on, "touched": self._touched()}
+
+    def _touched(self) -> list[str] | None:
+        """Where the probe was touched, as long as that can be used: nothing moved since, and the tool is the same."""
+        touched, report = self.operator.moves.touched, self.report
+        is_good = touched and report and touched.is_last(report) and touched.slot == self.device.slot
+        return list(map(millimetres, touched.point_nm)) if is_good else None
 
     @property
     def _left(self) -> str:
@@ -128,6 +133,7 @@ class Pictured:
                 "finished": session.is_finished, "started": session.started,
                 "left_at": session.opened.left_at, "broken": self.stand.is_broken, "undo": self.operator.touch.undoes,
                 "setter": None if setter_nm is None else millimetres(setter_nm),
+                "has_probe": self.operator.touch.has_probe,
                 "typed": self.stand.typed, "restore": self.stand.restore}
 
     def _moves(self) -> bool:

@@ -18,9 +18,12 @@ export class Setup {
     this.seeks = SEEKS.map(([axis, sign]) => button(axis + SIGNS[sign], () => this.seek(axis, sign)));
     this.system = el('span');
     this.value = entry('0', 'Work coordinate of this place, in mm');
-    this.byProbe = toggle('Where the probe was touched', () => flip(this.byProbe));
+    this.byProbe = toggle('Where the probe was touched', () => { flip(this.byProbe); this.showUsed(this.state); });
+    this.used = el('p', { class: 'hint' });
     this.zero = [...AXES, 'XY'].map(axes => button(`Set ${axes}`, () => this.sets(axes)));
     this.height = entry('', 'Machine Z of the setter, in mm');
+    this.height.addEventListener('input', () => this.showLength(this.state));
+    this.length = el('p', { class: 'hint' });
     this.setter = el('label', { class: 'entry-row' }, 'Setter at machine Z', this.height, 'mm');
     this.touch = button('', () => this.touchOff());
     this.undo = button('', () => asks('undo', {}));
@@ -30,10 +33,10 @@ export class Setup {
       home: part('Home', this.homed, el('div', { class: 'four' }, ...this.home)),
       jog: el('section', { class: 'part' }, this.jog.box),
       zero: part('Work zero', this.system, el('label', { class: 'entry-row' }, 'This place is', this.value, 'mm'),
-        this.byProbe, el('div', { class: 'four' }, ...this.zero), this.undo),
+        this.byProbe, this.used, el('div', { class: 'four' }, ...this.zero), this.undo),
       probe: part('Seek the probe', this.touched, el('label', { class: 'entry-row' }, 'At most', this.within, 'mm'),
         el('div', { class: 'five' }, ...this.seeks)),
-      tool: part('Touch off a tool', null, this.setter, this.touch),
+      tool: part('Touch off a tool', null, this.setter, this.length, this.touch),
       page: part('This page', null, this.loss),
     };
     $('tab-setup').append(...Object.values(this.parts));
@@ -50,7 +53,7 @@ export class Setup {
     for (const one of [...this.seeks, this.within]) one.disabled = !isFree || s.busy || Boolean(s.alarm);
     for (const one of [...this.zero, this.value, this.byProbe]) one.disabled = !isIdle;
     text(this.touched, s.touched ? `touched: ${point(s.touched)}` : '');
-    this.byProbe.hidden = !s.touched;
+    this.showUsed(s);
     this.showTool(s, isIdle);
     this.undo.hidden = !s.undo;
     this.undo.disabled = !isIdle;
@@ -59,14 +62,38 @@ export class Setup {
     this.loss.disabled = !s.yours;
   }
 
+  // Which machine point a zero takes. One at which the probe was touched is chosen anew for each touch.
+  showUsed(s) {
+    const key = String(s.touched ?? '');
+    if (!s.touched || key !== this.seen) this.byProbe.setAttribute('aria-checked', 'false');
+    this.seen = key;
+    this.state = s;
+    this.byProbe.hidden = !s.touched;
+    text(this.used, this.probe() ? `Takes machine ${point(s.touched)}, where the probe was touched`
+      : s.known ? `Takes machine ${point(s.at)}, where the motors are` : 'Where the machine stands isn\u2019t known');
+  }
+
   showTool(s, isIdle) {
     this.slot = s.slot;
     this.needsHeight = s.setter === null || s.setter === undefined;
     this.setter.hidden = !this.needsHeight;
     this.height.disabled = !isIdle;
-    this.touch.disabled = !isIdle || !s.slot;
-    const where = this.needsHeight ? '' : `, setter at Z ${mm(s.setter)}`;
-    text(this.touch, s.slot ? `Tool ${s.slot} stands on the setter${where}` : 'No tool is in the spindle');
+    this.touch.disabled = !isIdle || !s.slot || s.has_probe && !s.touched;
+    text(this.touch, s.slot ? `Tool ${s.slot} stands on the setter` : 'No tool is in the spindle');
+    this.showLength(s);
+  }
+
+  // The length that a touch-off would give, and by which machine point.
+  showLength(s) {
+    const height = Number(this.needsHeight ? typedNumber(this.height.value) ?? NaN : s.setter);
+    const at = s.touched ? s.touched[2] : s.at[2], has = s.tools[s.slot - 1];
+    const where = s.touched ? 'touched at machine Z' : 'machine Z is';
+    const before = has === undefined ? 'no length yet' : `${mm(has)} by now`;
+    this.length.hidden = !s.slot;
+    text(this.length, s.has_probe && !s.touched
+      ? 'The setter wasn\u2019t touched since the last motion: seek it by Z\u2212 first'
+      : Number.isNaN(height) ? 'At which machine Z would a tool of length 0 touch the setter?'
+        : `Length ${mm(at - height)} mm, ${before}: ${where} ${mm(at)}, setter at ${mm(height)}`);
   }
 
   seek(axis, sign) {
@@ -83,7 +110,7 @@ export class Setup {
 
   touchOff() {
     const height = this.needsHeight ? typed(this.height) : undefined;
-    if (height !== null) this.asks('touch', { slot: this.slot, height, probe: this.probe() });
+    if (height !== null) this.asks('touch', { slot: this.slot, height, probe: Boolean(this.state.touched) });
   }
 
   probe() { return !this.byProbe.hidden && isOn(this.byProbe); }
