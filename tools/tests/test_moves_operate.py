@@ -47,7 +47,7 @@ class Moves(Core):
         self.assertEqual(self.status().at, tuple(at))
         self.do("Home x z")
         self.assertEqual(self.axes.words[-1], "home 2 XZ")
-        self.assertEqual([view.line for view in self.face.views if view], ["home"] * 4)
+        self.assertEqual([view.line for view in self.face.views if view], ["home Z"] * 2 + ["home XZ"] * 2)
 
     def test_jog_and_seek(self) -> None:
         """A length, and the probe: where the machine comes to rest isn't where the probe was touched."""
@@ -146,22 +146,30 @@ class Moves(Core):
         self.assertEqual(self.axes.words, [])
 
     def test_waits(self) -> None:
-        """It is said what the motors wait for: the spindle's speed, and whoever holds them, as a door does."""
+        """It is said what the motors wait for: the spindle's speed, and what holds them: that speed, a door, or whoever
+        it is; `release` lets them go on amid it."""
         self.begin(self.link)
-        before = self.link.ask
+        before, released = self.link.ask, []
         spindle = "the player waits until the spindle has its speed"
-        held = ("the motors are held, and not from here: a door is open, or the spindle doesn't come to its speed; the"
-                " player says which. Enter holds here too, and then run lets them go on")
+        failed = "the spindle didn't come to its speed, and the motors are held: release waits for it again"
+        door = "the door is open, and the motors are held: once it is closed, release lets them go on"
+        other = "the motors are held, and not from here: release lets them go on"
+        self.link.release = lambda: released.append(True)
+        for said, on, x in ((failed, (), "0.3"), (door, ("door",), "0.4"), (other, (), "0.5")):
+            self.axes.stands = self.axes.machine = replace(self.axes.stands, on=on)
 
-        def ask():
-            said = [text for _, text in self.face.said]
-            self.link.lazy = bool(self.out()) and held not in said
-            waits = self.link.lazy and spindle not in said
-            return replace(before(), word="waits spindle" if waits else "works", is_held=self.link.lazy)
+            def ask(said=said, size=len(self.out())):
+                heard = [text for _, text in self.face.said]
+                self.link.lazy = len(self.out()) > size and not released
+                if said in heard and self.link.lazy:
+                    self.face.given = ["release"]
+                waits = self.link.lazy and said == failed and spindle not in heard
+                return replace(before(), word="waits spindle" if waits else "works", is_held=self.link.lazy and not waits)
 
-        self.link.ask = ask
-        self.assertEqual(self.do("G0 X0.3")[:2], [spindle, held])
-        self.assertEqual(self.status().at[0], "0.300000")
+            self.link.ask = ask
+            self.assertIn(said, self.do(f"G0 X{x}"))
+            self.assertEqual((self.status().at[0], released[:1]), (f"{x}00000", [True]))
+            released.clear()
 
     def test_half_done(self) -> None:
         """Over a half-done block too; `recover` is still for what the last session left."""
@@ -210,11 +218,11 @@ class Alarms(Core):
         self.begin(self.link)
         self.axes.alarm("limits")
         self.assertEqual(self.do("G0 X1"), [
-            self.STOPPED.replace("EMERGENCY STOP", "LIMIT OF LIMIT X LOW"),
-            self.NOTHING.replace("EMERGENCY STOP", "LIMIT OF LIMIT X LOW")])
+            self.STOPPED.replace("EMERGENCY STOP", "LIMIT X LOW"),
+            self.NOTHING.replace("EMERGENCY STOP", "LIMIT X LOW")])
         self.axes.refuses = "the emergency stop is on"
         self.assertEqual(self.do("home"), ["home: the emergency stop is on"])
-        self.assertEqual(self.do("G0 X1"), [self.NOTHING.replace("EMERGENCY STOP", "LIMIT OF LIMIT X LOW")])
+        self.assertEqual(self.do("G0 X1"), [self.NOTHING.replace("EMERGENCY STOP", "LIMIT X LOW")])
 
     def test_outputs(self) -> None:
         """An alarm turns spindle and coolant off, and so does a player that begins: a program that goes on with them is
@@ -399,7 +407,7 @@ class ByKeys(InFolder):
         self.begin_jog()
         self.player.axes.alarm("limits")
         shown = " ".join(self.terminal.read_to(PROMPT).decode().split())
-        self.assertIn("LIMIT OF LIMIT X LOW: THE MOTORS STAND", shown)
+        self.assertIn("LIMIT X LOW: THE MOTORS STAND", shown)
         self.assertNotIn("reference", shown)
 
     def test_refused(self) -> None:

@@ -20,10 +20,10 @@ _NOT_TAKEN = ("the player doesn't take that: all axes have to be homed that can 
 
 
 class Alarm:
-    """What is said of one, and what isn't taken until it is over."""
+    """What is said of one, and what isn't taken until it is over. `came_by` is what the last one came by, in words."""
 
     def __init__(self, session: Session) -> None:
-        self.session = session
+        self.session, self.came_by = session, ""
         session.on_alarm = self.say
 
     def forbids(self, word: str) -> bool:
@@ -44,7 +44,8 @@ class Alarm:
 
     def say(self) -> None:
         """Says that it came."""
-        self.session.face.say(_CAME.format(cause=self._cause()).upper(), WARNING)
+        self.came_by = self._cause()
+        self.session.face.say(_CAME.format(cause=self.came_by).upper(), WARNING)
 
     def say_left(self) -> None:
         """Where axes were homed, and the alarm stands all the same: says which one isn't, and asks for it."""
@@ -110,8 +111,14 @@ class Alarm:
             machine = self.session.meter.link.machine()
         except NoAnswer:
             return "alarm"
-        on = [name.replace("_", " ") for name in machine.on if name.startswith("limit")]
-        return " of ".join([_CAUSES.get(machine.alarm, "alarm"), *([", ".join(on)] if on else [])])
+        on = [_limit(name) for name in machine.on if name.startswith("limit_")]
+        return " and ".join(on) if machine.alarm == "limits" and on else _CAUSES.get(machine.alarm, "alarm")
+
+
+def _limit(name: str) -> str:
+    """An input as `limit_x_low`, as `limit X low`."""
+    limit, axis, end = name.split("_")
+    return f"{limit} {axis.upper()} {end}"
 
 
 def left_of(machine: MoveReport) -> str:

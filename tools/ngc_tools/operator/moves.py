@@ -149,7 +149,8 @@ class Moves:
         session, is_told = self.session, False
         status = session.console.status()
         while (machine := session.meter.link.machine()).ended != number or machine.does != "stands":
-            self.show(name, status)
+            session.see_machine(machine)
+            self.show(machine.does if machine.does.startswith(name) else name, status)
             if keep:
                 keep(number)
             if not is_told and session.face.interrupted():
@@ -158,6 +159,7 @@ class Moves:
             for command in session.face.asides():
                 self.do(command)
             time.sleep(ASKED_S)
+        session.see_machine(machine)
         return machine
 
     def show(self, name: str, status: Status) -> None:

@@ -233,7 +233,10 @@ class Operator:
             self.motors.say_rest()
 
     def _release(self, _: Typed) -> None:
-        """Lets the motors carry out what is in hand; `ngc` stays as it is."""
+        """Lets the motors carry out what is in hand; `ngc` stays as it is. While something runs that is all."""
+        if self.work.is_amid:
+            self.motors.release()
+            return
         report = self.session.report()
         if not self.motors.are_held and not (report and report.behind):
             self.face.say("the motors aren't held")

@@ -192,7 +192,7 @@ DEEDS: dict[str, Callable[[Given], dict | None]] = {
     "resume": lambda given: given.session.type("resume" + given.anyway()),
     "drop": lambda given: given.session.type("drop"),
     "restore": lambda given: given.session.type("restore"),
-    "release": lambda given: given.session.type("release"),
+    "release": lambda given: given.session.release(),
     "abandon": lambda given: given.session.tell("abandon"),
     "go": lambda given: given.session.tell("go"),
     "percent": lambda given: given.session.tell(f"percent {given.count('percent', PERCENTS[-1])}"),

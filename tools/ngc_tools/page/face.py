@@ -50,6 +50,7 @@ class PageFace:
         self.log: deque[Entry] = deque(maxlen=ENTRIES)
         self.view: UnderWay | None = None
         self.report: Report | None = None
+        self.reported_at = 0.0  # when that came, in seconds since 1970
         self.message = ""  # of the program, since it was started or went on
         self.refusal = ""  # since the last command
         self.question: Question | None = None
@@ -93,7 +94,7 @@ class PageFace:
 
     def moved(self, report: Report) -> None:
         """Takes a report of the player."""
-        before, self.report = self.report, report
+        before, self.report, self.reported_at = self.report, report, time.time()
         self._publish_sometimes(before is None or _state(before) != _state(report))
 
     def ask(self, question: str) -> str:

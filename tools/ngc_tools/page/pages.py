@@ -2,7 +2,7 @@
 import asyncio
 
 from ngc_tools.operator.face import WARNING
-from ngc_tools.page.session import PageSession
+from ngc_tools.page.session import LOST, PageSession
 
 MOST = 4
 """Pages at once. A browser has six connections to a server, and each page keeps one of them for its stream: with more
@@ -68,4 +68,4 @@ class Pages:
         """
         if self.commands and self.on_loss == "hold" and self.session.is_busy:
             self.session.face.say("the page that commands is lost: hold", WARNING)
-            self.session.hold()
+            self.session.hold(LOST)

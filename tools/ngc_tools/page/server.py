@@ -182,7 +182,7 @@ class Server:
     def state(self, page: str, told: int) -> tuple[bytes, int]:
         """What a page shows, with the entries of the log behind the one that it was told last, and the last one now."""
         log = [asdict(entry) for entry in list(self.session.face.log) if entry.id > told]
-        said = state_of(self.session) | {"log": log, "yours": self.pages.commands == page, "pages": len(self.pages),
+        said = state_of(self.session, page) | {"log": log, "yours": self.pages.commands == page, "pages": len(self.pages),
                                          "on_loss": self.pages.on_loss, "now": time.time()}
         return _json(said), log[-1]["id"] if log else told
 
@@ -198,7 +198,7 @@ class Server:
         """Does what a page asks for. Whoever sees that something is wrong may hold, a page that watches too. Raises
         Refused, Busy, BadWords, Failure, OSError."""
         if name == "hold":
-            self.session.hold()
+            self.session.hold(page)
             return {}
         if name == "takeover":
             self.pages.take_over(page)

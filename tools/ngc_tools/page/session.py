@@ -36,6 +36,8 @@ from ngc_tools.player.progress import Link, NoAnswer
 WITHOUT_LINES = {"home", "jog", "seek"}
 MOVES = {"run", "mdi", "resume", "recover", "restore", "release", *WITHOUT_LINES}
 """The commands that move the machine, and those of them that the player makes without lines of OUT."""
+LOST = "lost"
+"""Stands for the page that held, where that was nobody: the one that commands was lost."""
 _LEAVE_S = 10.0
 _LOOK_S = 0.15  # how often it looks while nothing runs
 _ASIDES = {"percent", "spindle", "go", "optional", "delete", "single"}
@@ -106,6 +108,7 @@ class PageSession:
         self.past, self.past_at = "", ""  # how far the motors may be past the player's record, which has them there
         self.started = 0.0  # when the program was started in this session, in seconds since 1970
         self.is_finished = False  # it ran to its end, and nothing was begun since
+        self.held_from = ""  # the page that held last, or LOST, since something was begun
         self._next: SessionCommand | None = None
         self.under: SessionCommand | None = None
         self._wake = threading.Condition()
@@ -207,15 +210,24 @@ class PageSession:
         if word == "delete":
             self.drawer.leave_out(line.endswith(" on"))
 
-    def hold(self) -> None:
+    def hold(self, page: str = LOST) -> None:
         """Holds at once, whatever is under way: the motors, and then `ngc`. It waits for nothing."""
         self.jogs.end()
+        self.held_from = page
         self.face.hold()
         if self.opened.motors and self.stand.has_ramps:
             with suppress(NoAnswer):  # the session's thread says it
                 self.opened.motors.stop() if self._moves_without_lines() else self.opened.motors.hold()
         with suppress(Busy):
             self.give("hold", lambda: self.operator.do("hold"))
+
+    def release(self) -> None:
+        """Lets held motors go on; within a command at once, as one holds them."""
+        if self.is_busy and self.opened.motors:
+            with suppress(NoAnswer):  # the session's thread says it
+                self.opened.motors.release()
+        else:
+            self.give("release", lambda: self.operator.do("release"))
 
     def _moves_without_lines(self) -> bool:
         command = self.under
@@ -342,6 +354,9 @@ class PageSession:
     def _do(self, command: SessionCommand) -> None:
         """Does a command, and sees how it ended."""
         self.face.begin(command.holds)
+        if command.word in MOVES | {"load"}:
+            self.is_finished = False
+            self.held_from = "" if self.face.holds == command.holds else self.held_from
         self.face.publish()
         before = self.stand.status
         try:
@@ -409,9 +424,11 @@ class PageSession:
         try:
             status, report = operator.look()
             machine = operator.session.meter.link.machine() if self.opened.has_moves else None
+            if report:
+                operator.session.take(report)
         except NoAnswer as error:
-            status, report, gone = operator.console.status(), before.report, str(error)
-        self.face.report = report
+            status, report, gone = operator.console.status(), self.face.report, str(error)
+        operator.session.see_machine(machine)
         self.kept.at(status)
         self.stand = Stand(status, report, gone, recovery_of(operator.recover.found), *self._typed(), machine)
         if status.half == "none" and not status.place and not self.drawer.is_as_drawn(self.kept.device):
