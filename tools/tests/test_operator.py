@@ -744,6 +744,35 @@ class Loads(Core):
             self.assertEqual(self.face.said, [(REFUSED, said)])
         self.assertTrue(self.operator.load("part.ngc", "(Ü)\r\nM2\r\n".encode()))
 
+    def test_unset_length(self) -> None:
+        """A program that moves Z and sets no tool length: the one in force is told as it is loaded, and another one is
+        asked before it begins, as that of the job before."""
+        self.begin()
+        self.do("tool 1 0.5")
+        text = "G17 G21 G90 G94\nG0 Z0.02\nM2\n"
+        none = ("line 2: it moves Z before it sets G43 or G49, and no tool length is in force, as it was left before:"
+                " write G43 with the tool's H, or G49, before it")
+        self.load(text)
+        self.assertIn(("warning", none), self.face.said)
+        self.do("run")
+        self.assertEqual(self.face.asked, [])
+        self.do("G0 Z0", "G43 H1")
+        other = none.replace("no tool length", "a length of 0.500 mm")
+        before = self.out()
+        self.assertEqual(self.do("run", answers=("no",)), [other])
+        self.assertEqual((self.face.asked, self.out()), (["begin all the same? yes begins: "], before))
+        self.do("run", answers=("yes",))
+        self.assertEqual(self.status().at[2], "0.520000")
+        self.do("run")  # it was told
+        self.end()
+        self.begin()
+        self.do("G0 Z0")
+        self.do("run", answers=("no",))  # not in this session
+        self.do("run anyway", "G49")
+        self.load(f"G49\n{text}")
+        self.do("run")
+        self.assertEqual(self.face.asked, [])
+
 
 class Shown(Core):
     """What stands, for a person at the machine."""

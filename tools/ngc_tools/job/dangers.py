@@ -22,7 +22,8 @@ LONG_DWELL_US = 30_000_000
 NEARLY_NM = 10_000  # an arc whose ends are as near as that is taken as rounded
 
 _ROUNDED = "Is it meant? A short arc whose end was rounded goes round so too"
-_HOME = re.compile(rb"G0*(28|30)(?:\.0*)?(?![0-9.])", re.IGNORECASE)
+HOME = re.compile(rb"G0*(28|30)(?:\.0*)?(?![0-9.])", re.IGNORECASE)
+"""G28 and G30 in a line without comments and blanks."""
 
 
 @dataclass(frozen=True, slots=True)
@@ -55,6 +56,7 @@ def dangers(lines: Lines, run: Run, under: Conditions) -> list[Danger]:
              *_homes(lines, printed), *_dwells(printed), *_full_turns(acts),
              *heights.heights(lines, acts, under.is_placed), *heights.first_descent(lines, acts),
              *cutting.spindle(acts), *cutting.lengths(lines, acts, under.tools_nm), *cutting.tool_changes(acts),
+             *(cutting.unset(lines, acts, under.tools_nm) if under.beginning.image is not None else ()),
              *_other_lengths(lines, acts, under),
              *(cutting.capped(acts, under.settings) if under.settings else ()),
              *(cutting.too_fast_to_stop(acts, under.motion) if under.motion else ()),
@@ -89,7 +91,7 @@ def _homes(lines: Lines, printed: Printed) -> list[Danger]:
     """G28 and G30 by their text, if the line then prints a traverse."""
     found = []
     for line in range(1, len(lines.all) + 1):
-        code = _HOME.search(lines.code(line))
+        code = HOME.search(lines.code(line))
         moves = [command for command in printed.get(line, []) if command.name == "STRAIGHT_TRAVERSE"]
         if code and moves:
             x, y, z = map(millimetres, moves[-1].point)

@@ -15,6 +15,7 @@ from ngc_tools.operator.alarm import Alarm
 from ngc_tools.operator.causes import refused, taken
 from ngc_tools.operator.ending import Ending
 from ngc_tools.operator.face import REFUSED, WARNING, WHERE, Face, are_keys
+from ngc_tools.operator.homes import asked_of_home
 from ngc_tools.operator.jog_keys import Keys, jog_by_keys
 from ngc_tools.operator.left import Left, dropped_g92
 from ngc_tools.operator.loading import Loading
@@ -156,7 +157,10 @@ class Operator:
         if not typed.anyway and not (self.places.agree(status, f"{typed.word} {ANYWAY}")
                                      and outputs_agree(self.session, status) and self.left.agreed(status)):
             return
-        timeline = self.loading.timeline(command == "start" and not status.place)
+        begins = command == "start" and not status.place
+        timeline = self.loading.timeline(begins)
+        if begins and status.half == "none" and not typed.anyway and not self.loading.begins_as_told(timeline):
+            return
         if refused(self.session, self.console.ask(command)[0], command):
             return
         if status.half == "none" and (said := dropped_g92(self.session)):
@@ -182,9 +186,13 @@ class Operator:
         compared = status.half == "none" and not anyway and not stops_outputs(line)
         if compared and not self.places.agree(status, f"{ANYWAY} {line}"):
             return None
+        text = line.encode("utf-8", "surrogateescape")
+        if compared and (question := asked_of_home(self.session, text)) and not self.session.agrees(question):
+            self.face.say("nothing is done")
+            return None
         if status.half == "none":
             self.left.keep()
-        reply = self.console.ask(b"mdi " + line.encode("utf-8", "surrogateescape"))[0]
+        reply = self.console.ask(b"mdi " + text)[0]
         if refused(self.session, reply, f"mdi {line}"):
             self._near(line)
             return None
