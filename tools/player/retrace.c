@@ -1,4 +1,4 @@
-/* An errand, done: back along OUT, or by legs, each move in its time, or by ramps. */
+/* An errand, done: back along OUT, by legs, or a switch alone; each move in its time, or by ramps. */
 #define _GNU_SOURCE
 #include <inttypes.h>
 #include <poll.h>
@@ -257,14 +257,17 @@ enum end do_errand(struct play *play) {
     if (errand->wish.is_on) {
         end = switch_on(play, &errand->wish.on);
     }
-    if (end == AT_OUTS_END && (errand->wish.is_by_legs || errand->bytes < player->bytes)) {
+    bool moves_back = errand->wish.is_by_legs || errand->bytes < player->bytes;
+    if (end == AT_OUTS_END && !errand->wish.is_switch && moves_back) {
         moves_begin(&moves, play);
         end = play->options->machine != NULL ? go_paced(play) : go_unpaced(play);
         end = end == AT_OUTS_END && !is_ready(play) ? STOPPED : end;
     }
     if (end == AT_OUTS_END) {
         player_lock(player);
-        arrive(player);
+        if (!errand->wish.is_switch) {
+            arrive(player);
+        }
         player->errand.is_there = false;
         player_unlock(player);
     }

@@ -77,7 +77,7 @@ class Page:
 
     def agree(self, state: dict, text: str = "") -> None:
         """Answers the question of a state with a yes, or with a text."""
-        words = {"text": text} if text else {"yes": True}
+        words = {"text": text} if text else {"yes": True, "seen": len(state["question"]["looks"])}
         if self.post("answer", {"question": state["question"]["id"]} | words) != (200, {"taken": True}):
             raise AssertionError(f"it isn't asked: {state['question']}")
         self.answered.add(state["question"]["id"])

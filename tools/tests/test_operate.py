@@ -570,7 +570,7 @@ class AtTerminal(InFolder):
         terminal.send(b"reference 0 0 0\n")
         terminal.read_to(PROMPT)
         self.player.lazy = True
-        for typed, begun in ((b"resume\n", b"first.\r\n"), (b"continue\n", b"continue\r\n")):
+        for typed, begun in ((b"resume\n", b"as they were.\r\n"), (b"continue\n", b"continue\r\n")):
             enough = self.player.asked + 5
             terminal.send(typed)
             terminal.read_to(begun)

@@ -1035,7 +1035,7 @@ class Motors(Core):
         self.assertTrue(self.do("reference player")[-1].startswith("nothing is done: the motors are held with "))
         self.do("release", "reference player", "hold")
         self.assertTrue(link.is_held)
-        self.do("resume", answers=("yes",))
+        self.do("resume anyway", answers=("yes",))
         self.assertEqual((link.is_held, self.status().at[0], link.ask().at), (False, "1.000000", "1.000000 0.000000"
                                                                                                 " 0.000000"))
 
@@ -1169,7 +1169,7 @@ class Ends(Core):
         """After a no the spindle that came on is named, and how it goes off."""
         self.run_ngc("mdi S70 M3\ntick 9\nmdi G0 X1\ntick 4\n", "before")
         self.begin(FileLink("0.002 0 0"))
-        said = self.do("reference player", "resume", answers=("no",))
+        said = self.do("reference player", "resume anyway", answers=("no",))
         self.assertEqual(said[-2], "nothing has moved. continue goes on; after quit the block is still half-done")
         self.assertTrue(said[-1].startswith("on: the spindle, clockwise at 70. The player switches that off"), said)
 

@@ -554,15 +554,37 @@ class Power(Served):
         said = page.post("rehearse", {"at": ["0.5", "0", "2"]})[1]
         self.assertEqual((said["begins"][0], said["approach"]["down"], said["refused"]), ("2.000000", "2.000", ""))
         self.assertIn("DOWN 2.000 mm", said["approach"]["warnings"][0])
-        self.assertEqual(page.post("reference", {"at": ["0.5", "0", "2"], "anyway": True})[0], 200)
+        at = ["2.000000", "0.000000", "0.100000"]
+        self.assertEqual(page.post("reference", {"at": at, "anyway": True})[0], 200)
         state = page.until("it is known", lambda state: state["known"])
         self.assertEqual(page.post("resume")[0], 200)
         state = page.asked()
-        self.assertEqual((state["motors"][2], state["spindle"], state["moving"], state["question"]["purpose"]),
-                         ("2.000000", 1, False, "look"))
+        self.assertIn("How fast there, in mm a minute? It was cut off at 12,", state["question"]["text"])
+        page.agree(state, "12")
+        page.agree(page.asked())  # the spindle
+        state = page.asked()
+        self.looks(page, state, at)
+        page = self.page(OTHER)
+        self.assertEqual(page.post("takeover")[0], 200)
+        again = page.until("it is taken over", lambda state: state["yours"])
+        self.assertEqual(again["question"], state["question"])
+        self.looks(page, again, at)
+        page.agree(again)
+        state = page.until("it is there", lambda state: "with the cut" in (state["question"] or {"text": ""})["text"])
+        self.assertEqual((state["motors"], state["moving"]), (["2.000000", "0.000000", "0.000000"], False))
         page.agree(state)
         state = page.until("it goes on", lambda state: float(state["motors"][0]) < 2 and state["moving"])
         self.assertEqual((state["line"], state["word"]), (5, "Running"))
+
+
+    def looks(self, page: Page, state: dict, at: list[str]) -> None:
+        """The spindle turns, nothing has moved, and a yes isn't taken before all three things are looked at."""
+        question = state["question"]
+        self.assertEqual((state["motors"], state["spindle"], state["moving"], question["purpose"]),
+                         (at, 1, False, "look"))
+        self.assertEqual(question["looks"][0], "On, as it should be: the spindle, clockwise at 100")
+        for seen in ({}, {"seen": 2}, {"seen": True}, {"seen": [1, 1, 1]}):
+            self.assertEqual(page.post("answer", {"question": question["id"], "yes": True} | seen)[0], 422)
 
 
 class PowerOfFile(Served):
@@ -592,7 +614,11 @@ class PowerOfFile(Served):
         self.assertIn("Do they stand there?", state["question"]["text"])
         page.agree(state)
         state = self.look(page)
-        self.assertEqual((state["motors"], state["spindle"]), (["2.000000", "0.000000", "0.000000"], 1))
+        self.assertEqual((state["motors"], state["spindle"], state["question"]["purpose"]),
+                         (recover["stands"], 1, "look"))
+        page.agree(state)
+        state = page.until("it is there", lambda state: "with the cut" in (state["question"] or {"text": ""})["text"])
+        self.assertEqual(state["motors"], ["2.000000", "0.000000", "0.000000"])
         page.agree(state)
         state = page.until("it goes on", lambda state: float(state["motors"][0]) < 2 and state["moving"])
         self.assertEqual((state["line"], state["word"]), (5, "Running"))

@@ -443,8 +443,20 @@ class Power(InBrowser):
         self.look("a rehearsal")
         self.press_amid_news("Next")
         self.look("the choice")
+        stands = browser.js("ngc.state.motors.join()")
         browser.press("Go along the path", "#over button")
-        self.agree_to_all()
+        self.agree_to_look()
+        self.assertEqual(browser.js("ngc.state.motors.join()"), stands)
+        browser.open(self.address)
+        browser.wait("window.ngc?.state?.question && document.querySelectorAll('#over .look button').length === 3")
+        self.assertTrue(browser.js("document.querySelector('#over .foot .go').disabled"))
+        self.assertEqual(browser.js("document.querySelectorAll('#over .look [aria-pressed=true]').length"), 0)
+        self.assertEqual(browser.js("ngc.state.motors.join()"), stands)
+        self.tick_all()
+        browser.press("Yes", "#over .go")
+        browser.wait("ngc.state.question?.text.includes('goes on with the cut')")
+        self.assertEqual(browser.js("ngc.state.motors.join()"), "0.000000,0.000000,0.000000")
+        browser.press("Yes: goes on with the cut", "#over .go")
         browser.wait("ngc.state.does === 'running' && ngc.state.motors[0] > 0.02 && ngc.state.spindle === 1")
         self.assertFalse(browser.js("document.getElementById('over').checkVisibility()"))
         self.no_complaints()
@@ -476,8 +488,8 @@ class Power(InBrowser):
         self.browser.wait("ngc.job")
         self.browser.up(x, y)
 
-    def agree_to_all(self) -> None:
-        """Answers each question by a yes, up to the one before which one has to look."""
+    def agree_to_look(self) -> None:
+        """Answers each question by a yes, up to the one before which one has to look, and ticks what is seen."""
         browser, last = self.browser, 0
         while True:
             question = browser.wait(f"ngc.state.question?.id > {last} && ngc.state.question")
@@ -489,11 +501,16 @@ class Power(InBrowser):
         browser.wait("document.querySelectorAll('#over .look button').length === 3")
         self.assertTrue(browser.js("document.querySelector('#over .foot .go').disabled"))
         self.look("switched on")
+        self.tick_all()
+
+    def tick_all(self) -> None:
+        """Ticks what is seen: the ticks stay while news come."""
+        browser = self.browser
         browser.js("document.querySelectorAll('#over .look button').forEach(one => one.click())")
         seen = browser.js("ngc.state.now")
         browser.wait(f"ngc.state.now > {seen} + 1")
         self.assertEqual(browser.js("document.querySelectorAll('#over .look [aria-pressed=true]').length"), 3)
-        browser.press("Yes", "#over .go")
+        self.assertFalse(browser.js("document.querySelector('#over .foot .go').disabled"))
 
 
 class PowerOverPipe(InBrowser):

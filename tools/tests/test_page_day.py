@@ -411,15 +411,16 @@ class Loss(Walk):
 
     def agrees(self) -> None:
         """Answers what is asked: a height where it is one; once the outputs are on what was seen is ticked. Nothing
-        moves before that."""
-        last, isLooked = 0, False
-        while not isLooked:
+        moves before that, and the cut goes on after another yes."""
+        last, text, stands = 0, "", self.browser.js("ngc.state.motors.join()")
+        while "goes on with the cut" not in text:
             question = self.wait(f"s.question?.id > {last} && s.question")
-            last, isLooked = question["id"], question["purpose"] == "look"
-            if question["kind"] == "text":
+            last, text = question["id"], question["text"]
+            if "Up to which Z" in text:
                 self.browser.fill("#over .entry input", "9.5")
-            if isLooked:
-                self.assertFalse(self.browser.js("ngc.state.moving"))
+            if question["purpose"] == "look":
+                self.assertEqual(self.browser.js("[ngc.state.moving, ngc.state.spindle, ngc.state.motors.join()]"),
+                                 [False, 1, stands])
                 self.browser.wait("document.querySelectorAll('#over .look button').length === 3")
                 self.browser.js("document.querySelectorAll('#over .look button').forEach(one => one.click())")
             self.browser.press("", "#over .go")

@@ -290,7 +290,8 @@ class Moments(InFolder):
             session.recover(stands)
             asked = self.agrees(session)
             self.assertEqual([text for text in asked if "Do they stand there?" in text], [])
-            self.assertEqual(sum(text in LOOKS for text in asked), is_half)
+            looks = sum(text in LOOKS for text in asked)  # once more where a switch comes on the way
+            self.assertIn(looks, (1, 2) if is_half else (0, 1))
         if not session.is_finished:
             session.run("run")
             self.agrees(session)

@@ -13,6 +13,7 @@ from ngc_tools.formats.settings import Settings
 from ngc_tools.ngc.console import Console, Status
 from ngc_tools.operator.alarm import Alarm
 from ngc_tools.operator.causes import refused, taken
+from ngc_tools.operator.display import on_words
 from ngc_tools.operator.ending import Ending
 from ngc_tools.operator.face import REFUSED, WARNING, WHERE, Face, are_keys
 from ngc_tools.operator.homes import asked_of_home
@@ -28,7 +29,8 @@ from ngc_tools.operator.outputs import outputs_agree
 from ngc_tools.operator.places import Places, stops_outputs
 from ngc_tools.operator.recover import Recover
 from ngc_tools.operator.rehearsing import rehearse
-from ngc_tools.operator.sentences import HELP, NOT_MOVED, SWITCHED, SWITCHED_THERE, TAKEN_UP, TAKEN_UP_THERE
+from ngc_tools.operator.sentences import (GO_ON, HELP, NOT_MOVED, SWITCHED, SWITCHED_THERE, TAKEN_UP,
+                                          TAKEN_UP_THERE)
 from ngc_tools.operator.session import ALARM, BROKEN, Nothing, Session, place
 from ngc_tools.operator.touch import Touch
 from ngc_tools.operator.typed import ANYWAY, Typed
@@ -296,7 +298,7 @@ class Operator:
             self.face.say(str(error), WARNING)
             return
         if is_there and status.half != "none":
-            self._resume(Typed.read("resume"), TAKEN_UP_THERE, SWITCHED_THERE)
+            self._take_up(status, True)
 
     def _drop(self, _: Typed) -> None:
         try:
@@ -304,29 +306,60 @@ class Operator:
         except (NoAnswer, OSError) as error:
             self.face.say(str(error), WARNING)
 
-    def _resume(self, typed: Typed, said: str = TAKEN_UP, question: str = SWITCHED) -> None:
-        """Takes a half-done block up: stops after the switch, and asks."""
+    def _resume(self, typed: Typed) -> None:
+        """Takes a half-done block up. A player brings the motors there first, at a feed: `ngc` would go at the traverse
+        rate, down into the work too."""
         status = self.console.status()
-        if status.half != "none" and status.known and self.motors.are_held:
-            self.motors.release()
-        if status.half != "none" and not typed.anyway and not self.places.agree(status, f"resume {ANYWAY}"):
+        is_half = status.half != "none"
+        self.recover.way.looked = None
+        if is_half and status.known and self.motors.are_held and not self._let_way_end():
             return
+        if is_half and not typed.anyway and not self.places.agree(status, f"resume {ANYWAY}"):
+            return
+        is_there = is_half and status.known and status.does == "idle" and not typed.anyway and self.session.meter
+        try:
+            if is_there and not self.recover.straight():
+                return
+        except (NoAnswer, OSError) as error:
+            self.face.say(str(error), WARNING)
+            return
+        self._take_up(self.console.status(), bool(is_there))
+
+    def _let_way_end(self) -> bool:
+        """Lets motors that are held before a block is taken up go on, once somebody has looked; whether they stand."""
+        try:
+            return self.recover.way.ends()
+        except NoAnswer as error:
+            self.face.say(str(error), WARNING)
+            return False
+
+    def _take_up(self, status: Status, is_there: bool) -> None:
+        """Takes a half-done block up: stops after the switch, and asks. `is_there`: nothing has to move before it."""
         reply = self.console.ask("resume")[0]
         if refused(self.session, reply, "resume"):
             if reply.startswith("refused K3"):
                 self.places.offer()
             return
         self.left.forget()
+        said = TAKEN_UP_THERE if is_there else TAKEN_UP
         self.face.say(said.format(half=self.session.half(status), place=place(status)), WARNING)
         if not self._switched():
             self._hold()
-        elif self.session.agrees(question):
+        elif self.session.agrees(self._last_look(is_there)):
             self._run_on()
         else:
             self._hold()
             self.face.say(NOT_MOVED, WARNING)
             if left_on := self.ending.left_on():
                 self.face.say(f"on: {left_on}. {self.ending.how_off()}", WARNING)
+
+    def _last_look(self, is_there: bool) -> str:
+        """What is asked before the block goes on: once somebody looked at what is on, and it is the same, nothing is to
+        be looked at again."""
+        seen, looked = self.session.seen, self.recover.way.looked
+        if looked is not None and seen is not None and on_words(seen.outputs) == looked:
+            return GO_ON
+        return SWITCHED_THERE if is_there else SWITCHED
 
     def _switched(self) -> bool:
         """Makes the switch of an approach; whether the motors' side has done it too."""

@@ -44,6 +44,15 @@ TAKEN_UP = """\
 {half} is taken up. Its outputs are switched on as they were; then the tool goes
 in one straight line at the traverse rate from {place} to where that segment begins.
 Z isn't lifted first."""
+LOOK_SWITCHED = """\
+The outputs are switched, and nothing has moved. Is the spindle as it should be, is the right tool in, is the way free?
+yes goes there, Enter holds; anything else switches them back: """
+LOOK = """\
+Nothing is switched, and nothing has moved. Is the spindle as it should be, is the right tool in, is the way free?
+yes goes there, Enter holds; anything else ends: """
+LOOK_AGAIN = """\
+The motors are held on their way. Is the spindle as it should be, is the right tool in, is the rest of the way free?
+yes goes on, Enter holds; anything else stays: """
 TAKEN_UP_THERE = """\
 {half} is taken up from its beginning.
 The motors are there: {place}. Its outputs are switched on as they were."""
@@ -53,6 +62,9 @@ yes goes on, anything else holds: """
 SWITCHED = """\
 The outputs are switched, and nothing has moved. Does the spindle turn, is the right tool in, is the straight way free?
 yes goes on, anything else holds: """
+GO_ON = """\
+The motors are where the segment begins, and nothing was switched on the way.
+yes goes on with the cut, anything else holds: """
 NOT_MOVED = "nothing has moved. continue goes on; after quit the block is still half-done"
 
 

@@ -2,6 +2,7 @@
 from dataclasses import dataclass
 
 from ngc_tools.ngc.console import Status
+from ngc_tools.operator.display import on_words
 from ngc_tools.operator.session import ALARM, BROKEN, DOOR, SPINDLE, WAITS_SPINDLE
 from ngc_tools.page.face import LOOKS
 from ngc_tools.page.session import LOST, MOVES, WITHOUT_LINES, PageSession
@@ -71,7 +72,8 @@ class Standing:
             change = f"Put in tool {report.tool}" if report.tool else "Take the tool out"
             return "Tool change", "ask", change + (". It is held too: Continue comes after that" if self._holds() else "")
         if question and question.text in LOOKS:
-            return "Switched on", "ask", "Nothing has moved. Look at spindle, tool and way"
+            is_on = self.report is None or on_words(self.report.outputs)
+            return "Switched on" if is_on else "Look", "ask", "Nothing moves. Look at spindle, tool and way"
         return ("Question", "ask", question.text) if question else None
 
     def _holds(self) -> bool:
@@ -91,6 +93,8 @@ class Standing:
             return None
         if self.held_by not in ("", "here"):
             return "Held", "hold", self._held_by()
+        if session.under and session.under.word in ("resume", "recover") and not session.face.has_looked:
+            return "On the way", "run", "To where the line was cut off. Hold stops it"
         waits = ": the spindle isn't at its speed yet" if self.report and self.report.word == WAITS_SPINDLE else ""
         return "Running", "run", (session.operator.session.own or self.here) + waits
 

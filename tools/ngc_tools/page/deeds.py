@@ -10,6 +10,7 @@ from ngc_tools.page.http import RequestRefused
 from ngc_tools.page.pages import Pages
 from ngc_tools.page.rehearse import rehearse
 from ngc_tools.page.session import PageSession
+from ngc_tools.page.state import LOOKED_AT
 
 _NUMBER = re.compile(r"[-+]?(?:[0-9]{1,7}\.?[0-9]{0,6}|\.[0-9]{1,6})")
 _LONGEST_LINE = 256
@@ -167,10 +168,13 @@ def _by_probe(given: Given) -> str:
 
 
 def _answer(given: Given) -> dict:
-    text = "yes" if given.words.get("yes") is True else "no"
+    """Where somebody has to look at the machine, a yes is one that says that each thing was looked at."""
+    text, question = "yes" if given.words.get("yes") is True else "no", given.count("question", 10**9)
     if "text" in given.words:
         text = given.line("text", _LONGEST_ANSWER)
-    return {"taken": given.session.face.answer(given.count("question", 10**9), text)}
+    if text != "no" and given.session.face.is_look(question) and given.words.get("seen") != LOOKED_AT:
+        raise BadWords(f"seen: {LOOKED_AT}, once each is looked at")
+    return {"taken": given.session.face.answer(question, text)}
 
 
 def _recover(given: Given) -> None:

@@ -6,13 +6,14 @@ from collections.abc import Callable
 from dataclasses import dataclass
 
 from ngc_tools.operator.face import MESSAGE, REFUSED, SAID, WARNING, WHERE, UnderWay
-from ngc_tools.operator.sentences import SWITCHED, SWITCHED_THERE
+from ngc_tools.operator.sentences import GO_ON, LOOK, LOOK_AGAIN, LOOK_SWITCHED, SWITCHED, SWITCHED_THERE
 from ngc_tools.player.progress import Report
 
 ENTRIES = 400
 """So many entries of the log are kept."""
-LOOKS = (SWITCHED.strip(), SWITCHED_THERE.strip())
-"""The questions at which somebody has to look at the machine: its outputs are on, and nothing has moved."""
+LOOKS = tuple(text.strip() for text in (LOOK_SWITCHED, LOOK, LOOK_AGAIN, SWITCHED, SWITCHED_THERE))
+"""The questions at which somebody has to look at the machine: what was on is on, and nothing has moved."""
+_LAST = tuple(text.strip() for text in (SWITCHED, SWITCHED_THERE, GO_ON))
 _LOOK_S = 0.15
 _EVERY_S = 0.1  # what moves is shown about so often
 
@@ -57,7 +58,7 @@ class PageFace:
         self.holds = 0  # how often somebody wanted to hold
         self.is_left = False  # nobody is there any more
         self.is_stuck = False  # nor does `ngc` answer, since nobody reads OUT
-        self.has_looked = False  # somebody agreed to go on at one of LOOKS, since the command began
+        self.has_looked = False  # somebody agreed to the last question before a cut, since the command began
         self._heeded = 0  # the wishes that the command under way began with
         self._asides: deque[str] = deque()
         self._lock = threading.Condition()
@@ -104,7 +105,7 @@ class PageFace:
     def agrees(self, question: str) -> bool:
         """Whether somebody agrees at a page; a wish to hold is a no."""
         agrees = self._asked(question, "yes") == "yes"
-        self.has_looked = self.has_looked or agrees and question.strip() in LOOKS
+        self.has_looked = self.has_looked or agrees and question.strip() in _LAST
         return agrees
 
     def interrupted(self) -> bool:
@@ -154,6 +155,11 @@ class PageFace:
         """Nobody is there any more: what is under way is held, and questions aren't answered."""
         self.is_left = True
         self.hold()
+
+    def is_look(self, question: int) -> bool:
+        """Whether that is asked, and somebody has to look at the machine for it."""
+        asked = self.question
+        return asked is not None and asked.id == question and asked.text in LOOKS
 
     def answer(self, question: int, text: str) -> bool:
         """Answers a question; False if it isn't asked any more."""

@@ -8,7 +8,7 @@ from ngc_tools.formats.text import shown_line
 from ngc_tools.job.in_force import in_force_on
 from ngc_tools.ngc.console import Status
 from ngc_tools.operator.alarm import left_of
-from ngc_tools.operator.display import outputs_on
+from ngc_tools.operator.display import on_words, outputs_on
 from ngc_tools.operator.motors import way_nm
 from ngc_tools.operator.session import ALARM
 from ngc_tools.page.band import Standing
@@ -16,6 +16,8 @@ from ngc_tools.page.face import LOOKS
 from ngc_tools.page.session import MOVES, WITHOUT_LINES, PageSession
 from ngc_tools.player.progress import MoveReport, Report
 
+LOOKED_AT = 3
+"""So many things are looked at before anything moves."""
 _IN_MODES = ("unit", "distance", "plane", "system", "feed_mode", "motion")
 HERE = "here"
 """What holds the motors, where that was one of the pages."""
@@ -77,7 +79,8 @@ class Pictured:
         status, face = self.status, self.face
         state, session = self.device.state, self.operator.session
         question = face.question and {"id": face.question.id, "text": face.question.text, "kind": face.question.kind,
-                                      "purpose": "look" if face.question.text in LOOKS else ""}
+                                      "purpose": "look" if self._is_look else "",
+                                      "looks": self._looks() if self._is_look else []}
         return {"does": status.does, "half": status.half, "segment": status.segment, "known": status.known,
                 "entries": status.entries, "line": self.number, "place": status.place, "at": status.at,
                 "began_at": list(map(millimetres, state.point_nm)) if state.half else status.at,
@@ -87,6 +90,19 @@ class Pictured:
                 "busy": self.session.is_busy, "moving": self._moves(), "does_move": self._does,
                 "apart": self._apart, "held_by": self._held_by, "door_open": self.operator.session.is_door_open,
                 "command": self.command and {"word": self.command.word, "since": self.command.since}}
+
+    @property
+    def _is_look(self) -> bool:
+        """Whether somebody is asked to look at the machine."""
+        return self.face.question is not None and self.face.question.text in LOOKS
+
+    def _looks(self) -> tuple[str, str, str]:
+        """What has to be looked at, by what the player has on, or what was handed out where there is none."""
+        out = self.report.outputs if self.report else outputs_on(self.device.state)
+        on = on_words(out)
+        tool = f"Tool {out.slot} is in the spindle, and it is sound" if out.slot else "The right tool is in, and sound"
+        return (f"On, as it should be: {on}" if on else "Spindle and coolant are off, as they should be", tool,
+                "The way is free, and my hand is at Hold")
 
     def _motors(self) -> dict:
         """Where the motors are, with the outputs as they have them: `ngc` may be ahead of them."""

@@ -41,7 +41,7 @@ class Asked(Protocol):
         """The lines and bytes of the record that is on the disk, and the age in it."""
 
     def go_where(self, text: bytes) -> None:
-        """Goes along OUT or by legs, as the text says."""
+        """Goes along OUT or by legs, or switches outputs, as the text says."""
 
 
 class Answers:
@@ -107,7 +107,7 @@ class Answers:
             self._player.synced(int(match[1]))
         elif KEPT.fullmatch(text):
             self._listener.answer(text + b" lines %d bytes %d age %d" % self._player.kept(), sender)
-        elif text.startswith((b"along ", b"legs ")):
+        elif text.startswith((b"along ", b"legs ", b"straight ", b"switch ")):
             self._player.go_where(text)
         elif text == b"last":
             self._player.last()

@@ -131,12 +131,12 @@ class Player(Goes):
         return (record.lines, record.size, record.age_ms) if record else (0, 0, 0)
 
     def go_where(self, text: bytes) -> None:
-        """Goes on, back, or by legs, if it stands still with nothing in hand."""
+        """Goes on, back, by legs, or switches outputs, if it stands still with nothing in hand."""
         if (wanted := read_errand(text)) is None:
             return
         with self._lock:
             self._take_all()
-            if why := self.take_errand(*wanted):
+            if why := self.take_errand(wanted):
                 self.manner.said(f"{self.source.path}: it doesn't go: {why}")
         os.eventfd_write(self._wake, 1)
 

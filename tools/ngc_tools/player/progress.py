@@ -322,13 +322,23 @@ class Link:
         """Tells a player that so many bytes of OUT are on the disk. Raises NoAnswer."""
         self._send(b"synced %d" % size)
 
-    def along(self, size: int, on: Switch | None = None) -> None:
-        """Sends the motors along OUT to where so many bytes of it lead. Raises NoAnswer."""
-        self._send(f"along {size}{f' {on}' if on else ''}".encode())
+    def switch(self, outputs: Switch) -> None:
+        """Has spindle and coolant switched where the motors stand, with nothing in hand. Raises NoAnswer."""
+        self._send(f"switch {outputs}".encode())
 
-    def legs(self, lift: str, at: str, size: int, on: Switch | None = None) -> None:
-        """Sends the motors there by legs; heights and points are machine millimetres. Raises NoAnswer."""
-        self._send(f"legs {lift} {at} {size}{f' {on}' if on else ''}".encode())
+    def along(self, size: int, feed: str = "") -> None:
+        """Sends the motors along OUT to where so many bytes of it lead; back at most at a feed, in mm a minute. Raises
+        NoAnswer."""
+        self._send(f"along {size}{f' feed {feed}' if feed else ''}".encode())
+
+    def legs(self, lift: str, at: str, size: int, feed: str = "") -> None:
+        """Sends the motors there by legs, the last one at a feed; heights and points are machine millimetres. Raises
+        NoAnswer."""
+        self._send(f"legs {lift} {at} {size}{f' feed {feed}' if feed else ''}".encode())
+
+    def straight(self, at: str, size: int, feed: str) -> None:
+        """The same in one straight line, at a feed. Raises NoAnswer."""
+        self._send(f"straight {at} {size} feed {feed}".encode())
 
     def go(self) -> None:
         """Tells a player that waits at a tool change that the tool is in. Raises NoAnswer."""

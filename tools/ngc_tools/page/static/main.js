@@ -17,7 +17,7 @@ import * as tools from './tools.js';
 import { lostOf } from './ways.js';
 
 const app = {
-  state: null, job: null, neverCut: null, travel: null, programId: null, jobId: null, failed: '', asked: 0,
+  state: null, job: null, neverCut: null, travel: null, programId: null, jobId: null, failed: '', asked: '',
   preview: null,
 };
 window.ngc = app; // for who looks at the page from outside, as tests do
@@ -119,7 +119,7 @@ function running(s) {
 
 // A question that isn't of the recovery comes as a sheet of its own.
 function showQuestion(s) {
-  const id = s.question?.id ?? 0;
+  const id = s.question ? `${s.question.id} ${s.yours}` : '';
   if (recovery.isOpen || id === app.asked) return;
   if (!id) {
     sheet.close();

@@ -10,12 +10,12 @@ const NAMES = ['Stored', 'Where it stands', 'Rehearsal', 'Step by step'];
 const AT_ANY_MOMENT = 'Hold and the space bar work at any moment.';
 const SAID = ['said', 'warning', 'refused'];
 const CHOICES = {
-  along: ['Go along the path', 'moves the tool along its very path to where the segment begins. Each step is asked '
-    + 'before it is done.'],
-  legs: ['Go by legs', 'asks for a height, and goes straight up to it, over, and straight down to where the segment '
-    + 'begins.'],
-  straight: ['Resume in one line', 'switches spindle and coolant on as they were, and stops before it moves. You look, '
-    + 'and then the tool goes in one straight line to where the segment begins.'],
+  along: ['Go along the path', 'moves the tool along its very path to where the segment begins, back at the feed that '
+    + 'was cut off at most.'],
+  legs: ['Go by legs', 'asks for a height and a feed, and goes straight up to it, over, and straight down at that feed '
+    + 'to where the segment begins.'],
+  straight: ['Resume in one line', 'goes in one straight line to where the segment begins, at the feed that was cut '
+    + 'off or a slower one; without a player at the traverse rate.'],
   giveUp: ['Give up', 'moves and switches nothing. The line counts as not begun, and the program stays before it. Then '
     + 'the tool is freed by lines of G-code.'],
 };
@@ -272,28 +272,7 @@ export class Recovery {
   questioned(state) {
     const said = this.log.since(state.command?.since ?? 0, SAID);
     const { content, buttons } = question.parts(state.question, said, state.yours, this.asks);
-    if (state.question.purpose !== 'look') {
-      this.put(content, [sheet.gap(AT_ANY_MOMENT), ...buttons]);
-      return;
-    }
-    this.put([sheet.title('The outputs are switched, and nothing has moved. Look:'), this.looks(state, buttons[1])],
-      [sheet.gap(AT_ANY_MOMENT), ...buttons]);
-  }
-
-  // What somebody has to have looked at before it moves: each is touched.
-  looks(state, go) {
-    const says = [`Spindle and coolant are as they should be: ${this.plan?.comes_on ?? 'as they were'}`,
-      state.slot ? `Tool ${state.slot} is in the spindle, and it is sound` : 'The right tool is in, and it is sound',
-      'The way is free, and my hand is at Hold'];
-    const seen = says.map(() => false);
-    const look = i => event => {
-      seen[i] = !seen[i];
-      event.currentTarget.setAttribute('aria-pressed', String(seen[i]));
-      go.disabled = !(state.yours && seen.every(Boolean));
-    };
-    go.disabled = true;
-    return el('div', { class: 'look' },
-      ...says.map((one, i) => el('button', { 'aria-pressed': 'false', onclick: look(i) }, one)));
+    this.put(content, [sheet.gap(AT_ANY_MOMENT), ...buttons]);
   }
 
   onWay(state) {
@@ -318,6 +297,7 @@ export class Recovery {
       CHOICES[name][0], does[name], this.app.state.yours));
     this.put([sheet.title('Take the line up, or give it up'),
       ...[...offered, 'giveUp'].map(name => sheet.said(el('b', {}, CHOICES[name][0]), ` ${CHOICES[name][1]}`)),
+      sheet.said('Before anything moves, spindle and coolant are switched on as they were, and you look.'),
       sheet.warning('Keep a hand at Hold, and the other at the emergency stop.')],
     [this.back(2), sheet.gap(), this.giveUp(), ...buttons]);
   }
