@@ -224,10 +224,10 @@ class Tools(Documents):
         for line, end in zip(typed.splitlines(True), (b"ngc> ",) * 3, strict=True):
             shown += terminal.read_to(end)
             terminal.send(line.removeprefix("ngc> ").encode())
-        shown += terminal.read_to(b"holds: ")
-        terminal.send(b"yes\n")
-        shown += terminal.read_to(b"ngc> ")
-        terminal.send(b"quit\n")
+        for end, answer in ((b"Nothing ends: ", b"600"), (b"anything else ends: ", b"yes"), (b"holds: ", b"yes"),
+                            (b"ngc> ", b"quit")):
+            shown += terminal.read_to(end)
+            terminal.send(answer + b"\n")
         terminal.read_to(b"never")
         self.assertEqual((terminal.status(), player.wait(PATIENCE_S)), (0, 0))
         self.assertIn(b"segment 0 of line 1: G0 X12\r\n", shown)

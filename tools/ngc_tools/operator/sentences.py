@@ -45,13 +45,13 @@ TAKEN_UP = """\
 in one straight line at the traverse rate from {place} to where that segment begins.
 Z isn't lifted first."""
 LOOK_SWITCHED = """\
-The outputs are switched, and nothing has moved. Is the spindle as it should be, is the right tool in, is the way free?
+The outputs are switched, and nothing has moved. Look: are spindle, tool and way as they should be?
 yes goes there, Enter holds; anything else switches them back: """
 LOOK = """\
-Nothing is switched, and nothing has moved. Is the spindle as it should be, is the right tool in, is the way free?
+Nothing is switched, and nothing has moved. Look: are spindle, tool and way as they should be?
 yes goes there, Enter holds; anything else ends: """
 LOOK_AGAIN = """\
-The motors are held on their way. Is the spindle as it should be, is the right tool in, is the rest of the way free?
+The motors are held on their way. Look: are spindle, tool and the rest of the way as they should be?
 yes goes on, Enter holds; anything else stays: """
 TAKEN_UP_THERE = """\
 {half} is taken up from its beginning.
