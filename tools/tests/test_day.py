@@ -17,7 +17,7 @@ from test_documents import blocks, chapters  # noqa: E402
 from test_moves import Moving  # noqa: E402
 
 STOP, X_LOW, Y_LOW, Z_HIGH, DOOR, PROBE = 0, 1, 2, 3, 4, 6  # inputs
-PROMPT, ASKS = "ngc> ", ("ends: ", "off: ", "holds: ", "goes on: ", "doesn't: ")
+PROMPT, ASKS = "ngc> ", ("ends: ", "off: ", "holds: ", "goes on: ", "doesn't: ", "back: ", "takes 600: ")
 COLUMNS = 116  # of the terminal: so wide are lines of a page
 MACHINE = """[motion]
 accel_mm_s2 = [2000, 2000, 2000]
@@ -120,8 +120,8 @@ class Day(InC, PlayerTest):
         """Says yes to each question, and at which height the legs go."""
         self.send("recover", *ASKS)
         while not self.shown.endswith(PROMPT):
-            is_height = self.shown.endswith("Nothing ends: ")
-            self.send("9.8" if is_height else "yes", *ASKS, PROMPT)
+            typed = {"Nothing ends: ": "9.8", "takes 600: ": "600"}
+            self.send(next((word for end, word in typed.items() if self.shown.endswith(end)), "yes"), *ASKS, PROMPT)
 
     def turns(self, steps: int, number: int) -> None:
         """An input turns round once the motors have made so many steps more."""

@@ -559,7 +559,7 @@ class Power(Served):
         state = page.until("it is known", lambda state: state["known"])
         self.assertEqual(page.post("resume")[0], 200)
         state = page.asked()
-        self.assertIn("How fast there, in mm a minute? It was cut off at 12,", state["question"]["text"])
+        self.assertIn("How fast there, in mm a minute? It was cut off at 12;", state["question"]["text"])
         page.agree(state, "12")
         page.agree(page.asked())  # the spindle
         state = page.asked()

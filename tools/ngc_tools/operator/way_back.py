@@ -19,7 +19,7 @@ from ngc_tools.player.retrace import legs_to
 _SWITCHES = "on was, there: {words}. yes switches it on first, anything else leaves it off: "
 _HEIGHT = """\
 by legs then: straight up, over, and down to {at}. Up to which Z, in machine mm, from {low} to {high}? Nothing ends: """
-_FEED = "How fast {where}, in mm a minute? It was cut off at {feed}, and no more is taken. Nothing takes {feed}: "
+_FEED = "How fast {where}, in mm a minute? It was cut off at {feed}; no more is taken. Nothing takes {feed}: "
 _ANY_FEED = "How fast {where}, in mm a minute? No feed is known of what was cut off. Nothing ends: "
 _HELD = "held. yes goes on; anything else stays, and recover goes on later: "
 _NOT_GONE = "The player doesn't go there, and nothing is told to ngc: the player says why at its own terminal"
