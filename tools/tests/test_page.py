@@ -623,6 +623,23 @@ class PowerOfFile(Served):
         state = page.until("it goes on", lambda state: float(state["motors"][0]) < 2 and state["moving"])
         self.assertEqual((state["line"], state["word"]), (5, "Running"))
 
+    def test_before_the_player(self) -> None:
+        """`ngc` is begun again before the player is back: it says why that can't be, at each try, and once the player
+        is back it begins."""
+        page = self.page()
+        state = page.next()
+        self.player.kill()
+        self.player.wait()
+        os.unlink("progress")
+        page.until("it is seen", lambda state: state["player_gone"])
+        for _ in range(3):
+            status, said = page.post("restart")
+            self.assertEqual((status, said["why"].partition(": ")[2]), (422, "no player listens there: No such file or"
+                                                                             " directory"))
+        self.begin_player()
+        self.assertEqual(page.post("restart"), (200, {}))
+        page.until("it begins", lambda now: now["session"] != state["session"] and not now["ended"])
+
     def look(self, page: Page) -> dict:
         """Agrees to all that is asked, up to the look at the machine; the state then, or where nothing more is asked.
         """

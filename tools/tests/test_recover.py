@@ -2,6 +2,7 @@
 import os
 import random
 import shutil
+import signal
 import subprocess
 import sys
 import time
@@ -25,7 +26,7 @@ from ngc_tools.formats.record import Record  # noqa: E402
 from ngc_tools.formats.settings import Settings  # noqa: E402
 from ngc_tools.ngc.carried import CannotTell  # noqa: E402
 from ngc_tools.ngc.console import Console, Status  # noqa: E402
-from ngc_tools.ngc.handed_out import Finder, FileRecord  # noqa: E402
+from ngc_tools.ngc.handed_out import Finder, FileRecord, _only  # noqa: E402
 from ngc_tools.operator.meter import Meter  # noqa: E402
 from ngc_tools.operator.operator import Operator  # noqa: E402
 from ngc_tools.operator.past import along_out, by_rate  # noqa: E402
@@ -393,6 +394,19 @@ class Finding(InFolder):
                          (wanted, uncut.at(wanted), False))
         self.assertEqual(whole.splitlines(), uncut.lines[:whole.count(b"\n")])
         self.assertGreaterEqual(len(whole), found.size)
+
+    def test_short(self) -> None:
+        """Where less was handed out than the bytes by which a place is known, the search comes to its end: by hand, OUT
+        ends with both lines, with the first alone, and with neither."""
+        whole = b"P 1 0 0 50\nP 0 1 0 50\n"
+        before = signal.signal(signal.SIGALRM, lambda *_: self.fail("it doesn't come to an end"))
+        self.addCleanup(signal.signal, signal.SIGALRM, before)
+        self.addCleanup(signal.alarm, 0)
+        signal.alarm(20)
+        for text, count in ((b"D 9\n" + whole, 22), (whole + b"D 9\n" + whole, 22), (b"D 9\nP 1 0 0 50\n", 11),
+                            (b"D 9\n", None), (b"", None)):
+            self.assertEqual(_only(text, len(text), whole), count, text)
+        self.assertIsNone(_only(b"D 9\n", 4, b""))
 
     def test_what_doesnt_belong(self) -> None:
         """Another OUT than the device's, and a record that counts more than OUT has."""

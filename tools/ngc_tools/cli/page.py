@@ -126,8 +126,16 @@ class Opener:
 
     def __call__(self, face: PageFace) -> Opened:
         """Begins one. Raises CannotBegin, NoAnswer, BadSettings, ValueError, Ended, OSError."""
+        meter = metered(self.args)
+        try:
+            return self._begun(face, meter)
+        except BaseException:
+            if meter:
+                meter.link.close()
+            raise
+
+    def _begun(self, face: PageFace, meter: Meter | None) -> Opened:
         args = self.args
-        meter = metered(args)
         pipe = look(args.device, args.settings, args.out)
         look_at_settings(self.ngc, args.settings)
         found, left_at = as_found(args.device), os.stat(args.device).st_mtime

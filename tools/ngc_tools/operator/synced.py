@@ -75,9 +75,11 @@ class SyncedLink(Link):
         super().end()
 
     def close(self) -> None:
-        """Asks nothing more."""
+        """Asks nothing more; once more it does nothing, since the number of the file may be another file's by then."""
         super().close()
-        os.close(self.file)
+        file, self.file = self.file, -1
+        if file >= 0:
+            os.close(file)
 
     def _tell(self) -> None:
         size = self.size()
