@@ -24,7 +24,7 @@ WORDS = ("--headless=new", "--no-sandbox", "--disable-gpu", "--no-first-run", "-
          "--disable-dev-shm-usage", "--remote-debugging-pipe")
 _POINT = """(() => {
     const found = [...document.querySelectorAll(%s)].filter(one => one.offsetParent !== null && !one.disabled
-        && one.textContent.includes(%s)).pop();
+        && !one.closest('[inert]') && one.textContent.includes(%s)).pop();
     if (!found) return null;
     found.scrollIntoView({block: 'nearest'});
     const box = found.getBoundingClientRect();
@@ -99,6 +99,10 @@ class Browser:
         """Where the middle of that button is."""
         x, y = self.wait(_POINT % (json.dumps(within), json.dumps(says)))
         return x, y
+
+    def hurry(self) -> None:
+        """Buttons of the page that come to mean something else are dead for a moment, in the place of a second."""
+        self.js("void (ngc.dead.ms = 50)")
 
     def fill(self, entry: str, text: str) -> None:
         """Types into an entry, in the place of what stands there."""

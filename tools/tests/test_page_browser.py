@@ -138,6 +138,7 @@ class InBrowser(Served):
         self.browser.size(*SIZES[0])
         self.browser.open(self.address)
         self.browser.wait("window.ngc?.state?.yours && ngc.jobId !== null")
+        self.browser.hurry()
 
     def choose(self, text: str, name: str = "part.ngc") -> None:
         """Chooses a program, and waits until it is looked at."""

@@ -89,6 +89,7 @@ class Walk(Served):
         """Opens the address that the server printed."""
         self.browser.open(self.address)
         self.browser.wait("window.ngc?.state?.yours && ngc.jobId !== null")
+        self.browser.hurry()
 
     def begin_player(self) -> None:
         """Starts the player as PAGE.md does."""
@@ -269,6 +270,9 @@ class Day(Walk):
         stood = self.browser.js("ngc.state.motors.join()")
         self.browser.js("new Promise(done => setTimeout(done, 200))")
         self.assertEqual(self.browser.js("ngc.state.motors.join()"), stood)
+        enabled = "[...document.querySelectorAll('.pad button, #tab-setup .four button')].filter(one => !one.disabled)"
+        self.assertEqual(self.browser.js(f"{enabled}.length"), 0)  # what would be refused isn't enabled, and why is said
+        self.assertIn("A line is held", self.browser.js("document.querySelector('#tab-setup .why').textContent"))
         self.press("Continue", "#run")
         self.wait("s.waits && s.waits_tool === 2 && s.spindle === 0")
         self.press("Tool 2 is in", "#run")

@@ -7,6 +7,7 @@ from dataclasses import dataclass
 
 from ngc_tools.operator.face import MESSAGE, REFUSED, SAID, WARNING, WHERE, UnderWay
 from ngc_tools.operator.sentences import GO_ON, LOOK, LOOK_AGAIN, LOOK_SWITCHED, SWITCHED, SWITCHED_THERE
+from ngc_tools.page.words import page_words
 from ngc_tools.player.progress import Report
 
 ENTRIES = 400
@@ -75,6 +76,8 @@ class PageFace:
             return
         if kind == MESSAGE:
             self.message = text.partition(": ")[2]
+        if kind in (REFUSED, WARNING):
+            text = page_words(text)
         if kind == REFUSED:
             self.refusal = text
         with self._lock:

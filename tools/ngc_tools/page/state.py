@@ -63,10 +63,15 @@ class Pictured:
         line, report, state = self._change, self.report, self.device.state
         if line is not None:
             return next((one for one in self._states() if self.program.number(one.place) <= line), state)
-        is_ahead = report is not None and (report.behind > 0 or self.status.half != "none")
+        is_ahead = report is not None and (report.behind > 0 or self.status.half != "none" or self._has_left)
         if not is_ahead or report.outputs.slot == state.slot:
             return state
         return next((one for one in self._states() if one.slot == report.outputs.slot), None)
+
+    @property
+    def _has_left(self) -> bool:
+        """Whether lines stand in OUT that no motor carried out, since the last session."""
+        return self.stand.recovery is not None and self.stand.recovery["left"]
 
     def _states(self) -> Iterator[State]:
         """What the device stood for, the latest first; also before `ngc` was started, which writes its log anew."""
@@ -193,7 +198,7 @@ class Pictured:
             return {"why": "player", "at": self.face.reported_at}
         if self.report and self.report.word == ALARM:
             return {"why": "alarm", "at": 0}
-        is_lost = not self.status.known and self.command is None and self.status.does == "idle"
+        is_lost = self.command is None and self.status.does == "idle" and (not self.status.known or self._has_left)
         return {"why": "power", "at": self.session.opened.left_at} if is_lost else None
 
     def _session(self) -> dict:

@@ -13,6 +13,7 @@ import { Recovery } from './recovery.js';
 import { Setup } from './setup.js';
 import * as sheet from './sheet.js';
 import * as sight from './sight.js';
+import { dead, means, rest } from './steady.js';
 import * as tools from './tools.js';
 import { lostOf } from './ways.js';
 
@@ -25,14 +26,15 @@ window.ngc = app; // for who looks at the page from outside, as tests do
 const log = new Log();
 const program = new Program();
 const readout = new Readout(asks);
-const setup = new Setup(asks);
+const setup = new Setup(asks, readout);
 const picture = new Picture($('canvas'), (um, px) => {
   text($('scale'), um >= 1000 ? `${grouped(um / 1000)} mm` : `${um} µm`);
   $('scale').style.width = `${px}px`;
 });
 const recovery = new Recovery(app, asks, log);
 const alarm = new Alarm(asks, () => { if (recovery.isOpen) recovery.later(); });
-Object.assign(app, { picture, program, readout });
+Object.assign(app, { picture, program, readout, dead });
+$('run').addEventListener('click', () => rest($('run'))); // the second tap of two means nothing
 
 // Asks the server for something. Gives its answer, or null where it isn't done; `refused` is told why.
 async function asks(what, body, refused = why => log.refuse(why)) {
@@ -55,15 +57,16 @@ function show(s) {
   }
   app.state = s;
   app.isRest = !s.busy && s.half === 'none' && !s.ended && s.yours && !s.player_gone;
-  app.isIdle = app.isRest && ['idle', 'stopped'].includes(s.does);
+  app.isFree = s.yours && !s.ended && !s.player_gone && !s.alarm && !s.broken; // settings are taken
+  app.isIdle = app.isRest && app.isFree && ['idle', 'stopped'].includes(s.does) && !s.recover?.left;
   showWords(s);
   showControls(s);
   const reached = progress(s);
   readout.show(s, rate(s, reached));
-  program.follow(s.line, s.busy || s.half === 'program', s.finished);
-  setup.show(s, app.isIdle);
+  program.follow(s.line, s.busy && !s.does_move || s.half === 'program', s.finished);
+  setup.show(s, app.isIdle && !s.apart.some(Boolean));
   tools.show(s, app.isIdle, asks);
-  log.show(s.log);
+  log.show(s.log, !s.yours || Boolean(s.question));
   recovery.show(s);
   alarm.show(s);
   showQuestion(s);
@@ -78,7 +81,7 @@ function showWords(s) {
   text($('word'), s.word);
   text($('detail'), s.word === 'Question' ? question.short(s.question) : s.detail);
   document.title = `${s.word} \u2013 ngc`;
-  document.body.classList.toggle('blind', Boolean(s.player_gone || s.ended));
+  document.body.classList.toggle('blind', Boolean(s.stale));
   const others = s.pages - 1;
   const watched = others > 0 ? `${others} more page${others > 1 ? 's' : ''}` : '';
   text($('role'), s.yours ? watched : 'This page watches');
@@ -89,14 +92,15 @@ function showControls(s) {
   $('load').disabled = !app.isIdle;
   $('quit').disabled = s.busy || !s.yours;
   $('restart').hidden = !(s.yours && !s.over && (s.ended || s.broken));
-  for (const one of [$('line'), $('do')]) one.disabled = !(app.isRest && s.does !== 'broken');
+  for (const one of [$('line'), $('do')]) one.disabled = !(app.isRest && app.isFree && !s.recover?.left);
   $('hold').disabled = Boolean(s.ended);
   for (const name of ['single', 'optional', 'delete']) {
     $(name).setAttribute('aria-checked', String(Boolean(s[name])));
-    $(name).disabled = !s.yours;
+    $(name).disabled = !app.isFree;
   }
   const [says, isEnabled, does] = running(s);
   text($('run'), says);
+  means($('run'), says);
   $('run').disabled = !isEnabled;
   $('run').onclick = does;
 }
@@ -104,17 +108,33 @@ function showControls(s) {
 // What the large button does now.
 function running(s) {
   const isHalf = s.half !== 'none' && !s.busy && s.does === 'idle';
-  if (s.waits) return [s.waits_tool ? `Tool ${s.waits_tool} is in` : 'Tool is out', s.yours, () => asks('go')];
   if (s.question) return ['Answer first', false, null];
   if (s.alarm) return alarm.button(s);
+  if (s.waits) return [s.waits_tool ? `Tool ${s.waits_tool} is in` : 'Tool is out', s.yours, () => asks('go')];
+  if (s.door_open && s.held_by && !isHalf) return ['Close the door', false, null];
+  if (s.busy && s.held_by && s.held_by !== 'here') return ['Go on', s.yours, () => asks('release')];
   if (isHalf) return ['Recover', s.yours && !recovery.isOpen, () => recovery.begin()];
   if (s.player_gone) return ['Run', false, null];
   if (s.recover?.left && !s.busy && s.half === 'none') return ['Recover', s.yours, takeUpLines];
-  if (s.held_motors && s.does !== 'held' && !s.busy) return ['Let go on', s.yours, () => asks('release')];
+  if (s.held_motors && s.behind && s.does !== 'held' && !s.busy) return ['Go on', s.yours, () => asks('release')];
   if (s.does === 'held') return ['Continue', s.yours && !s.busy, run];
+  if (s.apart.some(Boolean)) return ['Where is it?', app.isRest, whereIsIt];
   if (s.does === 'stopped') return ['Continue', app.isRest, () => (s.typed ? goOn(s, 'Continue') : run())];
   if (s.place > 0 && !s.busy) return [`Run from ${s.line}`, app.isRest && s.known, () => goOn(s, `Run from ${s.line}`)];
   return ['Run', app.isRest && s.known && s.program.lines > 0 && !app.job?.refused, run];
+}
+
+// The motors rest at another place than where ngc takes them to be: as after power was lost in a jog.
+function whereIsIt() {
+  const s = app.state, hasHome = s.machine !== null;
+  const does = (what, body) => () => { sheet.close(); asks(what, body); };
+  sheet.open('Where is the machine?', [
+    sheet.warning('Two places are told. Look at the machine: a line goes from the one that is true.'),
+    sheet.facts([['The player counts', sheet.code(point(s.motors))], ['The last line ended at', sheet.code(point(s.at))]]),
+    hasHome && sheet.said('Where steps may be lost, as after a loss of power, home it.')],
+  [sheet.button('Back', sheet.close), sheet.gap('Nothing moves by the first.'),
+    sheet.button('Where the player counts', does('reference', { at: 'player' })),
+    hasHome ? sheet.go('Home all', does('home', { axes: '' })) : '']);
 }
 
 // A question that isn't of the recovery comes as a sheet of its own.
@@ -134,6 +154,7 @@ function showQuestion(s) {
 // Where the program is, in the picture, the bar and the times. Gives the step that the motors are on.
 function progress(s) {
   const { job } = app, motors = micrometres(s.motors ?? s.at), place = job ? job.place(s) : { done: 0, now: -1 };
+  if (s.does_move) place.now = -1; // no line is under way
   const ahead = 1000 * (s.behind_mm ?? 2) + 1000;
   const reached = place.now >= 0 ? job.reached(place.now, motors, ahead) : { step: -1, share: 0, part: 1 };
   const done = place.now >= 0 ? reached.step : place.done;
@@ -162,7 +183,7 @@ function showTimes(s, done, share) {
 
 // How fast the motors go, by the step that they are on.
 function rate(s, { step }) {
-  if (!app.job || step < 0 || !s.busy || s.half === 'none' || s.held_motors) return null;
+  if (!app.job || step < 0 || !s.busy || s.half === 'none' || s.held_motors || s.does_move) return null;
   const mean = app.job.rate(step) * (s.percent ?? 100) / 100;
   return mean ? { feed: mean, isTraverse: app.job.kind[step] === TRAVERSE } : null;
 }

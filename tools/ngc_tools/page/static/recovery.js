@@ -177,7 +177,7 @@ export class Recovery {
     return [sheet.title('Everything that was acknowledged is still there'),
       sheet.lead(state.half_text.trim() || '(no text)'),
       sheet.facts([['Stored', `${grouped(state.entries)} entries: each is there`], ['Half-done', half],
-        ['Under way', `${way} ${state.segment + 1} of that line`],
+        ['Under way', `${way} ${state.segment} of that line, counted from 0`],
         ['It begins at', found?.begins?.length && sheet.code(point(found.begins))], ['Was on there', found?.comes_on],
         ['From there to the end', found?.rest_us && lasting(found.rest_us)]]),
       found ? found.refused && sheet.warning(found.refused, 'bad') : this.notRehearsed(),
@@ -228,7 +228,7 @@ export class Recovery {
     set(this.sure[i]);
     const record = state.motors ? `the record says ${mm(state.motors[i])}` : 'no player is known: measure it';
     return el('div', { class: 'confirm' }, el('b', {}, AXES[i]), input, button,
-      el('small', {}, `${record}; before the line ${mm(state.at[i])}`));
+      el('small', {}, `${record}; before the line ${mm(state.began_at[i])}`));
   }
 
   // ---- 3: a rehearsal

@@ -1,0 +1,183 @@
+"""What a finger does on the page, and what it sees there: buttons that come to mean something else, refusals, scrolling
+on a jog button, windows that are upright, and the units of the readout."""
+import sys
+import unittest
+from pathlib import Path
+
+sys.path.insert(0, str(Path(__file__).resolve().parent))
+
+import test_page_browser  # noqa: E402
+from test_page_browser import InBrowser  # noqa: E402
+
+UPRIGHT = ((820, 1180), (390, 844), (360, 640))
+CHANGE = "G17 G21 G90 G94\nT1 M6\nG1 X5 F60\nM2\n"
+OVER = """(() => {
+    const out = [], far = document.getElementById('hold').getBoundingClientRect();
+    if (far.left < 0 || far.top < 0 || far.right > innerWidth || far.bottom > innerHeight) out.push('Hold is off');
+    if (document.documentElement.scrollWidth > innerWidth) out.push('too wide');
+    for (const one of document.querySelectorAll('button, input')) {
+        if (!one.checkVisibility() || !one.offsetWidth) continue;
+        one.scrollIntoView({ block: 'center' });
+        const box = one.getBoundingClientRect(), x = box.left + box.width / 2, y = box.top + box.height / 2;
+        const inert = one.closest('[inert]');
+        const found = document.elementFromPoint(x, y);
+        const isUnder = document.getElementById('over').checkVisibility() && one.closest('main');
+        if (!inert && !isUnder && found !== one && !one.contains(found)) {
+            out.push([one.id || one.textContent, found && (found.id || found.className || found.tagName)].join(' under '));
+        }
+        if (!isUnder && (box.left < 0 || box.right > innerWidth + 0.5)) out.push(`${one.id || one.textContent} is out`);
+    }
+    const scale = document.getElementById('scale').getBoundingClientRect();
+    for (const one of document.querySelectorAll('.path .views button, #legend')) {
+        const box = one.getBoundingClientRect();
+        const isApart = box.right < scale.left || box.left > scale.right || box.bottom < scale.top
+            || box.top > scale.bottom;
+        if (!isApart) out.push(`the scale lies over ${one.id || one.textContent}`);
+    }
+    document.querySelector('main').scrollTop = 0;
+    return out;
+})()"""
+"""What lies over a button or an entry, or is out of the window to the side; whether Hold isn't on the screen."""
+FINGER = """void (window.finger = (kind, down) => document.querySelector('.pad .right').dispatchEvent(new PointerEvent(kind,
+    { pointerType: 'touch', pointerId: 7, clientX: 100, clientY: 100 - down, button: 0, bubbles: true })))"""
+"""What a finger does on the button X+, so far above where it came down."""
+
+
+class Upright(InBrowser):
+    """A tablet that stands upright, and a phone."""
+
+    def test_upright(self) -> None:
+        """Hold is on the screen, nothing lies over anything, and the picture's scale over no button; on a sheet too."""
+        browser = self.browser
+        for width, height in UPRIGHT:
+            browser.size(width, height)
+            for tab in ("setup", "tools", "log", "program"):
+                browser.js(f"document.querySelector('[data-tab={tab}]').click()")
+                browser.frame()
+                self.assertEqual(browser.js(OVER), [], (tab, width))
+        self.choose("G1 X1 Q2 F10\nM2\n")
+        for width, height in UPRIGHT:
+            browser.size(width, height)
+            self.assertEqual(browser.js(OVER), [], ("a sheet", width))
+        browser.size(1280, 800)
+        self.no_complaints()
+
+
+class Steady(InBrowser):
+    """A finger that taps twice."""
+
+    MACHINE = "[motion]\naccel_mm_s2 = [500, 500, 300]\n"
+
+    def test_twice(self) -> None:
+        """After a hold at a tool change the second tap on `Tool 1 is in` doesn't hit `Continue`."""
+        browser = self.browser
+        browser.js("document.querySelector('[data-tab=tools]').click()")
+        browser.fill("#tab-tools input", "50")
+        browser.press("Add", "#tab-tools button")
+        browser.wait("ngc.state.tools.length === 1 && !ngc.state.busy")
+        self.load(CHANGE, 4)
+        browser.press("Run", "#run")
+        browser.wait("ngc.state.waits")
+        browser.press("Hold", "#hold")
+        browser.wait("ngc.state.does === 'held' && !ngc.state.busy")
+        browser.js("void (ngc.dead.ms = 4000)")
+        x, y = browser.place("Tool 1 is in", "#run")
+        for _ in range(2):
+            browser.down(x, y)
+            browser.up(x, y)
+            browser.wait("document.getElementById('run').textContent === 'Continue'")
+        self.assertTrue(browser.js("document.getElementById('run').inert"))
+        seen = browser.js("ngc.state.now")
+        browser.wait(f"ngc.state.now > {seen} + 1")
+        self.assertEqual(browser.js("[ngc.state.does, ngc.state.busy, Number(ngc.state.motors[0])]"), ["held", False, 0])
+        browser.press("Continue", "#run")
+        browser.wait("ngc.state.motors[0] > 0")
+        self.no_complaints()
+
+
+class Fingers(test_page_browser.Moves):
+    """On a machine that homes and jogs, whose player is in this process."""
+
+    test_setup = test_axis_without_home = None
+
+    def setUp(self) -> None:
+        """Opens the tab."""
+        super().setUp()
+        self.browser.press("Setup", "nav button")
+
+    def test_refused(self) -> None:
+        """What the player refuses is said beside the button that was touched, and in Log; it goes with the next touch.
+        """
+        browser = self.browser
+        self.machine.axes.refuses = "the emergency stop is on"
+        browser.press("Home all", "#tab-setup button")
+        says = browser.wait("document.getElementById('toast').checkVisibility() && document.getElementById('toast')"
+                            ".textContent")
+        self.assertEqual(says, "home: the emergency stop is on")
+        apart = browser.js("""(() => {
+            const toast = document.getElementById('toast').getBoundingClientRect();
+            const home = document.querySelector('#tab-setup .four button').getBoundingClientRect();
+            return Math.max(toast.top - home.bottom, home.top - toast.bottom);
+        })()""")
+        self.assertTrue(0 <= apart < 30, apart)
+        self.assertIn(says, browser.js("document.getElementById('log').textContent"))
+        browser.wait("!ngc.state.busy")
+        browser.js("new Promise(done => setTimeout(done, 800))")
+        browser.press("Home all", "#tab-setup button")
+        browser.wait("ngc.state.homed === 'XYZ' && !ngc.state.busy")
+        self.assertFalse(browser.js("document.getElementById('toast').checkVisibility()"))
+
+    def test_two_places(self) -> None:
+        """Where the motors rest elsewhere than the last line ended, by a step or more, the page asks which is so."""
+        browser = self.browser
+        browser.fill("#line", "G0 X0.0004")  # less than half a step of 1000 nm
+        browser.press("Do", "#do")
+        browser.wait("ngc.state.at[0] === '0.000400' && !ngc.state.busy")
+        self.assertEqual(browser.js("[ngc.state.word, ngc.state.apart[0]]"), ["Idle", False])
+        self.machine.axes.at_nm = [0, 0, 11_295_000]
+        browser.wait("ngc.state.word === 'Two places' && ngc.state.apart[2]")
+        enabled = browser.js("[...document.querySelectorAll('#tab-setup .four button')].map(one => !one.disabled)")
+        self.assertEqual(enabled, [True] * 4 + [False] * 4)  # home, but no zero
+        browser.press("Where is it?", "#run")
+        self.look("two places")
+        browser.press("Where the player counts", "#over button")
+        browser.wait("ngc.state.word === 'Idle' && ngc.state.at[2] === '11.295000'")
+        self.no_complaints()
+
+    def test_scroll(self) -> None:
+        """A finger that begins to scroll on a jog button jogs nothing; one that rests there does, until it is lifted,
+        and with a length one that taps.
+        """
+        browser, jogs = self.browser, lambda: [word for word in self.machine.axes.words if word.startswith("jog")]
+        browser.js(FINGER)
+        for length in ("10", "Cont."):
+            browser.press(length, ".jog .choices button")
+            browser.js("finger('pointerdown', 0), finger('pointermove', 30), finger('pointercancel', 30)")
+            browser.js("finger('pointerdown', 0), finger('pointermove', 30), finger('pointerup', 30)")
+        browser.js("new Promise(done => setTimeout(done, 400))")
+        self.assertEqual(jogs(), [])
+        self.assertEqual(browser.js("getComputedStyle(document.querySelector('.pad .right')).touchAction"), "pan-y")
+        browser.js("finger('pointerdown', 0)")
+        self.wait_for("it goes on while the finger rests", lambda: self.jogs() > 3)
+        browser.js("finger('pointerup', 0)")
+        browser.wait("!ngc.state.busy && ngc.state.at[0] > 0")
+        browser.press("10", ".jog .choices button")
+        browser.js("finger('pointerdown', 0), finger('pointermove', 3), finger('pointerup', 3)")
+        self.wait_for("it goes so far", lambda: jogs()[-1].endswith("X+ 600 for 10"))
+
+    def test_inches(self) -> None:
+        """The readout has its unit; inches where they are chosen, also once the page is opened again."""
+        browser, x = self.browser, "document.querySelector('.axis output').textContent"
+        unit = "document.querySelector('.axis small').textContent"
+        browser.press("Home all", "#tab-setup button")
+        browser.wait("ngc.state.homed === 'XYZ' && !ngc.state.busy")
+        self.assertEqual(browser.js(f"[{x}, {unit}]"), ["\u2212298.000", "mm"])
+        browser.press("Readout in inches", "#tab-setup button")
+        self.assertEqual(browser.js(f"[{x}, {unit}]"), ["\u221211.7323", "in"])  # 298 / 25.4
+        browser.open(self.address)
+        browser.wait(f"window.ngc?.state?.yours && {unit} === 'in'")
+        browser.js("void localStorage.removeItem('unit')")
+
+
+if __name__ == "__main__":
+    unittest.main()
