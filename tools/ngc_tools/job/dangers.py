@@ -29,8 +29,8 @@ HOME = re.compile(rb"G0*(28|30)(?:\.0*)?(?![0-9.])", re.IGNORECASE)
 @dataclass(frozen=True, slots=True)
 class Conditions:
     """What a program is checked under: where it begins, what is in force there, the settings, None for the default
-    ones, whether the device is large, whether it is known where the work zero is, and what the motors allow, if that is
-    known."""
+    ones, whether the device is large, whether it is known where the work zero is, what the motors allow, if that is
+    known, and whether the reader of OUT asks for tools itself."""
 
     beginning: Beginning
     begun: InForce
@@ -38,6 +38,7 @@ class Conditions:
     is_large: bool = False
     is_placed: bool = False
     motion: Motion | None = None
+    asks_tools: bool = False
 
     @property
     def tools_nm(self) -> tuple[int, ...]:
@@ -55,7 +56,8 @@ def dangers(lines: Lines, run: Run, under: Conditions) -> list[Danger]:
     found = [*(Danger(0, "device", note) for note in notes), *_too_long(lines, under.is_large),
              *_homes(lines, printed), *_dwells(printed), *_full_turns(acts),
              *heights.heights(lines, acts, under.is_placed), *heights.first_descent(lines, acts),
-             *cutting.spindle(acts), *cutting.lengths(lines, acts, under.tools_nm), *cutting.tool_changes(acts),
+             *cutting.spindle(acts), *cutting.lengths(lines, acts, under.tools_nm),
+             *(() if under.asks_tools else cutting.tool_changes(acts)),
              *(cutting.unset(lines, acts, under.tools_nm) if under.beginning.image is not None else ()),
              *_other_lengths(lines, acts, under),
              *(cutting.capped(acts, under.settings) if under.settings else ()),

@@ -1,10 +1,14 @@
 """What a page may ask for, by name, each with its words looked at. No word of a page reaches `ngc` but in these forms.
 """
+import json
 import re
 from collections.abc import Callable
 from dataclasses import dataclass
 from http import HTTPStatus
 
+from ngc_tools.formats.device import SLOTS
+from ngc_tools.formats.position import nanometres
+from ngc_tools.job.cam_homes import HomeAnswers
 from ngc_tools.operator.motors import PERCENTS, SPINDLE_PERCENTS
 from ngc_tools.page.http import RequestRefused
 from ngc_tools.page.pages import Pages
@@ -81,6 +85,25 @@ def number_of(value: object) -> str:
     if not isinstance(value, str) or not _NUMBER.fullmatch(value):
         raise BadWords("a number in millimetres, with at most six decimals")
     return value
+
+
+def cam_answers(text: str) -> HomeAnswers:
+    """What a person says of a CAM system's text, in JSON, as `{"lift": "10", "park": ["0", "0"], "tools": {"201": 1}}`.
+    Raises BadWords."""
+    try:
+        said = json.loads(text)
+    except (ValueError, RecursionError):
+        said = None
+    if not isinstance(said, dict) or not isinstance(tools := said.get("tools", {}), dict):
+        raise BadWords("answers: an object")
+    lift, park = said.get("lift"), said.get("park")
+    if park is not None and not (isinstance(park, list) and len(park) == 2):
+        raise BadWords("park: two numbers in millimetres")
+    slots = {int(number): slot for number, slot in tools.items() if re.fullmatch("[1-9][0-9]{0,8}", number)}
+    if len(slots) < len(tools) or not all(type(slot) is int and 1 <= slot <= SLOTS for slot in slots.values()):
+        raise BadWords(f"tools: each has a slot from 1 to {SLOTS}")
+    return HomeAnswers(None if lift is None else nanometres(number_of(lift)),
+                       None if park is None else (nanometres(number_of(park[0])), nanometres(number_of(park[1]))), slots)
 
 
 def keep_checked(checked: dict[str, tuple[str, bytes]], name: str, text: bytes, ident: str) -> None:

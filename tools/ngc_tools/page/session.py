@@ -16,12 +16,13 @@ from ngc_tools.failure import Failure
 from ngc_tools.formats.device import Device
 from ngc_tools.formats.position import nanometres
 from ngc_tools.formats.settings import Settings
+from ngc_tools.job.cam_homes import HomeAnswers
 from ngc_tools.ngc.console import Ended, Status
 from ngc_tools.operator.face import REFUSED, WARNING
 from ngc_tools.operator.motors import SPINDLE_PERCENTS, WHOLE
 from ngc_tools.operator.operator import Operator
 from ngc_tools.operator.sentences import explained
-from ngc_tools.page.aside import Aside
+from ngc_tools.page.aside import Aside, Child
 from ngc_tools.page.drawer import Drawer
 from ngc_tools.page.drawing import DrawingRequest, as_begun
 from ngc_tools.page.face import PageFace
@@ -101,6 +102,7 @@ class PageSession:
         `opens` raises."""
         self._opens, self.face, self.machine = opens, face, machine
         self.aside, self.jogs = Aside(), HeldJog()
+        self._checks: dict[str, Child] = {}  # by the page that asked
         self.over = threading.Event()
         self.name, self.program_id, self.ended = "", 1, "it isn't begun yet"
         self.drawer = Drawer(self.aside, face.publish)
@@ -276,11 +278,31 @@ class PageSession:
             return True
         return bool(self.ask("load", does, 600))
 
-    def check(self, text: bytes) -> dict:
-        """What `ngc-check` finds of a text, which begins as the device stands. Raises NotDone, OSError."""
-        console = self.operator.console
-        check = Check(console.ngc, console.settings, self.kept.device.image, self.operator.session.delete)
-        return self.aside.call(find, check, text)
+    def check(self, page: str, text: bytes, answers: HomeAnswers) -> tuple[dict, bytes]:
+        """What `ngc-check` and `ngc-adapt` find of a text, which begins as the device stands, and the text that is
+        meant. A page has one check under way. Raises NotDone, OSError."""
+        console, session = self.operator.console, self.operator.session
+        check = Check(console.ngc, console.settings, self.kept.device.image, session.delete, session.meter is not None,
+                      answers)
+        child = self.aside.begin(find, check, text)
+        before, self._checks[page] = self._checks.get(page), child
+        if before:
+            before.give_up()
+        try:
+            return self.aside.finish(child)
+        finally:
+            if self._checks.get(page) is child:
+                del self._checks[page]
+
+    def checking(self, page: str) -> dict | None:
+        """How far the check of a page is; None where none is under way, or it hasn't begun."""
+        child = self._checks.get(page)
+        return child.told if child else None
+
+    def end_check(self, page: str) -> None:
+        """Nobody wants the check of a page any more."""
+        if child := self._checks.get(page):
+            child.give_up()
 
     def preview(self, text: bytes) -> bytes:
         """A program that isn't loaded as it would be drawn, in JSON. Raises NotDone, OSError."""
