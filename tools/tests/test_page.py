@@ -22,6 +22,7 @@ from session_support import FIRST, PATIENCE_S, TOOLS, InFolder, ngc, told  # noq
 
 from ngc_tools.cli.page import main  # noqa: E402
 from ngc_tools.ngc.console import Console  # noqa: E402
+from ngc_tools.operator.face import REFUSED  # noqa: E402
 from ngc_tools.operator.sentences import SWITCHED  # noqa: E402
 from ngc_tools.page import server as server_module  # noqa: E402
 from ngc_tools.page.aside import Aside, NotDone  # noqa: E402
@@ -736,6 +737,32 @@ class Jobs(InFolder):
             self.assertTrue(said["refused"].startswith(says), said)
             self.assertIn("\nIs a coordinate wrong? Write it anew: step 2.", said["refused"])
             self.assertEqual((said["begins"], said["approach"]), ([], None))
+
+
+class PageWords(unittest.TestCase):
+    """What is refused and warned of names the page's buttons, and no word that is typed at a console."""
+
+    def test_words(self) -> None:
+        """Each of these is said by the core."""
+        for said, shown in (
+                ("held before line 5: G1: run goes on; a line of G-code, as M5, is done and ends the hold; then home",
+                 "held before line 5: G1: Continue goes on; a line of G-code, as M5, is done and ends the hold"),
+                ("line 5: G1 X1 runs: hold first", "line 5: G1 X1 runs: Hold first"),
+                ("segment 0 of line 4: X2 is half-done. rehearse says what resume would do; reference player, or"
+                 " reference X Y Z, then resume or abandon, and home after that",
+                 "segment 0 of line 4: X2 is half-done. Recover takes it up, or gives it up"),
+                ("nothing is done: the motors are held with 5 lines in hand. release lets them carry those out, and run"
+                 " goes on", "nothing is done: the motors are held with 5 lines in hand. Go on carries those out"),
+                ("the player says that the motors are at X0 Y0 Z1, and ngc takes them to be at X0 Y0 Z0: 1.000 mm"
+                 " apart. Nothing is done.\n  reference player takes the player's point; run anyway goes on from ngc's",
+                 "The player counts X0 Y0 Z1, and the last line ended at X0 Y0 Z0: 1.000 mm apart. Nothing is done."
+                 " Where is it? asks which is so; home tells it anew"),
+                ("refused K3 PlaceUnknown: it isn't known where the machine stands: reference player, or reference X Y"
+                 " Z", "it isn't known where the machine stands: home, or tell where it is"),
+                ("refused X2 OutsideTravel: X leaves the travel", "refused X2 OutsideTravel: X leaves the travel")):
+            face = PageFace()
+            face.say(said, REFUSED)
+            self.assertEqual((face.log[-1].text, face.refusal), (shown, shown))
 
 
 class Faces(unittest.TestCase):

@@ -378,6 +378,7 @@ class Moves(InBrowser):
         browser.wait("!ngc.state.busy && Number(ngc.state.at[0]) > -298")
         stopped = self.jogs()
         browser.press("Set XY", "#tab-setup button")
+        browser.press("Yes: moves it", "#over button")
         browser.wait("ngc.state.work[0] === '0.000000' && ngc.state.work[1] === '0.000000'")
         browser.press("Undo: G10", "#tab-setup button")
         browser.wait("ngc.state.work[1] === ngc.state.at[1]")

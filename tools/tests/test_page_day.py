@@ -170,6 +170,7 @@ class Day(Walk):
     def jogs(self) -> None:
         """For as long as a finger is down, and then a number of millimetres."""
         before = self.browser.js("ngc.state.motors[0]")
+        self.press("Cont.", ".jog button")
         x, y = self.browser.place("X+", ".pad button")
         for _ in range(PRESSES):
             self.browser.down(x, y)
@@ -271,7 +272,7 @@ class Day(Walk):
         self.browser.js("new Promise(done => setTimeout(done, 200))")
         self.assertEqual(self.browser.js("ngc.state.motors.join()"), stood)
         enabled = "[...document.querySelectorAll('.pad button, #tab-setup .four button')].filter(one => !one.disabled)"
-        self.assertEqual(self.browser.js(f"{enabled}.length"), 0)  # what would be refused isn't enabled, and why is said
+        self.assertEqual(self.browser.js(f"{enabled}.length"), 0)  # they would be refused
         self.assertIn("A line is held", self.browser.js("document.querySelector('#tab-setup .why').textContent"))
         self.press("Continue", "#run")
         self.wait("s.waits && s.waits_tool === 2 && s.spindle === 0")

@@ -23,7 +23,7 @@ OVER = """(() => {
         const found = document.elementFromPoint(x, y);
         const isUnder = document.getElementById('over').checkVisibility() && one.closest('main');
         if (!inert && !isUnder && found !== one && !one.contains(found)) {
-            out.push([one.id || one.textContent, found && (found.id || found.className || found.tagName)].join(' under '));
+            out.push(`${one.id || one.textContent} under ${found && (found.id || found.className || found.tagName)}`);
         }
         if (!isUnder && (box.left < 0 || box.right > innerWidth + 0.5)) out.push(`${one.id || one.textContent} is out`);
     }
@@ -38,8 +38,10 @@ OVER = """(() => {
     return out;
 })()"""
 """What lies over a button or an entry, or is out of the window to the side; whether Hold isn't on the screen."""
-FINGER = """void (window.finger = (kind, down) => document.querySelector('.pad .right').dispatchEvent(new PointerEvent(kind,
-    { pointerType: 'touch', pointerId: 7, clientX: 100, clientY: 100 - down, button: 0, bubbles: true })))"""
+FINGER = """void (window.finger = (kind, down) => {
+    const what = { pointerType: 'touch', pointerId: 7, clientX: 100, clientY: 100 - down, button: 0, bubbles: true };
+    document.querySelector('.pad .right').dispatchEvent(new PointerEvent(kind, what));
+})"""
 """What a finger does on the button X+, so far above where it came down."""
 
 
@@ -89,7 +91,8 @@ class Steady(InBrowser):
         self.assertTrue(browser.js("document.getElementById('run').inert"))
         seen = browser.js("ngc.state.now")
         browser.wait(f"ngc.state.now > {seen} + 1")
-        self.assertEqual(browser.js("[ngc.state.does, ngc.state.busy, Number(ngc.state.motors[0])]"), ["held", False, 0])
+        self.assertEqual(browser.js("[ngc.state.does, ngc.state.busy, ngc.state.motors[0]]"),
+                         ["held", False, "0.000000"])
         browser.press("Continue", "#run")
         browser.wait("ngc.state.motors[0] > 0")
         self.no_complaints()

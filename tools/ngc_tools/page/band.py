@@ -70,7 +70,8 @@ class Standing:
         report, question = self.report, self.session.face.question
         if report and report.waits:
             change = f"Put in tool {report.tool}" if report.tool else "Take the tool out"
-            return "Tool change", "ask", change + (". It is held too: Continue comes after that" if self._holds() else "")
+            held = ". It is held too: Continue comes after that" if self._holds() else ""
+            return "Tool change", "ask", change + held
         if question and question.text in LOOKS:
             is_on = self.report is None or on_words(self.report.outputs)
             return "Switched on" if is_on else "Look", "ask", "Nothing moves. Look at spindle, tool and way"

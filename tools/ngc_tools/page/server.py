@@ -182,8 +182,8 @@ class Server:
     def state(self, page: str, told: int) -> tuple[bytes, int]:
         """What a page shows, with the entries of the log behind the one that it was told last, and the last one now."""
         log = [asdict(entry) for entry in list(self.session.face.log) if entry.id > told]
-        said = state_of(self.session, page) | {"log": log, "yours": self.pages.commands == page, "pages": len(self.pages),
-                                         "on_loss": self.pages.on_loss, "now": time.time()}
+        pages = {"yours": self.pages.commands == page, "pages": len(self.pages), "on_loss": self.pages.on_loss}
+        said = state_of(self.session, page) | pages | {"log": log, "now": time.time()}
         return _json(said), log[-1]["id"] if log else told
 
     async def changed(self, seen: int) -> int:

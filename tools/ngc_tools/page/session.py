@@ -22,6 +22,7 @@ from ngc_tools.operator.face import REFUSED, WARNING
 from ngc_tools.operator.motors import SPINDLE_PERCENTS, WHOLE
 from ngc_tools.operator.operator import Operator
 from ngc_tools.operator.sentences import explained
+from ngc_tools.operator.session import ALARM
 from ngc_tools.page.aside import Aside, Child
 from ngc_tools.page.drawer import Drawer
 from ngc_tools.page.drawing import DrawingRequest, as_begun
@@ -110,6 +111,7 @@ class PageSession:
         self.past, self.past_at = "", ""  # how far the motors may be past the player's record, which has them there
         self.started = 0.0  # when the program was started in this session, in seconds since 1970
         self.is_finished = False  # it ran to its end, and nothing was begun since
+        self._word = ""  # of the player's report at rest
         self.held_from = ""  # the page that held last, or LOST, since something was begun
         self._next: SessionCommand | None = None
         self.under: SessionCommand | None = None
@@ -447,6 +449,9 @@ class PageSession:
             status, report = operator.look()
             machine = operator.session.meter.link.machine() if self.opened.has_moves else None
             if report:
+                if report.word == ALARM != self._word:
+                    self.face.refusal = ""  # it was before that
+                self._word = report.word
                 operator.session.take(report)
         except NoAnswer as error:
             status, report, gone = operator.console.status(), self.face.report, str(error)

@@ -17,17 +17,17 @@ _WORDS = tuple((re.compile(pattern), said) for pattern, said in (
      " Where is it? asks which is so; home tells it anew"),
     (r"release lets them carry those out, and run goes on", "Go on carries those out"),
     (r"release (lets|waits)", r"Go on \1"),
-    (r"Once (it|the player) answers( again)?, (again|run goes on); if it is gone, quit, and start a player and this again",
-     r"Once \1 answers again, Run goes on; if it is gone, start it, then Start ngc again"),
+    (r"Once (it|the player) answers( again)?, (again|run goes on); if it is gone, quit, and start a player and this"
+     r" again", r"Once \1 answers again, Run goes on; if it is gone, start it, then Start ngc again"),
     (r"home comes first; until then where and quit alone are taken", "home comes first"),
     (r"quit, start (the player|player) and this again, and go on as after a loss of power",
      "start the player, then Start ngc again, and go on as after a loss of power"),
     (r"home [XYZ ]+ does it, where the machine's file says how; else measure it, and type reference X Y Z with what you"
-     r" measured: the player counts (.*)", r"home it, where the machine's file says how; else measure it, and tell where"
-     r" it is: the player counts \1"),
+     r" measured: the player counts", "home it, where the machine's file says how; else measure it, and tell where it"
+     " is: the player counts"),
     (r"seek Z- RATE within MM( again)?", r"Seek the probe\1"),
     (r", or without the word probe from where the machine stands", ", or switch off Where the probe was touched"),
-    (r"recover goes on along them, or back; drop cuts them off", "Recover goes on along them, or back; Drop cuts them off"),
+    (r"recover goes on along them, or back; drop cuts", "Recover goes on along them, or back; Drop cuts"),
     (r"recover goes on with it; drop cuts off OUT what no motor carried out, once they stand with nothing in hand",
      "Recover goes on with it"),
     (r"restore puts it back", "Restore puts it back"),

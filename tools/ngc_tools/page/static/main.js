@@ -130,7 +130,8 @@ function whereIsIt() {
   const does = (what, body) => () => { sheet.close(); asks(what, body); };
   sheet.open('Where is the machine?', [
     sheet.warning('Two places are told. Look at the machine: a line goes from the one that is true.'),
-    sheet.facts([['The player counts', sheet.code(point(s.motors))], ['The last line ended at', sheet.code(point(s.at))]]),
+    sheet.facts([['The player counts', sheet.code(point(s.motors))],
+      ['The last line ended at', sheet.code(point(s.at))]]),
     hasHome && sheet.said('Where steps may be lost, as after a loss of power, home it.')],
   [sheet.button('Back', sheet.close), sheet.gap('Nothing moves by the first.'),
     sheet.button('Where the player counts', does('reference', { at: 'player' })),

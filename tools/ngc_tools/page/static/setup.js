@@ -78,8 +78,9 @@ export class Setup {
     this.seen = key;
     this.state = s;
     this.byProbe.hidden = !s.touched;
-    text(this.used, this.probe() ? `Takes machine ${point(s.touched)}, where the probe was touched`
-      : s.known ? `Takes machine ${point(s.at)}, where the motors are` : 'Where the machine stands isn\u2019t known');
+    text(this.used, this.probe() ? `Takes machine ${point(s.touched)} mm, where the probe was touched`
+      : s.known ? `Takes machine ${point(s.at)} mm, where the motors are`
+        : 'Where the machine stands isn\u2019t known');
   }
 
   showTool(s, isIdle) {
