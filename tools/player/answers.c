@@ -14,6 +14,7 @@
 
 #include "askers.h"
 #include "machine.h"
+#include "off.h"
 #include "player.h"
 #include "scan.h"
 #include "schedule.h"
@@ -63,10 +64,21 @@ bool answers_open(struct player *player, const char *path, struct cause *why) {
     return true;
 }
 
+/* What comes on again before the next line, since a person switched it off. The lock is held. */
+static void print_again(char *text, size_t room, const struct player *player) {
+    char outputs[OUTPUTS_ROOM];
+    text[0] = '\0';
+    if (player->has_again) {
+        outputs_print(outputs, sizeof outputs, &player->again);
+        snprintf(text, room, " again %s", outputs);
+    }
+}
+
 /* How far the player is, with the lines that stand in OUT now. */
 static void report(struct player *player, char *text, size_t room, const char *question) {
     char place[PLACE_ROOM];
     char outputs[OUTPUTS_ROOM];
+    char again[OUTPUTS_ROOM + 8];
     char does[32];
     int64_t nm[3];
     player_doing(player, does, sizeof does);
@@ -74,9 +86,11 @@ static void report(struct player *player, char *text, size_t room, const char *q
     bool took = source_take_all(&player->source);
     uint64_t lines = player->lines;
     uint64_t received = player->errand.is_there ? errand_line(player) : player->source.received;
-    received += player->manual.is_there && received == lines;
+    bool is_busy = player->manual.is_there || anew_is_wanted(player);
+    received += is_busy && received == lines;
     player_place(player, nm);
     outputs_print(outputs, sizeof outputs, &player->outputs);
+    print_again(again, sizeof again, player);
     player_unlock(player);
     if (took) {
         eventfd_write(player->wake, 1);
@@ -85,9 +99,9 @@ static void report(struct player *player, char *text, size_t room, const char *q
     int percent = atomic_load(&player->percent);
     int spindle = atomic_load(&player->spindle_percent);
     unsigned wants = atomic_load(&player->wants);
-    snprintf(text, room, "%s carried %" PRIu64 " received %" PRIu64 " %s reference %s outputs %s percent %d"
-             " spindle %d wants %u out %s", question, lines, received, does, place, outputs, percent, spindle, wants,
-             player->out);
+    snprintf(text, room, "%s carried %" PRIu64 " received %" PRIu64 " %s reference %s outputs %s%s percent %d"
+             " spindle %d wants %u out %s", question, lines, received, does, place, outputs, again, percent, spindle,
+             wants, player->out);
 }
 
 /* What stands in OUT now is all that comes for now. */
@@ -105,7 +119,7 @@ static void note_last(struct player *player) {
 static void take_synced(struct player *player, uint64_t bytes) {
     player_lock(player);
     bool is_heeded = player->source.follows && !player->errand.is_there && player->alarm == NO_ALARM
-        && !player->is_broken;
+        && !player->is_broken && !anew_is_wanted(player);
     if (is_heeded) {
         player->source.limit = bytes;
     }
@@ -205,8 +219,13 @@ static bool heed_order(struct player *player, const char *text, size_t size) {
         note_last(player);
     } else if (read_synced(text, size, &bytes)) {
         take_synced(player, bytes);
+    } else if (is_word(text, size, "off")) {
+        off_take(player);
+    } else if (is_word(text, size, "anew")) {
+        anew_take(player);
     } else if (is_word(text, size, "end")) {
         note_last(player);
+        atomic_store(&player->stays, false);
         atomic_store(&player->has_ended, true);
     } else if (size > 3 && memcmp(text, "at ", 3) == 0 && place_read(text + 3, size - 3, nm)) {
         told_place(player, nm);

@@ -6,6 +6,7 @@
 #include <string.h>
 
 #include "moves.h"
+#include "off.h"
 #include "pace.h"
 #include "pins.h"
 #include "play_parts.h"
@@ -95,8 +96,11 @@ static enum end go_unpaced(struct play *play) {
             }
         }
         atomic_store(&play->player->stands_held, false);
-        if (make_move(play, &move, move.line.us * 1000) == FAILED) {
-            return FAILED;
+        bool is_back = false;
+        enum end end = off_is_over(play, &move.line, &is_back);
+        end = end == AT_OUTS_END ? make_move(play, &move, move.line.us * 1000) : end;
+        if (end != AT_OUTS_END) {
+            return end;
         }
     }
     return step == NO_LINE ? stop_at_line(play, &what) : AT_OUTS_END;
@@ -166,10 +170,16 @@ static enum end go_paced(struct play *play) {
             schedule_pause(&play->schedule); /* as long as it took to read */
         }
         const struct move *move = &ahead[first_ahead % PACE_ROOM];
-        bool is_held = is_rest_asked(play) || atomic_load(&play->player->is_held);
+        bool is_held = is_rest_asked(play) || anew_is_wanted(play->player) || atomic_load(&play->player->is_held);
         uint64_t ramp = pace.lines[pace.first % PACE_ROOM].ramp;
         uint64_t wanted = is_held ? 0 : pace_wanted(&pace, (unsigned)atomic_load(&play->player->percent));
-        if (first_ahead < end_ahead && move->is_done && !pace_next(&pace, wanted, &ns)) {
+        bool is_next = first_ahead < end_ahead && move->is_done;
+        bool is_back = false;
+        enum end end = is_next && wanted != 0 ? off_is_over(play, &move->line, &is_back) : AT_OUTS_END;
+        if (end != AT_OUTS_END) {
+            return end;
+        }
+        if (is_next && !pace_next(&pace, is_back ? 0 : wanted, &ns)) {
             play->is_moving = false;
             if (!rest(play)) {
                 return STOPPED;
@@ -202,8 +212,7 @@ static enum end switch_sink_on(struct play *play, const struct line *line, const
     return sink_await_rest(play) && sink_is_at_speed(play, before, &line->outputs) ? AT_OUTS_END : STOPPED;
 }
 
-/* Sets outputs, but for the tool, which stays in the spindle, and waits for the spindle. */
-static enum end switch_on(struct play *play, const struct outputs *outputs) {
+enum end switch_on(struct play *play, const struct outputs *outputs) {
     struct line line = {.kind = 'S', .outputs = *outputs};
     char text[LONGEST_LINE];
     line.outputs.slot = play->player->outputs.slot;
@@ -254,6 +263,7 @@ enum end do_errand(struct play *play) {
     const struct errand *errand = &player->errand;
     enum end end = AT_OUTS_END;
     schedule_pause(&play->schedule);
+    off_forget(player); /* it says itself what is on */
     if (errand->wish.is_on) {
         end = switch_on(play, &errand->wish.on);
     }

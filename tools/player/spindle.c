@@ -7,6 +7,7 @@
 #include <string.h>
 
 #include "inputs.h"
+#include "off.h"
 #include "pins.h"
 #include "sink_link.h"
 #include "waits.h"
@@ -73,7 +74,7 @@ static bool wait_held(struct play *play) {
         }
     }
     atomic_store(&player->stands_held, false);
-    return true;
+    return off_ends_in_wait(play);
 }
 
 /* The spindle wasn't at its speed in time: held, or stopped where nobody could release it. */

@@ -162,6 +162,7 @@ class Goes:
     _limits: Limits | None = None
     errand: Errand | None = None
     is_off = False  # the motors left the path of OUT by a move without lines
+    again: Switch | None = None  # what a person switched off, amid lines: it comes on again before the next one
 
     def take_errand(self, wish: Wish) -> str:
         """Takes a wish as errand. What keeps it from that; nothing if it is taken. The lock is held."""
@@ -206,6 +207,7 @@ class Goes:
         if errand is None:
             return False
         self.schedule.pause()
+        self.again = None  # an errand says itself what is on
         if errand.wish.on:
             self._switch_on(errand.wish.on)
         if errand.legs:
@@ -264,6 +266,7 @@ class Goes:
             self._await_due()
             while self.is_held:
                 self._doze()
+            self._end_off(move.line)
             self._make(move, move.line.lasts_us * 1000 if move.line else 0)
         self._stands_held = False
         self._await_due()
@@ -290,6 +293,8 @@ class Goes:
             if not self._is_moving:
                 self.schedule.pause()  # as long as it took to read
             wanted = 0 if self.is_held or self._is_rest_asked() else pace.wanted(self.percent)
+            if ahead and wanted and self._end_off(ahead[0].line):
+                continue
             ns = pace.next(wanted) if ahead and ahead[0].line else 0
             if ns is None:
                 self._is_moving = False
