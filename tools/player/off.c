@@ -10,11 +10,13 @@
 #include "spindle.h"
 #include "waits.h"
 
-/* Whether the motors stand, and go on only once somebody says so, or a line comes. The lock is held. */
+/* Whether the motors stand, and go on only once somebody says so, a line comes, or the spindle has its time. The lock
+ * is held. */
 static bool stands(const struct player *player) {
     bool has_nothing = !player->errand.is_there && !player->manual.is_there
         && player->source.received == player->lines;
-    return has_nothing || atomic_load(&player->stands_held) || atomic_load(&player->tool) != NO_TOOL;
+    return has_nothing || atomic_load(&player->stands_held) || atomic_load(&player->tool) != NO_TOOL
+        || atomic_load(&player->waits_spindle) || atomic_load(&player->turns);
 }
 
 void off_take(struct player *player) {
@@ -27,6 +29,11 @@ void off_take(struct player *player) {
     eventfd_write(player->wake, 1);
 }
 
+/* What is on, also amid a switch that isn't counted yet. */
+static struct outputs outputs_set(const struct play *play) {
+    return link_is_there() ? link_outputs() : play->set;
+}
+
 bool off_heed(struct play *play) {
     struct player *player = play->player;
     if (!atomic_exchange(&player->wants_off, false)) {
@@ -35,7 +42,7 @@ bool off_heed(struct play *play) {
     player_lock(player);
     bool is_still = stands(player);
     player_unlock(player);
-    const struct outputs set = link_is_there() ? link_outputs() : play->set;
+    const struct outputs set = outputs_set(play);
     if (!is_still || !outputs_are_on(&set)) {
         return true;
     }
@@ -126,7 +133,8 @@ static void drop_all(struct player *player) {
 bool anew_begin(struct play *play) {
     struct player *player = play->player;
     const struct machine *machine = player->machine;
-    if (outputs_are_on(&player->outputs) && !switch_off(play)) {
+    const struct outputs set = outputs_set(play);
+    if ((outputs_are_on(&set) || outputs_are_on(&player->outputs)) && !switch_off(play)) {
         return false;
     }
     player_lock(player);
@@ -136,7 +144,6 @@ bool anew_begin(struct play *play) {
     atomic_store(&player->is_held, is_open);
     atomic_store(&player->stands_held, false);
     atomic_store(&player->tool, NO_TOOL);
-    atomic_store(&player->waits_spindle, false);
     play->why.text[0] = '\0';
     play->left_at = 0;
     schedule_pause(&play->schedule);

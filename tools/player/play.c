@@ -28,6 +28,9 @@ static void count(struct play *play, const struct line *line, size_t size) {
     if (line->kind == 'S') {
         play->player->outputs = line->outputs;
     }
+    if (line->kind == 'S' && play->player->has_again) { /* switched off amid the wait for the spindle */
+        outputs_stop(&play->player->outputs);
+    }
     play->player->lines++;
     play->player->bytes += size;
     play->player->is_off = false;

@@ -67,7 +67,8 @@ struct player {
     atomic_bool is_held;      /* somebody asks for a rest */
     atomic_bool is_untold;    /* they moved without lines, and nobody said since that `ngc` knows where they are */
     atomic_bool stands_held;  /* it has come to rest for that */
-    atomic_bool waits_spindle; /* a switch waits until the spindle is at its speed */
+    atomic_bool waits_spindle; /* a switch waits until the spindle is at its speed .. */
+    atomic_bool turns;        /* .. or for the seconds that it takes */
     atomic_uint on;           /* the inputs that are on, as they were looked at last */
     atomic_bool wants_off;    /* spindle and coolant are to go off */
     atomic_bool wants_anew;   /* the session is over, and another one follows .. */

@@ -219,6 +219,8 @@ def converse(operator: Operator, screen: Screen) -> None:
             screen.say("\nnothing runs; quit ends the session")
             continue
         operator.do(line)
+        if screen.stops():
+            operator.do("stop")
 
 
 class Patience:

@@ -14,8 +14,8 @@ from ngc_tools.operator.left import Left
 from ngc_tools.operator.look import Look
 from ngc_tools.operator.modes import trimmed
 from ngc_tools.operator.motors import Motors
+from ngc_tools.operator.next_session import NextSession
 from ngc_tools.operator.numbers import length_of, nanometres_of
-from ngc_tools.operator.recover import Recover
 from ngc_tools.operator.session import ALARM, BROKEN, Session
 from ngc_tools.player.progress import Link, MoveReport, NoAnswer, Report
 
@@ -35,8 +35,9 @@ _FORMS = {
     "seek": "seek Z- RATE within MM: until the probe is on, as seek Z- 60 within 10",
 }
 _NOT_KNOWN = "home, jog and seek are of tools/player with -m"
-_LATER = ("ngc isn't told where the machine is, since {half} is under way: quit, start the player and this again, and"
-          " go on as after a loss of power")
+_ANEW = ("what the player had in hand in the alarm is never carried out: another session begins, and goes on as after a"
+         " loss of power")
+_LATER = "ngc isn't told where the machine is, since {half} is under way: stop ends it"
 
 MoveAnswer = tuple[int, str]
 """The number of a move, and why it is refused; nothing where it is taken."""
@@ -61,10 +62,10 @@ class Moves:
     """What they do. `do` does a command that is given meanwhile. `touched` is where the probe was touched, until
     something else moves or its place was used."""
 
-    def __init__(self, session: Session, motors: Motors, left: Left, recover: Recover,
+    def __init__(self, session: Session, motors: Motors, left: Left, following: NextSession,
                  alarm: Alarm, do: Callable[[str], None]) -> None:
-        self.session, self.motors, self.left, self.recover, self.do = session, motors, left, recover, do
-        self.alarm = alarm
+        self.session, self.motors, self.left, self.following, self.do = session, motors, left, following, do
+        self.recover, self.alarm = following.recover, alarm
         self.touched: Touched | None = None
 
     def home(self, rest: str) -> None:
@@ -193,6 +194,14 @@ class Moves:
             self.touched = None
         return self.touched
 
+    def _begin_anew(self) -> None:
+        """Where the machine is is known again, and lines were dropped in the alarm: this session comes to nothing."""
+        self.session.face.say(_ANEW, WARNING)
+        try:
+            self.following.begin()
+        except NoAnswer as error:
+            self.session.face.say(str(error), WARNING)
+
     def tell(self) -> None:
         """Tells `ngc` where the machine is now."""
         session = self.session
@@ -201,6 +210,9 @@ class Moves:
             return
         if report.word == ALARM:
             self.alarm.say_left()
+            return
+        if report.word == BROKEN:
+            self._begin_anew()
             return
         if status.does not in ("idle", "stopped"):
             session.face.say(_LATER.format(half=session.half(status)), WARNING)

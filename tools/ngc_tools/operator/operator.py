@@ -25,13 +25,15 @@ from ngc_tools.operator.meter import Meter
 from ngc_tools.operator.motors import Motors
 from ngc_tools.operator.moves import Moves
 from ngc_tools.operator.opening import say_opening
-from ngc_tools.operator.outputs import outputs_agree
+from ngc_tools.operator.next_session import NextSession
+from ngc_tools.operator.outputs import comes_on_agreed, outputs_agree
 from ngc_tools.operator.places import Places, stops_outputs
 from ngc_tools.operator.recover import Recover
 from ngc_tools.operator.rehearsing import rehearse
 from ngc_tools.operator.sentences import (GO_ON, HELP, NOT_MOVED, SWITCHED, SWITCHED_THERE, TAKEN_UP,
                                           TAKEN_UP_THERE)
 from ngc_tools.operator.session import ALARM, BROKEN, Nothing, Session, place
+from ngc_tools.operator.stopping import Stopping
 from ngc_tools.operator.touch import Touch
 from ngc_tools.operator.typed import ANYWAY, Typed
 from ngc_tools.operator.work import SINGLE, Work
@@ -56,8 +58,10 @@ class Operator:
         self.ending = Ending(self.session)
         self.recover = Recover(self.session)
         self.alarm = Alarm(self.session)
-        self.moves = Moves(self.session, self.motors, self.left, self.recover, self.alarm,
-                           self.do)
+        self.following = NextSession(self.session, self.motors, self.left, self.recover, self._open)
+        self.moves = Moves(self.session, self.motors, self.left, self.following, self.alarm, self.do)
+        self.stopping = Stopping(self.session, self.motors, self.ending, self.following,
+                                 lambda line: self._line_done(line, True))
         self.touch = Touch(self.session, self.places, self.moves, self._line_done)
         self.keys: Callable[[], AbstractContextManager[Keys]] | None = None
         self.over = False
@@ -67,7 +71,8 @@ class Operator:
             "rehearse": self._rehearse, "restore": self._restore, "go": self._go, "help": self._help, "?": self._help,
             "recover": self._recover, "drop": self._drop, "quit": self._quit, "exit": self._quit, "tick": self._tick,
             "hold": self._hold_all, "release": self._release, "percent": self._percent, "single": self._single,
-            "spindle": lambda typed: self.motors.spindle(typed.rest),
+            "spindle": lambda typed: self.motors.spindle(typed.rest), "rewind": self._rewind,
+            "stop": lambda _: self.stopping.stop(), "off": lambda _: self.stopping.off(),
             "home": lambda typed: self.moves.home(typed.rest), "jog": self._jog,
             "seek": lambda typed: self.moves.seek(typed.rest),
             "zero": lambda typed: self.touch.zero(typed.rest, typed.anyway),
@@ -79,8 +84,12 @@ class Operator:
 
     def begin(self, bound: str, found: Device | None = None) -> None:
         """Says what the session begins with. `found` is the device as it stood before `ngc` was started."""
-        self.session.program = Program(self.stored().program)
         self.face.say(bound)
+        self._open(found)
+
+    def _open(self, found: Device | None) -> None:
+        """Says what a session of `ngc` begins with, and sees how it stands."""
+        self.session.program = Program(self.stored().program)
         say_opening(self.session, self.places, self.left, found)
         status = self.console.status()
         self.recover.begin(status)
@@ -154,6 +163,8 @@ class Operator:
     def _go_on(self, command: str, typed: Typed) -> None:
         """Starts the program, or goes on with what waits."""
         status = self.console.status()
+        if not typed.anyway and not comes_on_agreed(self.session):
+            return
         if self.motors.are_held and self._let_go(command, status):
             return
         if not typed.anyway and not (self.places.agree(status, f"{typed.word} {ANYWAY}")
@@ -185,7 +196,10 @@ class Operator:
         status = self.console.status()
         if status.half == "none" and not self.motors.are_free():
             return None
-        compared = status.half == "none" and not anyway and not stops_outputs(line)
+        is_asked = not anyway and not stops_outputs(line)
+        if status.half == "none" and is_asked and not comes_on_agreed(self.session):
+            return None
+        compared = status.half == "none" and is_asked
         if compared and not self.places.agree(status, f"{ANYWAY} {line}"):
             return None
         text = line.encode("utf-8", "surrogateescape")
@@ -229,6 +243,13 @@ class Operator:
         if taken(self.session, reply, f"{typed.word} {typed.rest}".strip()) and typed.word in ("delete", "optional"):
             setattr(self.session, typed.word, typed.rest.lower() == "on")
 
+    def _rewind(self, _: Typed) -> None:
+        """The program that is stored begins with its first line again, as if it were loaded."""
+        if self.session.program.text:
+            self.load("from line 1", self.session.program.text)
+        else:
+            self.face.say("no program is stored: load FILE", REFUSED)
+
     def _single(self, typed: Typed) -> None:
         if typed.rest.lower() not in ("on", "off"):
             self.face.say("single on, or single off: whether it holds after each line", REFUSED)
@@ -250,6 +271,8 @@ class Operator:
         report = self.session.report()
         if not self.motors.are_held and not (report and report.behind):
             self.face.say("the motors aren't held")
+            return
+        if not comes_on_agreed(self.session):
             return
         self.motors.release()
         if self.work.await_motors():

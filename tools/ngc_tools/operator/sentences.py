@@ -15,6 +15,10 @@ touch tool N       slot N has the length of the tool on the setter
 probe              behind zero and touch: where it was touched
 undo               put back what zero or touch set last
 hold               Enter or Ctrl-C while something runs
+stop               end the job: spindle and coolant off, then lines, jog
+                   and home are taken
+off                spindle and coolant off, while the motors stand
+rewind             the stored program from its first line
 release            lets held motors carry out what is in hand
 percent N          go at N % of the rates; - and + are 10 %
                    less and more, 0 is 100 %

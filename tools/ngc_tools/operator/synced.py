@@ -74,6 +74,12 @@ class SyncedLink(Link):
             self._tell()
         super().end()
 
+    def anew(self) -> None:
+        """Tells the player that another session follows: until `follow` nothing more is carried out. Raises NoAnswer.
+        """
+        self.is_following, self.told = False, -1
+        super().anew()
+
     def close(self) -> None:
         """Asks nothing more; once more it does nothing, since the number of the file may be another file's by then."""
         super().close()

@@ -12,6 +12,7 @@ from ngc_tools.job.moves import distance
 from ngc_tools.operator.display import on_words
 from ngc_tools.operator.face import REFUSED, WARNING, axes
 from ngc_tools.operator.modes import trimmed
+from ngc_tools.operator.outputs import comes_on_agreed
 from ngc_tools.operator.sentences import LOOK, LOOK_AGAIN, LOOK_SWITCHED
 from ngc_tools.operator.session import ALARM, BROKEN, Session
 from ngc_tools.player.retrace import legs_to
@@ -126,7 +127,7 @@ class WayBack:
             held = held + 1 if report.is_held else 0
             if held > _HELD_LOOKS or self.session.face.interrupted():
                 link.hold()
-                if not self.session.agrees(_HELD):
+                if not self.session.agrees(_HELD) or not comes_on_agreed(self.session):
                     return False
                 link.release()
                 held = 0

@@ -53,6 +53,7 @@ class Player(Goes):
         self._tool: int | None = None  # the slot that a person is asked for
         self._left_ns = 0  # since when nobody writes OUT any more
         self._wants_off = False  # spindle and coolant are to go off
+        self._turns = False  # a switch waits for the spindle
         self._wants_anew = False  # the session is over, and another one follows ..
         self._stays = False  # .. for which it waits, though nobody writes OUT meanwhile
         self._wake = os.eventfd(0, os.EFD_NONBLOCK | os.EFD_CLOEXEC)
@@ -213,9 +214,10 @@ class Player(Goes):
         self.schedule.pause()
 
     def _stands(self) -> bool:
-        """Whether the motors stand, and go on only once somebody says so, or a line comes. The lock is held."""
+        """Whether the motors stand, and go on only once somebody says so, a line comes, or the spindle has its time. The
+        lock is held."""
         has_nothing = self.errand is None and self.source.received == self.lines
-        return has_nothing or self._stands_held or self._tool is not None
+        return has_nothing or self._stands_held or self._tool is not None or self._turns
 
     def _heed_off(self) -> None:
         """Turns spindle and coolant off, at rest. Raises OSError if the pins fail."""
@@ -347,10 +349,18 @@ class Player(Goes):
             self._set_outputs(text, line)
             turns = line.spindle != self.outputs.spindle
             self.outputs = line
-            if turns:
-                self._wait_until(time.monotonic_ns() + self.manner.spindle_us * 1000)
+            self._await_spindle(turns)
             self.schedule.pause()  # as long as the tool and the spindle took
         self._count(line, len(text) + 1)
+
+    def _await_spindle(self, turns: bool) -> None:
+        """Waits as long as the spindle takes."""
+        self._turns = turns
+        try:
+            if turns:
+                self._wait_until(time.monotonic_ns() + self.manner.spindle_us * 1000)
+        finally:
+            self._turns = False
 
     def _set_outputs(self, text: bytes, line: Switch) -> None:
         """Gives a switch to the pins, with its speed as it is overridden."""
