@@ -28,6 +28,7 @@ class Axes:
         self.refuses = self.fails = ""
         self.switches = "XYZ"
         self.word = "works"
+        self.drops_lines = False  # lines are in hand as an alarm comes
         self.stands = MoveReport("stands")
         self.machine = self.stands
         self.words: list[str] = []
@@ -99,7 +100,7 @@ class Axes:
 
     def end_alarm(self) -> None:
         """The machine's place is known again."""
-        self.word = "moved"
+        self.word = "broken" if self.drops_lines else "moved"
         self.stands = replace(self.stands, alarm="")
         self.machine = self.stands
 
@@ -198,6 +199,11 @@ class MachineLink:
 
     def last(self) -> None:
         """Nothing more comes for now."""
+
+    def anew(self) -> None:
+        """Another session follows."""
+        self.carried = Path("out").read_bytes().count(b"\n")
+        self.axes.word, self.axes.drops_lines = "moved", False
 
     def at(self, place: str) -> None:
         """Takes where the machine stands."""

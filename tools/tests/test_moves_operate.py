@@ -251,7 +251,7 @@ class Alarms(Core):
         self.assertEqual(self.status().entries, 0)
 
     def test_with_lines_in_hand(self) -> None:
-        """No more line is handed out, and after home no more of the session is carried out."""
+        """No more line is handed out, and after home another session begins, in which the line is half-done."""
         self.begin(self.link)
         self.load("G21 G90\nG1 X3 F60\nM2\n")
         before = self.link.ask
@@ -270,18 +270,35 @@ class Alarms(Core):
         self.axes.home_at = [0, 0, 0]
         self.link.ask = before
         self.link.lazy = True
+        self.axes.drops_lines = True
         said = self.do("home")
-        self.assertEqual(said, ["homed: X Y Z", "ngc isn't told where the machine is, since segment 0 of line 2: G1 X3"
-                                " F60 is under way: quit, start the player and this again, and go on as after a loss"
-                                " of power"])
+        self.assertEqual(said[:4], [
+            "homed: X Y Z", "what the player had in hand in the alarm is never carried out: another session begins, and"
+            " goes on as after a loss of power", "stored: a program of 3 lines",
+            "power was lost, or the session ended, in line 2: G1 X3 F60\n  in segment 0 of 1, counted from 0. Nothing"
+            " moves by itself\n  where the machine is: reference player, or reference X Y Z; then rehearse, resume or"
+            " abandon"])
+        status = self.status()
+        self.assertEqual((status.does, status.half, status.known), ("idle", "program", False))
+        self.assertEqual(len(self.out()), count)
+        self.link.lazy = False
+        self.do("reference player", "abandon")
+        self.assertEqual((self.status().half, self.status().known), ("none", True))
+        self.assertEqual(self.do("G0 X1")[-3], "idle; X 1.000000 Y 0.000000 Z 0.000000; next line 2 of 3: G1 X3 F60")
+
+    def test_player_that_drops_lines(self) -> None:
+        """As long as the player carries no more line of the session out nothing is given to it; `stop` begins another
+        session."""
+        self.begin(self.link)
         self.axes.word = "broken"
         broken = ("nothing is done: what the player had in hand in the alarm is never carried out, and so nothing that"
-                  " comes after. quit, start the player and this again, and go on as after a loss of power")
+                  " comes after. stop begins another session, which goes on as after a loss of power")
         for typed in ("run", "G0 X1", "resume", "release"):
             self.assertEqual(self.do(typed), [broken], typed)
-        self.assertEqual(len(self.out()), count)
-        self.assertIn("stays half-done", self.do("quit", answers=("yes",))[0])
-        self.assertTrue(self.operator.over)
+        self.do("stop")
+        self.assertEqual(self.axes.word, "moved")
+        self.assertEqual(self.do("G0 X1")[-2:], ["idle; X 1.000000 Y 0.000000 Z 0.000000",
+                                                 MOTORS.format("1.000000", "0.000000", "0.000000")])
 
 
     def test_axis_without_home(self) -> None:

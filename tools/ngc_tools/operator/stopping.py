@@ -10,11 +10,12 @@ from ngc_tools.operator.face import REFUSED, WARNING
 from ngc_tools.operator.look import Look
 from ngc_tools.operator.motors import Motors, count
 from ngc_tools.operator.next_session import NextSession
-from ngc_tools.operator.session import Session
+from ngc_tools.operator.session import BROKEN, Session
 from ngc_tools.player.progress import Link, NoAnswer, Report
 
 _OFF_S = 2.0  # how long a player may take for that, but for a spindle that is being waited for
 _LOOKS_S = 0.02
+_FREE_S = 0.3  # after so long motors that are let go and still say that they are held are held by something else
 WITHIN = """\
 stopped in {half}. yes gives it up: what was cut of it stays, and run begins it again, whole; anything else keeps it
 half-done, and recover or resume goes on with it: """
@@ -44,11 +45,10 @@ class Stopping:
         try:
             report = self._rested()
             reply, status = session.console.ask("hold")[0], session.console.status()
-            is_through = status.half == "none" and reply in ("idle", "stopped") and not (report and report.behind)
-            if is_through:
-                self._end_at_rest(status)
-            else:
+            if reply == "held" or report and report.behind or session.is_in(BROKEN):
                 self._end_within(status, report)
+            else:
+                self._end_at_rest(status)
         except NoAnswer as error:
             session.face.say(f"{error}; {_AT_MACHINE}", WARNING)
             return
@@ -81,7 +81,9 @@ class Stopping:
         if meter and report and not self._switched_off(meter.link):
             session.face.say(f"the player doesn't switch spindle and coolant off: {_AT_MACHINE}", WARNING)
         gives_up = False
-        if status.half != "none":
+        if session.is_in(BROKEN):
+            pass  # its lines are dropped, and its block is half-done
+        elif status.half != "none":
             gives_up = session.agrees(WITHIN.format(half=session.half(status)))
         elif report and report.behind:
             gives_up = session.agrees(LINES.format(count=count(report)))
@@ -117,7 +119,7 @@ class Stopping:
         """Switches spindle and coolant off: by lines of one's own, where they are taken, so that `ngc` knows; else the
         player does it. Raises Ended."""
         session = self.session
-        report, status = session.report(), session.console.status()
+        report, status = self._let_go(session.report()), session.console.status()
         is_at_rest = report is None or not report.behind and report.again is None
         if is_at_rest and self.ending.can_switch(status):
             for line in ("M5", "M9"):
@@ -128,6 +130,16 @@ class Stopping:
         else:
             self._off_at_player(session.meter.link, report)
 
+    def _let_go(self, report: Report | None) -> Report | None:
+        """Held motors with nothing in hand are let go, so that they carry such lines out; an open door holds on."""
+        if report is None or not report.is_held or not self.motors.are_free():
+            return report
+        until = time.monotonic() + _FREE_S
+        while report and report.is_held and time.monotonic() < until:
+            time.sleep(_LOOKS_S)
+            report = self.session.report()
+        return report
+
     def _off_at_player(self, link: Link, report: Report) -> None:
         """The player does it."""
         stands = report.is_held or report.waits or not report.behind or report.word == "waits spindle"
@@ -135,12 +147,10 @@ class Stopping:
             if not stands or not self._switched_off(link):
                 self.session.face.say(_MOVES, REFUSED)
                 return
-            report = link.ask()
         except NoAnswer as error:
             self.session.face.say(f"{error}; {_AT_MACHINE}", WARNING)
             return
-        self.session.take(report)
-        self.session.face.say(_AGAIN if report.again else _OFF)
+        self.session.face.say(_AGAIN if self.session.seen.again else _OFF)
 
     def _switched_off(self, link: Link) -> bool:
         """Has a player whose motors stand switch them off; whether it did. Raises NoAnswer."""
@@ -150,4 +160,5 @@ class Stopping:
                 return False
             link.off()
             time.sleep(_LOOKS_S)
+        self.session.take(report)
         return True

@@ -11,7 +11,7 @@ from ngc_tools.player.progress import Report
 Band = tuple[str, str, str]
 
 _STOOD = "The motors stood at once, and where the machine is isn't known. Home comes first"
-_BROKEN = "No more line of this session is carried out. Start the player again, and begin anew"
+_BROKEN = "No more line of this session is carried out. Start ngc again goes on as after a loss of power"
 _LEFT = "Not homed: {axes}. Home each, or measure and tell where it stands"
 _OPEN = "The door is open. Close it; then Go on"
 _HELD = {

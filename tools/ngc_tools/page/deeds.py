@@ -215,6 +215,9 @@ DEEDS: dict[str, Callable[[Given], dict | None]] = {
     "recover": _recover,
     "jogstop": lambda given: given.session.jogs.let_go(given.count("press", _MOST_PRESSES)),
     "undo": lambda given: given.session.type("undo"),
+    "stop": lambda given: given.session.stop(given.pages.commands),
+    "off": lambda given: given.session.off(given.pages.commands),
+    "rewind": lambda given: {"taken": given.session.rewind()},
     "run": lambda given: given.session.run("run" + given.anyway()),
     "resume": lambda given: given.session.type("resume" + given.anyway()),
     "drop": lambda given: given.session.type("drop"),
@@ -230,5 +233,5 @@ DEEDS: dict[str, Callable[[Given], dict | None]] = {
 }
 """What the page that commands may ask for."""
 WAITING = {"load", "rehearse", "reference", "stands", "tool", "switch", "abandon", "go", "percent", "spindle",
-           "restart"}
+           "restart", "off", "rewind"}
 """Those that wait for what they ask for; the others only give it to the session's thread."""

@@ -42,7 +42,7 @@ LOST = "lost"
 """Stands for the page that held, where that was nobody: the one that commands was lost."""
 _LEAVE_S = 10.0
 _LOOK_S = 0.15  # how often it looks while nothing runs
-_ASIDES = {"percent", "spindle", "go", "optional", "delete", "single"}
+_ASIDES = {"percent", "spindle", "go", "optional", "delete", "single", "off"}
 
 
 class Busy(Failure):
@@ -114,6 +114,7 @@ class PageSession:
         self._word = ""  # of the player's report at rest
         self.held_from = ""  # the page that held last, or LOST, since something was begun
         self._next: SessionCommand | None = None
+        self._stops = False  # `stop` is done next
         self.under: SessionCommand | None = None
         self._wake = threading.Condition()
         self._restarts = threading.Lock()
@@ -141,12 +142,22 @@ class PageSession:
         self.most_percents = _most_percents(self.machine, self.settings)
         self.face.begin(self.face.holds)
         self.face.asides()  # none of the last session counts
+        operator.following.opened = self._follow
         operator.begin(self.opened.bound, self.opened.found)
         self.operator, self.ident = operator, secrets.token_hex(8)  # a page that saw another one begins anew
         self.stand, self.kept = Stand(console.status()), Kept(console.device)
         begun = as_begun(self.opened.found) if self.opened.found and self.stand.status.place else None
         self.drawer.begin(self._source_of(begun or self.kept.device))
         self.face.look = self._look
+        self._look()
+        self.past, self.past_at = self._found_past(), self.stand.report.at if self.stand.report else ""
+        self._find_never_cut()
+
+    def _follow(self, found: Device | None) -> None:
+        """Sees how all stands as another session of `ngc` begins, with the player that goes on."""
+        self.opened = replace(self.opened, found=found, left_at=time.time())
+        self.is_finished, self.face.message = False, ""
+        self.kept.read()
         self._look()
         self.past, self.past_at = self._found_past(), self.stand.report.at if self.stand.report else ""
         self._find_never_cut()
@@ -177,7 +188,7 @@ class PageSession:
     @property
     def is_busy(self) -> bool:
         """Whether a command is under way."""
-        return self.under is not None or self._next is not None
+        return self.under is not None or self._next is not None or self._stops
 
     def give(self, word: str, does: Callable[[], Any]) -> SessionCommand:
         """Gives the session's thread something to do. Raises Busy."""
@@ -216,18 +227,40 @@ class PageSession:
 
     def hold(self, page: str = LOST) -> None:
         """Holds at once, whatever is under way: the motors, and then `ngc`. It waits for nothing."""
+        self._hold_motors(page)
+        with suppress(Busy):
+            self.give("hold", lambda: self.operator.do("hold"))
+
+    def stop(self, page: str) -> None:
+        """Ends the job: holds at once, and once what is under way has ended does `stop`. It waits for nothing. Raises
+        Busy."""
+        if self.ended or self.over.is_set():
+            raise Busy(self.ended or "the session is over")
+        self._hold_motors(page)
+        with self._wake:
+            self._stops = True
+            self._wake.notify_all()
+
+    def off(self, page: str) -> None:
+        """Switches spindle and coolant off, where the motors stand; at a question that is a no to it. Raises Busy."""
+        if self.face.question is not None:
+            self._hold_motors(page)
+        self.tell("off")
+
+    def _hold_motors(self, page: str) -> None:
         self.jogs.end()
         self.held_from = page
         self.face.hold()
         if self.opened.motors and self.stand.has_ramps:
             with suppress(NoAnswer):  # the session's thread says it
                 self.opened.motors.stop() if self._moves_without_lines() else self.opened.motors.hold()
-        with suppress(Busy):
-            self.give("hold", lambda: self.operator.do("hold"))
 
     def release(self) -> None:
         """Lets held motors go on; within a command at once, as one holds them."""
-        if self.is_busy and self.opened.motors:
+        report = self.face.report
+        if self.is_busy and report and report.again:
+            self.face.give_aside("release")  # it asks
+        elif self.is_busy and self.opened.motors:
             with suppress(NoAnswer):  # the session's thread says it
                 self.opened.motors.release()
         else:
@@ -280,6 +313,10 @@ class PageSession:
             return True
         return bool(self.ask("load", does, 600))
 
+    def rewind(self) -> bool:
+        """Has the stored program begin with its first line again; whether it does. Raises Busy."""
+        return self.load(self.name, self.operator.session.program.text)
+
     def check(self, page: str, text: bytes, answers: HomeAnswers) -> tuple[dict, bytes]:
         """What `ngc-check` and `ngc-adapt` find of a text, which begins as the device stands, and the text that is
         meant. A page has one check under way. Raises NotDone, OSError."""
@@ -313,6 +350,9 @@ class PageSession:
     def restart(self) -> None:
         """Begins a session of `ngc run` anew, after it has ended, its device failed, or its player is gone or carries
         nothing out any more. Raises Busy, and what `Opens` raises."""
+        if not self.ended and self.stand.drops_lines:
+            self.ask("restart", self.operator.following.begin)
+            return
         if not self.ended and self.stand.is_broken:
             self.ask("restart", self._give_up)
         if not self.ended or self.over.is_set():
@@ -372,6 +412,9 @@ class PageSession:
 
     def _late(self) -> SessionCommand | None:
         """What was given while a command ran, and came too late for it: it is done before the next one."""
+        if self._stops:
+            self._stops = False
+            return self._command("stop", lambda: self.operator.do("stop"))
         lines = self.face.asides()
         return self._command(lines[0].split()[0], lambda: list(map(self.operator.do, lines))) if lines else None
 

@@ -10,7 +10,7 @@ from ngc_tools.ngc.console import Status
 from ngc_tools.operator.alarm import left_of
 from ngc_tools.operator.display import on_words, outputs_on
 from ngc_tools.operator.motors import way_nm
-from ngc_tools.operator.session import ALARM
+from ngc_tools.operator.session import ALARM, WAITS_SPINDLE
 from ngc_tools.page.band import Standing
 from ngc_tools.page.face import LOOKS
 from ngc_tools.page.session import MOVES, WITHOUT_LINES, PageSession
@@ -116,6 +116,7 @@ class Pictured:
         said = {"player": meter is not None, "player_gone": self.stand.gone, "motors": report and report.at.split(),
                 "speed": out.speed / 10**6, "spindle": out.spindle, "mist": out.mist, "flood": out.flood,
                 "slot": out.slot, "selected": out.selected, "most_percents": self.session.most_percents,
+                "again": on_words(report.again) if report and report.again else "", "can": self._can(),
                 "recover": self.stand.recovery,
                 "past": self.session.past if report and report.at == self.session.past_at else ""}
         if not report or not meter:
@@ -126,6 +127,20 @@ class Pictured:
                        "spindle_percent": report.spindle,
                        "held_motors": report.is_held, "keeps": self.operator.recover.found is not None,
                        "behind_mm": way_nm(report, self.session.settings) / 10**6}
+
+    def _can(self) -> dict:
+        """Which of some buttons do something now."""
+        status, report, session = self.status, self.report, self.session
+        is_there = not session.ended and not self.stand.gone and status.does != "broken"
+        is_there = is_there and not (report and report.word == ALARM)
+        is_on = report is not None and bool(on_words(report.outputs))
+        stands = report is not None and (report.is_held or report.waits or not report.behind
+                                         or report.word == WAITS_SPINDLE)
+        runs = status.does in ("running", "held", "stopped") or self.command is not None and self.command.word in MOVES
+        is_free = status.half == "none" and status.does in ("idle", "stopped") and not session.is_busy
+        return {"stop": is_there and (runs or is_on or report is not None and report.behind > 0),
+                "off": is_there and is_on and stands,
+                "rewind": is_there and is_free and status.place > 0 and bool(self.program.text)}
 
     @property
     def _machine_said(self) -> MoveReport | None:

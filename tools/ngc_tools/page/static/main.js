@@ -94,6 +94,10 @@ function showControls(s) {
   $('restart').hidden = !(s.yours && !s.over && (s.ended || s.broken));
   for (const one of [$('line'), $('do')]) one.disabled = !(app.isRest && app.isFree && !s.recover?.left);
   $('hold').disabled = Boolean(s.ended);
+  $('stop').disabled = !(s.yours && s.can.stop);
+  $('rewind').hidden = !s.place;
+  $('rewind').disabled = !(s.yours && s.can.rewind);
+  showOff(s);
   for (const name of ['single', 'optional', 'delete']) {
     $(name).setAttribute('aria-checked', String(Boolean(s[name])));
     $(name).disabled = !app.isFree;
@@ -103,6 +107,14 @@ function showControls(s) {
   means($('run'), says);
   $('run').disabled = !isEnabled;
   $('run').onclick = does;
+}
+
+// What is on can be switched off while the motors stand.
+function showOff(s) {
+  const on = [s.spindle && 'spindle', (s.mist || s.flood) && 'coolant'].filter(Boolean).join(' and ');
+  $('off').hidden = !on || s.player_gone || s.ended;
+  $('off').disabled = !(s.yours && s.can.off);
+  text($('off'), `${on.charAt(0).toUpperCase()}${on.slice(1)} off`);
 }
 
 // What the large button does now.
@@ -253,8 +265,21 @@ function hold() {
   asks('hold');
 }
 
-$('hold').addEventListener('pointerdown', event => { event.preventDefault(); hold(); });
-$('hold').addEventListener('click', event => { if (event.detail === 0) hold(); }); // by the keyboard
+function stop() {
+  setup.jog.stop();
+  asks('stop');
+}
+
+for (const [name, does] of [['hold', hold], ['stop', stop]]) {
+  $(name).addEventListener('pointerdown', event => {
+    event.preventDefault();
+    if (!$(name).disabled) does();
+  });
+  $(name).addEventListener('click', event => { if (event.detail === 0) does(); }); // by the keyboard
+}
+$('off').onclick = () => asks('off');
+$('rewind').onclick = () => sheet.ask('From line 1?', [sheet.said('The program begins anew at its first line, as if it '
+  + 'were loaded again. Nothing moves yet.')], 'From line 1', () => asks('rewind'));
 document.addEventListener('keydown', event => {
   const isTyping = event.target.closest?.('input') && !event.target.disabled;
   if (event.code !== 'Space' || event.repeat || isTyping && !app.state?.busy) return;

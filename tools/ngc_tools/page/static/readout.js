@@ -95,7 +95,7 @@ export class Readout {
     const speed = grouped(s.speed), percent = s.spindle_percent ?? 100;
     const times = percent === 100 ? '/min' : `\u00d7 ${percent} %`;
     if (s.spindle) fill(gauges.Spindle, `${TURNS[s.spindle]} ${speed}`, times);
-    else fill(gauges.Spindle, 'off', s.speed ? `set ${speed}` : '', true);
+    else fill(gauges.Spindle, 'off', s.again ? 'by hand' : s.speed ? `set ${speed}` : '', true);
     const flows = [s.mist && 'mist', s.flood && 'flood'].filter(Boolean);
     fill(gauges.Coolant, flows.join(' + ') || 'off', '', !flows.length);
   }
