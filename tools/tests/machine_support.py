@@ -241,6 +241,9 @@ class SocketMachine:
             answer = _said(self.axes.ask())
         elif words[0] in ("home", "jog", "seek", "stop"):
             answer = self.axes.take(words).encode()
+        elif words[0] == "anew":
+            self.axes.word = "moved"
+            return
         elif words[0] == "at":
             self.axes.stand_at(list(map(nanometres, words[1:])))
             return

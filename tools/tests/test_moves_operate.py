@@ -284,7 +284,8 @@ class Alarms(Core):
         self.link.lazy = False
         self.do("reference player", "abandon")
         self.assertEqual((self.status().half, self.status().known), ("none", True))
-        self.assertEqual(self.do("G0 X1")[-3], "idle; X 1.000000 Y 0.000000 Z 0.000000; next line 2 of 3: G1 X3 F60")
+        self.do("G0 X1")
+        self.assertEqual(self.status().at[0], "1.000000")
 
     def test_player_that_drops_lines(self) -> None:
         """As long as the player carries no more line of the session out nothing is given to it; `stop` begins another

@@ -93,8 +93,7 @@ class OverFile(Stopping):
 
     def test_given_up(self) -> None:
         """Amid a cut: the motors rest by a ramp, spindle and coolant go off before anything is asked, the line is given
-        up, and within two seconds lines of one's own, jog and home are taken; then the job goes from its first line to
-        its end."""
+        up, and soon lines of one's own, jog and home are taken; then the job goes from its first line to its end."""
         before = self.cutting()
         state = self.stop()
         self.assertFalse(self.is_on())
@@ -104,7 +103,7 @@ class OverFile(Stopping):
         begun = time.monotonic()
         self.seen.agree(state)
         state = self.until("it is over", lambda s: not s["busy"] and s["half"] == "none")
-        self.assertLess(time.monotonic() - begun, 2)
+        self.assertLess(time.monotonic() - begun, PATIENCE_S / 6)  # 2 s of a machine that has time for it
         self.assertEqual((state["does"], state["known"], state["ended"], state["line"], state["session"]),
                          ("idle", True, "", 5, before["session"]))
         self.assertEqual((self.world.place, round(1000 * float(state["at"][0]))), (at, at[0]))

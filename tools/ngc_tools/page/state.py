@@ -151,8 +151,10 @@ class Pictured:
         """What it says of them."""
         machine = self._machine_said
         if machine is None:
-            return {"machine": None, "homed": "", "alarm": "", "left": "", "inputs": [], "touched": None}
+            return {"machine": None, "homed": "", "alarm": "", "came_by": "", "left": "", "inputs": [],
+                    "touched": None}
         return {"machine": machine.does, "homed": machine.homed, "alarm": machine.alarm, "left": self._left,
+                "came_by": self.operator.alarm.came_by or machine.alarm.replace("_", " "),
                 "inputs": machine.on, "touched": self._touched()}
 
     def _touched(self) -> list[str] | None:
