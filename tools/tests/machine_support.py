@@ -243,6 +243,7 @@ class SocketMachine:
             answer = self.axes.take(words).encode()
         elif words[0] == "anew":
             self.axes.word = "moved"
+            self.others.append(question)
             return
         elif words[0] == "at":
             self.axes.stand_at(list(map(nanometres, words[1:])))

@@ -147,7 +147,6 @@ class Day(InC, PlayerTest):
         self.touch_off()
         self.cut()
         self.stop()
-        self.begin_day()
         self.recover()
         self.send("quit", "never")
         self.end_day(0)
@@ -184,9 +183,6 @@ class Day(InC, PlayerTest):
         self.send("run")
         self.turns_back()
         self.send("home")
-        self.send("quit", *ASKS)
-        self.send("yes", "never")
-        self.end_day(1)
 
     def check_page(self) -> None:
         """What the page shows stands in what was shown, in its order: without a gap, but for `..`. How many lines were

@@ -504,11 +504,9 @@ class Moves(Served):
         self.assertEqual(page.post("restart")[0], 409)
         self.machine.axes.word = "broken"
         page.until("that is told", lambda state: state["broken"] and state["word"] == "Broken off")
-        session = page.next()["session"]
         self.assertEqual(page.post("restart"), (200, {}))
-        self.machine.axes.word = "works"
-        page.until("it is begun anew", lambda state: state["session"] != session and state["word"] == "Idle")
-
+        page.until("another session goes on with that player", lambda state: state["word"] == "Idle")
+        self.assertIn(b"anew", self.machine.others)
 
     def test_axis_without_home(self) -> None:
         """Of an axis that can't be homed a page tells where it stands; what the player counts isn't taken for it."""
@@ -831,7 +829,7 @@ class Given(unittest.TestCase):
         session.face, session.stand = PageFace(), SimpleNamespace(status=None)
         session.operator = SimpleNamespace(do=done.append, over=False)
         session.ended, session.over, session._wake = "", threading.Event(), threading.Condition()
-        session.under = session._next = None
+        session.under, session._next, session._stops = None, None, False
 
         def look() -> None:
             """Something is given, and then the next command."""
