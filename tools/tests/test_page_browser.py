@@ -18,6 +18,8 @@ from machine_support import SocketMachine  # noqa: E402
 from page_support import OTHER, SHORT, SLOW, Page, Served  # noqa: E402
 from session_support import PATIENCE_S, TOOLS, ngc  # noqa: E402
 
+from ngc_tools.formats.device import Device  # noqa: E402
+
 DOCS = TOOLS.parent / "docs"
 SIZES = ((1280, 800), (1024, 768), (1920, 1080))
 HOSTILE = "(<img src=x onerror=window.hacked=1>)\n(MSG, <script>window.hacked=1</script>)\nG17 G21 G90 G94\nM0\nM2\n"
@@ -237,6 +239,45 @@ class Looks(InBrowser):
         self.look("a stop")
         self.no_complaints()
 
+    def test_adapt(self) -> None:
+        """What `ngc` refuses and `ngc-adapt` cures is shown line by line, once what it needs is said; it is loaded as
+        it is written then."""
+        browser = self.browser
+        self.choose("G21 G90 G17 G94 G91.1\nG0 X1 ; <b>\nG91 G28 Z0\nM30\n")
+        self.look("what a text needs")
+        self.assertTrue(browser.js("[...document.querySelectorAll('#over .foot button')].pop().disabled"))
+        browser.fill("#over .entry-row input", "-0.5")
+        browser.press("Adapt", "#over .foot button")
+        changes = browser.wait("[...document.querySelectorAll('#over .change pre')].map(one => one.textContent)"
+                               ".join('|')")
+        self.assertEqual(changes, "\u2212 G21 G90 G17 G94 G91.1\n+ G21 G90 G17 G94|\u2212 G0 X1 ; <b>\n+ G0 X1 (<b>)|"
+                         "\u2212 G91 G28 Z0\n+ G91 G53 G0 Z-0.5")
+        self.look("what is adapted")
+        browser.wait("ngc.preview?.count === 2")
+        browser.press("Adapt and load", "#over button")
+        browser.wait("ngc.state.program.lines === 4 && !ngc.state.busy")
+        self.assertIn("G53 G0 Z-0.5", Device.read("mill.dev").program.decode())
+        self.no_complaints()
+
+    def test_cancel(self) -> None:
+        """A check tells how far it is, and is ended by its button; what is far too long is refused at once."""
+        browser = self.browser
+        Path("long.ngc").write_text("G17 G21 G90 G94\n" + "G1 X1 F600\nG1 X0\n" * 40_000 + "M2\n")
+        browser.choose_file(self.folder / "long.ngc")
+        browser.wait("parseFloat(document.querySelector('#over .track i')?.style.width) >= 0")
+        browser.press("Cancel", "#over button")
+        browser.wait("document.getElementById('over').hidden")
+        with open("huge.ngc", "wb") as file:
+            file.truncate(100_000_000)
+        browser.choose_file(self.folder / "huge.ngc")
+        said = browser.wait("document.querySelector('#over .warn')?.textContent")
+        self.assertEqual(said, "100,000,000 bytes: a program has at most 131,072, on a large device 1,048,576."
+                         " ngc-split parts it.")
+        browser.press("Back", "#over button")
+        self.choose("G0 X1\nM2\n")
+        self.assertEqual(browser.js("document.querySelectorAll('#over .track').length"), 0)
+        self.no_complaints()
+
     @unittest.skipIf(IS_FIREFOX, "Firefox doesn't tell its processor time")
     def test_long(self) -> None:
         """A program of a mebibyte is shown within two seconds of processor time, and moves at 30 frames a second."""
@@ -377,6 +418,7 @@ class Moves(InBrowser):
         browser.up(x, y)
         browser.wait("!ngc.state.busy && Number(ngc.state.at[0]) > -298")
         stopped = self.jogs()
+        self.assertIn("Takes machine X \u2212", browser.js("document.querySelector('#tab-setup').innerText"))
         browser.press("Set XY", "#tab-setup button")
         browser.press("Yes: moves it", "#over button")
         browser.wait("ngc.state.work[0] === '0.000000' && ngc.state.work[1] === '0.000000'")

@@ -102,7 +102,7 @@ class Cam(Served):
         self.assertEqual(self.page("page-number-2").post("checking"), (200, {"told": None}))
         self.assertEqual(page.post("uncheck"), (200, {}))
         thread.join()
-        self.assertEqual(answers, [(422, {"why": "it was ended before it was done"})])
+        self.assertEqual(answers, [(200, {"ended": True})])
         self.assertEqual(page.post("checking"), (200, {"told": None}))
         self.look(page, "M2\n")
 

@@ -25,7 +25,7 @@ from ngc_tools.formats.device import MOST_LARGE_PROGRAM
 from ngc_tools.page.deeds import DEEDS, WAITING, BadWords, Given, cam_answers, keep_checked
 from ngc_tools.page.http import MOST_HEAD, RequestRefused, Request, head_of, read_body, read_request
 from ngc_tools.page.pages import Pages
-from ngc_tools.page.session import Busy, PageSession
+from ngc_tools.page.session import Busy, PageSession, Unwanted
 from ngc_tools.page.state import state_of
 
 STATIC = Path(__file__).resolve().parent / "static"
@@ -226,11 +226,14 @@ class Server:
         return await asyncio.to_thread(self.session.preview, text)
 
     async def check(self, page: str, request: Request, text: bytes) -> bytes:
-        """What is wrong with a program; it is loaded by the `id` that is answered, as it is written for `ngc`. Raises
-        BadWords, Failure, OSError."""
+        """What is wrong with a program; it is loaded by the `id` that is answered, as it is written for `ngc`. One that
+        is ended by the page says so. Raises BadWords, Failure, OSError."""
         answers = cam_answers(request.headers.get("x-answers", "{}"))
         name = _name(request.headers.get("x-name", ""))
-        found, meant = await asyncio.to_thread(self.session.check, page, text, answers)
+        try:
+            found, meant = await asyncio.to_thread(self.session.check, page, text, answers)
+        except Unwanted:
+            return _json({"ended": True})
         ident = f"{time.monotonic_ns():x}"
         keep_checked(self._checked, name if meant == text else f"{name}, adapted", meant, ident)
         return _json(found | {"id": ident, "name": name, "bytes": len(text), "count": len(text.splitlines())})

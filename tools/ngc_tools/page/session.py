@@ -23,7 +23,7 @@ from ngc_tools.operator.motors import SPINDLE_PERCENTS, WHOLE
 from ngc_tools.operator.operator import Operator
 from ngc_tools.operator.sentences import explained
 from ngc_tools.operator.session import ALARM
-from ngc_tools.page.aside import Aside, Child
+from ngc_tools.page.aside import Aside, Child, NotDone
 from ngc_tools.page.drawer import Drawer
 from ngc_tools.page.drawing import DrawingRequest, as_begun
 from ngc_tools.page.face import PageFace
@@ -47,6 +47,10 @@ _ASIDES = {"percent", "spindle", "go", "optional", "delete", "single", "off"}
 
 class Busy(Failure):
     """Something runs, or the session is over: what was asked isn't done."""
+
+
+class Unwanted(Failure):
+    """A check that was ended, since nobody wants it any more."""
 
 
 @dataclass(frozen=True, slots=True)
@@ -319,7 +323,7 @@ class PageSession:
 
     def check(self, page: str, text: bytes, answers: HomeAnswers) -> tuple[dict, bytes]:
         """What `ngc-check` and `ngc-adapt` find of a text, which begins as the device stands, and the text that is
-        meant. A page has one check under way. Raises NotDone, OSError."""
+        meant. A page has one check under way. Raises Unwanted where that is ended, NotDone, OSError."""
         console, session = self.operator.console, self.operator.session
         check = Check(console.ngc, console.settings, self.kept.device.image, session.delete, session.meter is not None,
                       answers)
@@ -329,6 +333,10 @@ class PageSession:
             before.give_up()
         try:
             return self.aside.finish(child)
+        except NotDone:
+            if self._checks.get(page) is not child:
+                raise Unwanted("nobody wants it any more") from None
+            raise
         finally:
             if self._checks.get(page) is child:
                 del self._checks[page]
@@ -340,7 +348,7 @@ class PageSession:
 
     def end_check(self, page: str) -> None:
         """Nobody wants the check of a page any more."""
-        if child := self._checks.get(page):
+        if child := self._checks.pop(page, None):
             child.give_up()
 
     def preview(self, text: bytes) -> bytes:

@@ -27,7 +27,7 @@ export async function load(file, app, asks, answers = {}) {
   draw(() => upload('draw', file), app, sight.picture);
   try {
     const found = await upload('check', file, answers);
-    if (wait.isOver) return;
+    if (wait.isOver || found.ended) return;
     show(found, parts, asks, answers, again => load(file, app, asks, again));
     if (found.adapted && !found.adapted.needs.length) draw(() => drawChecked(found.id), app, sight.picture);
   } catch (error) {
