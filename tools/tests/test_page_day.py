@@ -74,6 +74,7 @@ class Walk(Served):
 
     OUT = "out"
     browser: Browser
+    mill = MILL  # the machine's file
 
     def setUp(self) -> None:
         """Opens the page; the setter is at machine Z 2, where the probe is touched."""
@@ -97,7 +98,7 @@ class Walk(Served):
             self.world = World()
             self.addCleanup(self.world.close)
             self.world.switch(3, PROBE, 2, -1, -3_000)
-        Path("motion.toml").write_text(MILL)
+        Path("motion.toml").write_text(self.mill)
         self.player = subprocess.Popen([program(), "-f", "-s", "progress", "-m", "motion.toml", "out", "first.toml",
                                         "position"], stdin=subprocess.DEVNULL, stdout=subprocess.PIPE,
                                        stderr=subprocess.PIPE, text=True)

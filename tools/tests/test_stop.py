@@ -10,8 +10,8 @@ from pathlib import Path
 sys.path.insert(0, str(Path(__file__).resolve().parent))
 
 from page_support import Served  # noqa: E402
-from session_support import PATIENCE_S  # noqa: E402
-from test_moves import MACHINE, STOP, X_HIGH, World, program  # noqa: E402
+from session_support import PATIENCE_S, TOOLS, Terminal, ngc  # noqa: E402
+from test_moves import MACHINE, STOP, X_HIGH, Moving, World, program  # noqa: E402
 
 CHANGES = (("door = 4\nspindle_at_speed = 5\n", ""), ("at_speed_s = 1\n", ""), ("[60, 60, 60]", "[600, 600, 600]"))
 MILL = reduce(lambda text, change: text.replace(*change), CHANGES, MACHINE)
@@ -285,6 +285,51 @@ class OverPipe(Stopping):
         self.assertEqual(self.server.wait(PATIENCE_S), 0)
         self.assertEqual(self.player.wait(PATIENCE_S), 0)
 
+
+
+class OfConsole(Moving):
+    """The words of ngc-operate, at a terminal."""
+
+    def test_words(self) -> None:
+        """`stop` that is typed while something runs holds it, and then ends it: nothing is on, the line is given up,
+        lines of one's own are taken, and `rewind` leads to line 1. `off` amid a hold, and on again by `run`."""
+        self.device()
+        Path("out").touch()
+        Path("mill.toml").write_text(MILL)
+        Path("part.ngc").write_text("G17 G21 G90 G94\nM3 S1000\nG1 X4 F60\nM5\nM2\n")
+        self.begin("--follow", "--machine", "mill.toml", "--progress", "progress", "out", "first.toml", "position")
+        link = self.linked()
+        terminal = Terminal(str(TOOLS / "ngc-operate"), "mill.dev", "first.toml", "out", "--player", "progress",
+                            "--ngc", ngc(), columns=120)
+
+        def typed(line: str, *ends: str) -> str:
+            terminal.send(line.encode() + b"\n")
+            return terminal.read_to(tuple(end.encode() for end in ends or ("ngc> ",))).decode().replace("\r\n", "\n")
+
+        def cuts() -> None:
+            terminal.send(b"run\n")
+            self.wait_for("it cuts", lambda: self.world.place[0] > 500)
+
+        terminal.read_to((b"ngc> ",))
+        typed("load part.ngc")
+        cuts()
+        said = typed("stop", "half-done: ")
+        self.assertIn("stopped in segment 0 of line 3: G1 X4 F60. Given up,", said)
+        self.assertEqual((link.ask().outputs.spindle, self.world.get(IS_ON)), (0, 0))
+        said = typed("yes")
+        self.assertIn("given up: run begins that line again, from where the machine stands\n", said)
+        self.assertEqual(link.ask().behind, 0)
+        self.assertIn("idle; X 0.000000 Y 0.000000 Z 0.000000; next line 3 of 5", typed("G0 X0"))
+        self.assertIn("nothing runs\n", typed("stop"))
+        self.assertIn("from line 1, 41 bytes, 5 lines", typed("rewind"))
+        cuts()
+        typed("")
+        self.assertIn("spindle and coolant are off; what was on comes on again", typed("off"))
+        self.assertEqual(self.world.get(IS_ON), 0)
+        self.assertIn("switched off by hand: the spindle, clockwise at 1000.", typed("run", "leaves it off: "))
+        self.assertIn("idle; X 4.000000", typed("yes"))
+        typed("quit", "never")
+        self.assertEqual(terminal.status(), 0)
 
 
 if __name__ == "__main__":

@@ -17,11 +17,13 @@ _OFF_S = 2.0  # how long a player may take for that, but for a spindle that is b
 _LOOKS_S = 0.02
 _FREE_S = 0.3  # after so long motors that are let go and still say that they are held are held by something else
 WITHIN = """\
-stopped in {half}. yes gives it up: what was cut of it stays, and run begins it again, whole; anything else keeps it
-half-done, and recover or resume goes on with it: """
+stopped in {half}. Given up, what was cut of it stays, and run begins it again, whole. Kept, recover or resume goes on
+with it.
+yes gives it up, anything else keeps it half-done: """
 LINES = """\
-stopped with {count} in hand, which no motor carried out. yes drops them, and nothing makes them any more; anything else
-keeps them as far as OUT keeps lines, and recover goes on along them: """
+stopped with {count} in hand, which no motor carried out. Dropped, nothing makes them any more. Kept, recover goes on
+along them, where OUT is a file.
+yes drops them, anything else keeps them: """
 _AT_MACHINE = "switch spindle and coolant off at the machine"
 _MOVES = "spindle and coolant go off while the motors stand: hold first"
 _OFF = "spindle and coolant are off"

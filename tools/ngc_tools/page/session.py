@@ -15,7 +15,7 @@ from typing import Any
 from ngc_tools.failure import Failure
 from ngc_tools.formats.device import Device
 from ngc_tools.formats.position import nanometres
-from ngc_tools.formats.settings import Settings
+from ngc_tools.formats.settings import Settings, read_table
 from ngc_tools.job.cam_homes import HomeAnswers
 from ngc_tools.ngc.console import Ended, Status
 from ngc_tools.operator.face import REFUSED, WARNING
@@ -144,6 +144,7 @@ class PageSession:
         console = operator.console
         self.settings = Settings.read(console.settings)
         self.most_percents = _most_percents(self.machine, self.settings)
+        self.homes = _homes(self.machine)
         self.face.begin(self.face.holds)
         self.face.asides()  # none of the last session counts
         operator.following.opened = self._follow
@@ -531,6 +532,15 @@ class PageSession:
         """What is drawn where a program is to begin, or began, as a device stands."""
         console, delete = self.operator.console, self.operator.session.delete
         return DrawingRequest(console.ngc, console.settings, self.machine, device.image, not device.state.place, delete)
+
+
+def _homes(path: str) -> str | None:
+    """The axes that a machine's file says how to home, as `XYZ`; None where no file is named, or it is wrong."""
+    try:
+        order = read_table(path).get("home", {}).get("order", []) if path else None
+        return None if order is None else "".join(axis for axis, at in zip("XYZ", order) if at)
+    except (Failure, OSError, AttributeError, TypeError):
+        return None
 
 
 def _most_percents(path: str, settings: Settings) -> tuple[int, int]:

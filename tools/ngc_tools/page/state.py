@@ -116,6 +116,7 @@ class Pictured:
         said = {"player": meter is not None, "player_gone": self.stand.gone, "motors": report and report.at.split(),
                 "speed": out.speed / 10**6, "spindle": out.spindle, "mist": out.mist, "flood": out.flood,
                 "slot": out.slot, "selected": out.selected, "most_percents": self.session.most_percents,
+                "homes": self.session.homes,
                 "again": on_words(report.again) if report and report.again else "", "can": self._can(),
                 "recover": self.stand.recovery,
                 "past": self.session.past if report and report.at == self.session.past_at else ""}

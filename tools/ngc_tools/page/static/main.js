@@ -138,7 +138,7 @@ function running(s) {
 
 // The motors rest at another place than where ngc takes them to be: as after power was lost in a jog.
 function whereIsIt() {
-  const s = app.state, hasHome = s.machine !== null;
+  const s = app.state, hasHome = s.machine !== null && s.homes !== '';
   const does = (what, body) => () => { sheet.close(); asks(what, body); };
   sheet.open('Where is the machine?', [
     sheet.warning('Two places are told. Look at the machine: a line goes from the one that is true.'),

@@ -50,11 +50,12 @@ export class Setup {
     const hasMoves = s.machine !== null && s.machine !== undefined, isJogging = s.command?.word === 'jog';
     const isFree = s.yours && canMove(s), isOff = isFree && !isOn(s);
     for (const name of ['home', 'jog', 'probe']) this.parts[name].hidden = !hasMoves;
+    this.parts.home.hidden ||= s.homes === ''; // the machine's file doesn't say how
     text(this.why, hasMoves && !isJogging ? whyNot(s) : '');
     this.why.hidden = !this.why.textContent;
     text(this.homed, s.homed ? `homed: ${[...s.homed].join(' ')}` : 'not homed');
     text(this.system, systemName(s.system));
-    for (const one of this.home) one.disabled = !isOff || s.busy;
+    this.home.forEach((one, i) => { one.disabled = !isOff || s.busy || i > 0 && !(s.homes ?? 'XYZ').includes(AXES[i - 1]); });
     this.jog.enable(isFree && hasMoves && !s.alarm && (!s.busy || isJogging));
     for (const one of [...this.seeks, this.within]) one.disabled = !isOff || s.busy || Boolean(s.alarm);
     for (const one of [...this.zero, this.value, this.byProbe]) one.disabled = !isIdle;
