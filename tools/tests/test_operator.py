@@ -592,7 +592,7 @@ class Causes(Core):
             said = (self.do(typed) if typed != "load" else
                     [self.operator.load("x", b"M2\n"), self.face.said[-1][1]])[-1]
             self.assertEqual(said, "refused K1 Busy: held in segment 0 of line 2: G1 X3 F60: run goes on; to give the"
-                             " block up: quit, start again, abandon. No other line is done before that", typed)
+                             " block up: stop. No other line is done before that", typed)
         self.do("run")
         self.assertEqual(self.status().at[0], "3.000000")
 

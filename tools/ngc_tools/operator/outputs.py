@@ -29,7 +29,7 @@ def comes_on_agreed(session: Session) -> bool:
     report = session.report()
     if report is None or report.again is None:
         return True
-    return session.agrees(f"switched off by hand: {on_words(report.again)}. yes switches it on again and goes on,"
+    return session.agrees(f"switched off by hand: {on_words(report.again)}.\nyes switches it on again and goes on,"
                           " anything else leaves it off: ")
 
 
