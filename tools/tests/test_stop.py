@@ -11,7 +11,8 @@ sys.path.insert(0, str(Path(__file__).resolve().parent))
 
 from page_support import Served  # noqa: E402
 from session_support import PATIENCE_S, TOOLS, Terminal, ngc  # noqa: E402
-from test_moves import MACHINE, STOP, X_HIGH, Moving, World, program  # noqa: E402
+from test_documents import blocks, chapters  # noqa: E402
+from test_moves import AT_SPEED, MACHINE, PROBE, STOP, X_HIGH, Moving, World, program  # noqa: E402
 
 CHANGES = (("door = 4\nspindle_at_speed = 5\n", ""), ("at_speed_s = 1\n", ""), ("[60, 60, 60]", "[600, 600, 600]"))
 MILL = reduce(lambda text, change: text.replace(*change), CHANGES, MACHINE)
@@ -285,6 +286,24 @@ class OverPipe(Stopping):
         self.assertEqual(self.server.wait(PATIENCE_S), 0)
         self.assertEqual(self.player.wait(PATIENCE_S), 0)
 
+
+
+class Documented(Moving):
+    """docs/PAGE.md's first step, with the machine's file that docs/MACHINE.md shows, and examples/mill.toml."""
+
+    def test_home(self) -> None:
+        """All axes are homed: they stand where the file says, 2 mm from their switches."""
+        shown = chapters("MACHINE.md")
+        Path("first.toml").write_text((TOOLS.parent / "examples/mill.toml").read_text())
+        Path("mill.toml").write_text("\n".join(blocks(shown["Motors"])[:1] + blocks(shown["Inputs and home"])))
+        self.world.set(0, 1 << AT_SPEED | 1 << PROBE)  # their contacts are open; that of the emergency stop is closed
+        for number, (high, axis, sign) in enumerate(((1, 0, -1), (2, 1, -1), (3, 2, 1))):
+            self.world.switch(number, high, axis, sign, sign * 2_000)
+        self.started("--untimed")
+        self.assertEqual(self.how(self.link.home()), "done")
+        self.assertEqual((self.at(), self.link.machine().homed), ((-150, -100, 0), "XYZ"))
+        self.assertIn("`[motion]`, `[inputs]` and `[home]` as MACHINE.md shows them",
+                      (TOOLS.parent / "docs/PAGE.md").read_text().replace("\n", " "))
 
 
 class OfConsole(Moving):
