@@ -859,6 +859,15 @@ class Lines(unittest.TestCase):
         self.assertEqual(program.messages(*every, False), [(3, "last\\x01"), (4, "deleted")])
         self.assertEqual(program.messages(*every, True), [(3, "last\\x01")])
 
+    def test_remarks(self) -> None:
+        """The plain comment of a line, by the place behind it, or of comments right above; a message isn't one."""
+        for text, wanted in (("M0 (turn it)\n", (1, "turn it")), ("(a) (turn\x01it) \nM0\n", (1, "turn\\x01it")),
+                             ("M0(a)(b)", (1, "b")), ("(a)\nM0 (b)\n", (2, "b")), ("M0\n", None), ("", None),
+                             ("G0 X1 (a)\nM0\n", None), ("(a)\n\nM0\n", None), ("M0 (MSG, a)\n", None),
+                             ("(a)\nM0 (msg,b)\n", None), ("(MSG, a)\r\nM0\r\n", None), ("(a)\r\nM0\r\n", (1, "a"))):
+            self.assertEqual(Program(text.encode()).remark(len(text.encode())), wanted, text)
+        self.assertEqual(Program(b"G0 X1\nM0 (a)\nG0 X0 (b)\n").remark(13), (2, "a"))
+
     def test_percent(self) -> None:
         """Up to the first percent sign, by docs/LANGUAGE.md: blanks and tabs beside it, and no other sign, aside."""
         for text, length in ((b"\n\t% \r\nG0 X1\n%\n", 6), (b"%", 1), (b"\x0c%\nM2\n", 0), (b"%5\n%\n", 0), (b"", 0)):

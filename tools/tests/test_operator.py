@@ -744,6 +744,16 @@ class Loads(Core):
             self.assertEqual(self.face.said, [(REFUSED, said)])
         self.assertTrue(self.operator.load("part.ngc", "(Ü)\r\nM2\r\n".encode()))
 
+    def test_comment_of_stop(self) -> None:
+        """At a stop its plain comment is told as a message is, once; a line of one's own doesn't repeat it."""
+        self.begin()
+        self.load("G21 G90\n(take the clamp off)\nM0\nM0 (MSG, b)\nM0\nM2\n")
+        self.do("run")
+        self.assertIn(("message", "comment, line 2: take the clamp off"), self.face.said)
+        self.assertNotIn("take the clamp off", " ".join(self.do("G91 G90")))
+        self.assertIn("message, line 4: b", self.do("run"))
+        self.assertEqual([text for text in self.do("run") if text.startswith(("comment", "message"))], [])
+
     def test_unset_length(self) -> None:
         """A program that moves Z and sets no tool length: the one in force is told as it is loaded, and another one is
         asked before it begins, as that of the job before."""

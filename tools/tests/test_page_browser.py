@@ -259,6 +259,21 @@ class Looks(InBrowser):
         self.assertIn("G53 G0 Z-0.5", Device.read("mill.dev").program.decode())
         self.no_complaints()
 
+    def test_tools(self) -> None:
+        """A tool of any number gets a length; the slots below it have 0."""
+        browser = self.browser
+        browser.press("Tools", "nav button")
+        browser.fill("#tab-tools input[aria-label='Number of a new tool']", "0")
+        browser.fill("#tab-tools input[aria-label='Length of tool 1']", "62.5")
+        browser.press("Add", "#tab-tools button")
+        browser.wait("document.querySelector('#tab-tools input.wrong')")
+        self.assertEqual(browser.js("ngc.state.tools.length"), 0)
+        browser.fill("#tab-tools input[aria-label='Number of a new tool']", "T3")
+        browser.press("Add", "#tab-tools button")
+        browser.wait("String(ngc.state.tools) === '0.000000,0.000000,62.500000'")
+        self.look("tools")
+        self.no_complaints()
+
     def test_cancel(self) -> None:
         """A check tells how far it is, and is ended by its button; what is far too long is refused at once."""
         browser = self.browser

@@ -110,7 +110,8 @@ class Zero(Core):
         self.do("reference 306.000001 3.25 -4")
         self.assertEqual(self.do("zero X Y", answers=("no",)), ["nothing is set"])
         self.assertEqual(self.face.asked, [
-            "the zero of G54 would move in X by 300.000 mm: to machine X306.000001 Y3.25 from X6 Y3.25\nyes moves it: "])
+            "the zero of G54 would move in X by 300.000 mm: to machine X306.000001 Y3.25 from X6 Y3.25\n"
+            "yes moves it: "])
         self.assertEqual(self.origin(), (6_000_000, 3_250_000, -4_000_000))
         self.do("zero X Y", answers=("yes",))
         self.assertEqual(self.origin(), (306_000_001, 3_250_000, -4_000_000))
@@ -194,8 +195,8 @@ class Tool(Core):
         self.assertEqual((self.lengths(), self.operator.stored().state.tool_length_nm), ([60_750_000], 50_000_000))
         self.assertEqual(self.do("undo"), ["tool 1 50", "done 5"])
         self.assertEqual(self.lengths(), [50_000_000])
-        self.assertEqual(self.do("touch tool 2 -1.5in", answers=("yes",))[:2], ["machine Z is -20.5, and the setter's top is at -38.1",
-                                                              "tool 2 17.6"])
+        self.assertEqual(self.do("touch tool 2 -1.5in", answers=("yes",))[:2], [
+            "machine Z is -20.5, and the setter's top is at -38.1", "tool 2 17.6"])
         self.assertIn("tool 2: 17.6 (no slot before). undo puts it back", [text for _, text in self.face.said])
         self.assertEqual(self.do("undo"), ["tool 2 0", "done 7"])  # a slot can't be taken away
 
@@ -220,8 +221,21 @@ class Tool(Core):
         self.do("touch tool 2 -6 anyway")
         self.assertEqual((self.face.asked, self.lengths()), ([], [10_000_000, 6_000_000]))
 
+    def test_no_gaps(self) -> None:
+        """The slots below one that gets a length have 0 then, which is told; not where that isn't taken."""
+        self.begin()
+        self.do("tool 1 20", "tool 5 -1", "tool 5 x", "tool 129 1", "touch tool 4 5 anyway")
+        self.assertEqual(self.lengths(), [20_000_000])
+        self.assertEqual(self.do("TOOL 4 7.5"), [
+            "slots 2 to 3 have length 0 now, since the table has no gaps: measure before G43 takes that", "done 4"])
+        self.assertIn("slot 5 has length 0 now, since the table has no gaps: measure before G43 takes that",
+                      self.do("touch tool 6 -1 anyway"))
+        self.assertEqual(self.lengths(), [20_000_000, 0, 0, 7_500_000, 0, 1_000_000])
+        self.do("tool 3 8", "tool 8 9")
+        self.assertEqual(self.lengths(), [20_000_000, 0, 8_000_000, 7_500_000, 0, 1_000_000, 0, 9_000_000])
+
     def test_refused(self) -> None:
-        """A slot and a length that `ngc` refuses, a height that nobody knows, and a slot that was set since."""
+        """A length that `ngc` refuses, a height that nobody knows, and a slot that was set since."""
         self.begin()
         self.assertEqual(self.do("touch tool 1"), [
             "at which machine Z does the bare spindle reach the setter's top? touch tool 1 HEIGHT, or height_um of"
@@ -230,7 +244,6 @@ class Tool(Core):
         for typed in ("touch", "touch 1", "touch tool", "touch tool x -1", "touch tool 1 2 3"):
             self.assertEqual(self.do(typed), [which], typed)
         self.assertEqual(self.do("touch tool 1 up"), ["not a number: up"])
-        self.assertIn("refused B14 BadSlot: slot 1 comes first", self.do("touch tool 2 -1 anyway")[2])
         self.assertIn("refused E3 OutOfRange", self.do("touch tool 1 5 anyway")[2])
         self.assertEqual(self.lengths(), [])
         self.do("touch tool 1 -5 anyway", "tool 1 6")
@@ -288,7 +301,6 @@ class ByProbe(Core):
     def test_refused_first(self) -> None:
         """What isn't set doesn't use it up."""
         self.seek()
-        self.do("touch tool 3 -60 probe")  # slot 1 comes first
         self.do("zero Z 20 probe", answers=("no",))
         self.assertIn("G10 L2 P1 Z-4.5", self.do("zero Z -0.5 probe"))
 

@@ -117,9 +117,20 @@ def unset(lines: Lines, acts: list[Act], tools_nm: Sequence[int]) -> Iterator[Da
         length = act.in_force.length
         if length or any(tools_nm):
             counts = f"a length of {millimetres(length)} mm is in force" if length else "no tool length is in force"
-            yield Danger(act.line, "unset", f"it moves Z before it sets G43 or G49, and {counts}, as it was left before:"
-                         " write G43 with the tool's H, or G49, before it")
+            yield Danger(act.line, "unset", f"it moves Z before it sets G43 or G49, and {counts}, as it was left"
+                         " before: write G43 with the tool's H, or G49, before it")
         return
+
+
+def unmeasured(lines: Lines, acts: list[Act], tools_nm: Sequence[int]) -> Iterator[Danger]:
+    """The first G43 with the H of each slot that has length 0, where others have one."""
+    said: set[int] = set()
+    for act in acts:
+        slot = slot_of(lines, act.line) if act.command.name == "USE_TOOL_LENGTH_OFFSET" else None
+        if slot and slot not in said and slot <= len(tools_nm) and not tools_nm[slot - 1] and any(tools_nm):
+            said.add(slot)
+            yield Danger(act.line, "unmeasured", f"H{slot} takes the length of slot {slot}, which is 0, as of a tool"
+                         " that wasn't measured: it goes too deep by its length, unless the others are measured by it")
 
 
 def slot_of(lines: Lines, line: int) -> int | None:

@@ -57,6 +57,7 @@ def dangers(lines: Lines, run: Run, under: Conditions) -> list[Danger]:
              *_homes(lines, printed), *_dwells(printed), *_full_turns(acts),
              *heights.heights(lines, acts, under.is_placed), *heights.first_descent(lines, acts),
              *cutting.spindle(acts), *cutting.lengths(lines, acts, under.tools_nm),
+             *cutting.unmeasured(lines, acts, under.tools_nm),
              *(() if under.asks_tools else cutting.tool_changes(acts)),
              *(cutting.unset(lines, acts, under.tools_nm) if under.beginning.image is not None else ()),
              *_other_lengths(lines, acts, under),

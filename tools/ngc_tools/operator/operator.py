@@ -15,7 +15,7 @@ from ngc_tools.operator.alarm import Alarm
 from ngc_tools.operator.causes import refused, taken
 from ngc_tools.operator.display import on_words
 from ngc_tools.operator.ending import Ending
-from ngc_tools.operator.face import REFUSED, WARNING, WHERE, Face, are_keys
+from ngc_tools.operator.face import MESSAGE, REFUSED, WARNING, WHERE, Face, are_keys
 from ngc_tools.operator.homes import asked_of_home
 from ngc_tools.operator.jog_keys import Keys, jog_by_keys
 from ngc_tools.operator.left import Left, dropped_g92
@@ -24,6 +24,7 @@ from ngc_tools.operator.look import Look
 from ngc_tools.operator.meter import Meter
 from ngc_tools.operator.motors import Motors
 from ngc_tools.operator.moves import Moves
+from ngc_tools.operator.numbers import nanometres_of
 from ngc_tools.operator.opening import say_opening
 from ngc_tools.operator.next_session import NextSession
 from ngc_tools.operator.outputs import comes_on_agreed, outputs_agree
@@ -34,7 +35,8 @@ from ngc_tools.operator.sentences import (GO_ON, HELP, NOT_MOVED, SWITCHED, SWIT
                                           TAKEN_UP_THERE)
 from ngc_tools.operator.session import ALARM, BROKEN, Nothing, Session, place
 from ngc_tools.operator.stopping import Stopping
-from ngc_tools.operator.touch import Touch
+from ngc_tools.operator.slots import fill_below
+from ngc_tools.operator.touch import Touch, is_slot
 from ngc_tools.operator.typed import ANYWAY, Typed
 from ngc_tools.operator.work import SINGLE, Work
 from ngc_tools.player.progress import NoAnswer, Report
@@ -79,7 +81,7 @@ class Operator:
             "touch": lambda typed: self.touch.tool(typed.rest, typed.anyway),
             "undo": lambda _: self.touch.undo(),
             "mdi": lambda typed: self._mdi(typed.rest, typed.anyway),
-            **dict.fromkeys(PLAIN, self._plain),
+            **dict.fromkeys(PLAIN, self._plain), "tool": self._tool,
         }
 
     def begin(self, bound: str, found: Device | None = None) -> None:
@@ -235,6 +237,13 @@ class Operator:
         Look(self.session).after_work()
         if found.left:
             self.face.say("it can't put back " + "; nor ".join(found.left), WARNING)
+
+    def _tool(self, typed: Typed) -> None:
+        """Gives a slot a length."""
+        slot, _, length = typed.rest.partition(" ")
+        if is_slot(slot):
+            fill_below(self.session, int(slot), nanometres_of(length.strip()))
+        self._plain(typed)
 
     def _plain(self, typed: Typed) -> None:
         if typed.word == "abandon" and self.console.status().does == "idle":
@@ -428,9 +437,18 @@ class Operator:
     def _run_on(self) -> str | None:
         """The same as `_work`, and says how all stands then."""
         ended = self._work()
+        if ended == "stopped":
+            self._say_remark()
         if ended is not None:
             self._say_stand(ended)
         return ended
+
+    def _say_remark(self) -> None:
+        """Says the plain comment of the line at which the program stopped."""
+        status = self.console.status()
+        found = self.session.program.remark(status.place) if status.half == "none" and status.place else None
+        if found and found[1]:
+            self.face.say(f"comment, line {found[0]}: {found[1]}", MESSAGE)
 
     def _work(self) -> str | None:
         """Gives ticks until there is nothing to do, or somebody holds. Returns what ended them, None for a hold."""

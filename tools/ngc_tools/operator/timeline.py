@@ -80,7 +80,8 @@ def timeline(console: Console, device: Device, text: bytes, settings: Settings, 
     return _folded(acts, settings, (refused, breach, beginning.notes_under(settings), unset))
 
 
-def _folded(acts: Iterable[Act], settings: Settings, said: tuple[Refusal | None, str, tuple[str, ...], str]) -> Timeline:
+def _folded(acts: Iterable[Act], settings: Settings,
+            said: tuple[Refusal | None, str, tuple[str, ...], str]) -> Timeline:
     """Goes through what the lines do."""
     views: dict[int, InForce] = {}
     ends: dict[int, int] = {}

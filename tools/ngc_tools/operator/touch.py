@@ -19,6 +19,7 @@ from ngc_tools.operator.numbers import length_of, nanometres_of
 from ngc_tools.operator.places import Places
 from ngc_tools.operator.session import Session
 from ngc_tools.operator.setter import Setter
+from ngc_tools.operator.slots import fill_below
 from ngc_tools.operator.typed import ANYWAY
 
 Point = tuple[int, int, int]
@@ -169,7 +170,7 @@ class Touch:
         """Raises CannotTouch."""
         named, by_probe = _parted(rest)
         words = named.lower().split()
-        if len(words) not in (2, 3) or words[0] != "tool" or not _is_slot(words[1]):
+        if len(words) not in (2, 3) or words[0] != "tool" or not is_slot(words[1]):
             raise CannotTouch(_TOUCH)
         slot, height = int(words[1]), self._height(words)
         status, device = self._found()
@@ -191,6 +192,7 @@ class Touch:
     def _set_length(self, slot: int, nm: int, before: tuple[int, ...], by_probe: bool) -> None:
         """Gives a slot its length; it had that `before`, or none."""
         command = f"tool {slot} {trimmed(nm)}"
+        fill_below(self.session, slot, nm)
         self.session.face.say(command)
         if not taken(self.session, self.session.console.ask(command)[0], command):
             return
@@ -291,7 +293,8 @@ def _tool(slot: int | None) -> str:
     return f"tool {slot}" if slot else "no tool"
 
 
-def _is_slot(text: str) -> bool:
+def is_slot(text: str) -> bool:
+    """Whether a text is a number that a slot may have."""
     return text.isascii() and text.isdecimal() and len(text) < 4
 
 

@@ -102,8 +102,8 @@ def cam_answers(text: str) -> HomeAnswers:
     slots = {int(number): slot for number, slot in tools.items() if re.fullmatch("[1-9][0-9]{0,8}", number)}
     if len(slots) < len(tools) or not all(type(slot) is int and 1 <= slot <= SLOTS for slot in slots.values()):
         raise BadWords(f"tools: each has a slot from 1 to {SLOTS}")
-    return HomeAnswers(None if lift is None else nanometres(number_of(lift)),
-                       None if park is None else (nanometres(number_of(park[0])), nanometres(number_of(park[1]))), slots)
+    x_y = None if park is None else (nanometres(number_of(park[0])), nanometres(number_of(park[1])))
+    return HomeAnswers(None if lift is None else nanometres(number_of(lift)), x_y, slots)
 
 
 def keep_checked(checked: dict[str, tuple[str, bytes]], name: str, text: bytes, ident: str) -> None:
