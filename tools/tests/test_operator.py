@@ -18,7 +18,7 @@ from ngc_tools.operator.face import MESSAGE, REFUSED, SAID, WARNING, WHERE, Unde
 from ngc_tools.operator.meter import Meter  # noqa: E402
 from ngc_tools.operator.operator import Operator  # noqa: E402
 from ngc_tools.operator.ramp_times import RampTimes  # noqa: E402
-from ngc_tools.player.progress import NoAnswer, Report  # noqa: E402
+from ngc_tools.player.progress import MoveReport, NoAnswer, Report  # noqa: E402
 
 MODAL = ("feed_nm_per_min", "speed", "g92_nm", "origin_nm", "tool_length_nm", "motion", "plane", "distance",
          "feed_mode", "unit", "retract", "system", "path_mode", "spindle", "mist", "flood", "selected", "point_nm")
@@ -101,6 +101,10 @@ class FileLink:
             self.outputs = line if isinstance(line, Switch) else self.outputs
         self.carried = len(lines)
         return Report(self.carried, self.carried, False, str(self.position), "out", self.outputs)
+
+    def machine(self) -> MoveReport:
+        """It makes no moves without lines."""
+        raise NoAnswer("progress: the player doesn't answer")
 
     def at(self, place: str) -> None:
         """Takes where the machine stands."""
@@ -1048,6 +1052,41 @@ class Motors(Core):
         self.do("resume anyway", answers=("yes",))
         self.assertEqual((link.is_held, self.status().at[0], link.ask().at), (False, "1.000000", "1.000000 0.000000"
                                                                                                 " 0.000000"))
+
+    def test_given_back(self) -> None:
+        """Overrides and switches are given back to a job that goes on, and what the player doesn't take is named; to
+        one that begins they aren't. A file that is another's is left alone."""
+        self.begin_ramps()
+        self.load("G21 G90\nG1 X1 F600\nM2\n")
+        self.do("percent 50", "spindle percent 90", "delete on", "optional on", "single on")
+        self.hold_after(20)
+        self.do("run")
+        self.assertEqual(self.status().half, "program")
+        self.cut()
+        Path("out").write_text("")
+        link = RampLink()
+        self.begin(link)
+        chosen = "spindle 90 %, block delete, optional stop, single block"
+        self.assertIn(f"given back, as it was before the session ended: feed 50 %, {chosen}", self.begun)
+        session = self.operator.session
+        self.assertEqual((session.delete, session.optional, session.single, link.percent, link.spindle),
+                         (True, True, True, 50, 90))
+        self.do("percent 120")
+        self.cut()
+        link = RampLink()
+        link.override = lambda _: None
+        self.begin(link)
+        self.assertIn(f"given back, as it was before the session ended: {chosen}", self.begun)
+        self.assertIn("it isn't given back, since the player doesn't take it: feed 120 %", self.begun)
+        self.do("reference player", "abandon")
+        self.load("G0 X1\nM2\n")
+        self.cut()
+        self.begin(link)
+        self.assertEqual((self.operator.session.delete, Path("mill.dev.choices").exists()), (False, False))
+        for text in ("mine", "{}x", '{"percent": 500}', '{"delete": 1}', "[]"):
+            Path("mill.dev.choices").write_text(text)
+            self.assertIn("mill.dev.choices: it isn't what is kept there", "".join(self.do("delete on", "delete off")))
+            self.assertEqual(Path("mill.dev.choices").read_text(), text)
 
     def test_override(self) -> None:
         """By tens, to one percent at least, back to 100; typed, and while something runs. What isn't taken is refused

@@ -24,6 +24,7 @@ from ngc_tools.cli.page import main  # noqa: E402
 from ngc_tools.ngc.console import Console  # noqa: E402
 from ngc_tools.operator.face import REFUSED  # noqa: E402
 from ngc_tools.operator.sentences import SWITCHED  # noqa: E402
+from ngc_tools.operator.way_back import TYPE_GO  # noqa: E402
 from ngc_tools.page import server as server_module  # noqa: E402
 from ngc_tools.page.aside import Aside, NotDone  # noqa: E402
 from ngc_tools.page.drawing import SWITCH, DrawingRequest, draw, draw_exactly, job_of  # noqa: E402
@@ -783,6 +784,17 @@ class Faces(unittest.TestCase):
                          ("1.5", True, False))
         self.assertFalse(self.face.has_looked)
         self.assertEqual((self.face.agrees(SWITCHED), self.face.has_looked, self.face.question), (True, True, None))
+
+    def test_tool_on_the_way(self) -> None:
+        """A tool that comes on the way of recover is in once somebody says so by the button of tool changes too; no
+        other question is answered by it."""
+        session = PageSession.__new__(PageSession)
+        session.face, session._wake, session._next, session.under = self.face, threading.Condition(), None, "recover"
+        self.face.begin(0)
+        self.looks = [lambda _: session.tell("go")]
+        self.assertEqual(self.face.ask(f"tool 2 comes on the way: put it in{TYPE_GO}"), "go")
+        self.looks = [lambda _: session.tell("go"), lambda face: face.answer(face.question.id, "no")]
+        self.assertEqual((self.face.ask("Up to which Z? "), self.face.asides()), ("no", ["go"]))
 
     def test_holds(self) -> None:
         """A wish to hold is a no, and holds the command that was given before it, though that hadn't begun."""

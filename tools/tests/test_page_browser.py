@@ -6,6 +6,7 @@ import sys
 import threading
 import time
 import unittest
+from dataclasses import replace
 from functools import cache
 from pathlib import Path
 from statistics import median
@@ -19,6 +20,7 @@ from page_support import OTHER, SHORT, SLOW, Page, Served  # noqa: E402
 from session_support import PATIENCE_S, TOOLS, ngc  # noqa: E402
 
 from ngc_tools.formats.device import Device  # noqa: E402
+from ngc_tools.formats.record import Record  # noqa: E402
 
 DOCS = TOOLS.parent / "docs"
 SIZES = ((1280, 800), (1024, 768), (1920, 1080))
@@ -492,7 +494,10 @@ class Power(InBrowser):
         self.not_rehearsed()
         self.press_amid_news("Next")
         self.assertTrue(browser.js("document.querySelector('#over .foot .go').disabled"))
-        self.assertIn("they make at most", browser.js("document.querySelector('#over .words').textContent"))
+        said = browser.js("document.querySelector('#over .words').textContent")
+        off = re.search(r"they make at most .* lines?(?: of OUT)?, ([0-9.]+) mm", said)[1]
+        shown = "[...document.querySelectorAll('#over .confirm button')].map(one => one.textContent).join()"
+        self.assertEqual(browser.js(shown), ",".join([f"Confirm, \u00b1 {off} mm"] * 3))
         for _ in range(3):
             browser.press("Confirm", "#over button")
         self.look("where it stands")
@@ -518,6 +523,26 @@ class Power(InBrowser):
         browser.press("Yes: goes on with the cut", "#over .go")
         browser.wait("ngc.state.does === 'running' && ngc.state.motors[0] > 0.02 && ngc.state.spindle === 1")
         self.assertFalse(browser.js("document.getElementById('over').checkVisibility()"))
+        self.no_complaints()
+
+    def test_two_places(self) -> None:
+        """After a loss of power within a jog the large button asks where the machine stands, with how far the record
+        may be off, in place of a run that does nothing."""
+        browser = self.browser
+        self.load(SLOW, 4)
+        self.wait_for("the record is kept", lambda: Path("position").exists())
+        self.pull()
+        record = Record.of_text(Path("position").read_bytes(), "position")
+        Path("position").write_bytes(replace(record, at_nm=(3_000_000, 0, 4_000_000)).text())
+        self.begin_again()
+        browser.wait("document.getElementById('run').textContent === 'Where is it?'")
+        self.assertEqual(browser.js("[ngc.state.motors[0], ngc.state.at[0]].join()"), "3.000000,0.000000")
+        browser.press("Where is it?", "#run")
+        self.look("where the machine stands")
+        # in 20 ms 401 lines of 50 us at most: so many steps of each axis, 1.7321 um, rounded up
+        browser.press("Where the player counts, \u00b1 0.695 mm", "#over button")
+        browser.wait("ngc.state.at[0] === '3.000000' && ngc.state.at[2] === '4.000000'")
+        browser.wait("document.getElementById('run').textContent === 'Run' && !document.getElementById('run').disabled")
         self.no_complaints()
 
     def not_rehearsed(self) -> None:

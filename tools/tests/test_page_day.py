@@ -350,11 +350,11 @@ class Loss(Walk):
         self.stored()
 
     def later(self) -> None:
-        """It is put off, the machine is homed, and then the tool goes by legs."""
-        self.press("Later", "#over button")
-        self.tab("Setup")
-        self.home()
-        self.browser.press("Recover", "#run")
+        """The machine is homed first, as it is proposed, and then the tool goes by legs."""
+        self.browser.press("Next", "#over button")
+        self.press("Home first", "#over .go")
+        self.browser.press("Home", "#over button")
+        self.rests("s.homed === 'XYZ'")
         self.stored()
         self.confirmed()
         self.press("Go by legs", "#over button")

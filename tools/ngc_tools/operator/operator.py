@@ -13,6 +13,7 @@ from ngc_tools.formats.settings import Settings
 from ngc_tools.ngc.console import Console, Status
 from ngc_tools.operator.alarm import Alarm
 from ngc_tools.operator.causes import refused, taken
+from ngc_tools.operator.choices import Choices
 from ngc_tools.operator.display import on_words
 from ngc_tools.operator.ending import Ending
 from ngc_tools.operator.face import MESSAGE, REFUSED, WARNING, WHERE, Face, are_keys
@@ -41,6 +42,7 @@ from ngc_tools.operator.typed import ANYWAY, Typed
 from ngc_tools.operator.work import SINGLE, Work
 from ngc_tools.player.progress import NoAnswer, Report
 
+CHOSEN = ("percent", "spindle", "single", "optional", "delete")
 PLAIN = ("abandon", "tool", "optional", "delete")
 
 
@@ -59,6 +61,7 @@ class Operator:
         self.loading = Loading(self.session)
         self.ending = Ending(self.session)
         self.recover = Recover(self.session)
+        self.choices = Choices(self.session)
         self.alarm = Alarm(self.session)
         self.following = NextSession(self.session, self.motors, self.left, self.recover, self._open)
         self.moves = Moves(self.session, self.motors, self.left, self.following, self.alarm, self.do)
@@ -95,6 +98,7 @@ class Operator:
         say_opening(self.session, self.places, self.left, found)
         status = self.console.status()
         self.recover.begin(status)
+        self.choices.give_back(status)
         self.session.told = status.place
 
     def do(self, line: str) -> None:
@@ -109,6 +113,8 @@ class Operator:
             self.motors.override(typed.line, "")
         elif typed.word:
             self._mdi(typed.line, typed.anyway)
+        if typed.word in CHOSEN or are_keys(typed.line):
+            self.choices.keep()
 
     def load(self, name: str, text: bytes) -> bool:
         """Stores a program that people call `name`, once a dry run tried it; whether it is stored. Raises Ended."""

@@ -28,6 +28,7 @@ _NOT_SWITCHED = "The player doesn't switch that on, and nothing has moved: it sa
 _NOT_AT_SPEED = "The player is held: the spindle isn't at its speed, or the door is open. yes waits again: "
 _LOOK_S = 0.02
 _HELD_LOOKS = 25  # of a player that is held by itself: some of them come before it has heeded a release
+TYPE_GO = ", and type go; anything else leaves it: "
 NO_ANSWERS = ("", "no")
 
 
@@ -171,7 +172,7 @@ class WayBack:
     def _has_tool(self, slot: int) -> bool:
         """Asks for a tool that comes on the way; whether it is in."""
         what = f"tool {slot} comes on the way: put it in" if slot else "take the tool out"
-        is_in = self.session.face.ask(f"{what}, and type go; anything else leaves it: ").strip().lower() == "go"
+        is_in = self.session.face.ask(what + TYPE_GO).strip().lower() == "go"
         if is_in:
             self.session.meter.link.go()
         return is_in

@@ -7,6 +7,7 @@ from dataclasses import dataclass
 
 from ngc_tools.operator.face import MESSAGE, REFUSED, SAID, WARNING, WHERE, UnderWay
 from ngc_tools.operator.sentences import GO_ON, LOOK, LOOK_AGAIN, LOOK_SWITCHED, SWITCHED, SWITCHED_THERE
+from ngc_tools.operator.way_back import TYPE_GO
 from ngc_tools.page.words import page_words
 from ngc_tools.player.progress import Report
 
@@ -163,6 +164,11 @@ class PageFace:
         """Whether that is asked, and somebody has to look at the machine for it."""
         asked = self.question
         return asked is not None and asked.id == question and asked.text in LOOKS
+
+    def says_go(self) -> bool:
+        """Answers a question for a tool that comes on the way; whether one is asked."""
+        asked = self.question
+        return asked is not None and asked.text.endswith(TYPE_GO.strip()) and self.answer(asked.id, "go")
 
     def answer(self, question: int, text: str) -> bool:
         """Answers a question; False if it isn't asked any more."""

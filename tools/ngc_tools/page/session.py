@@ -112,7 +112,8 @@ class PageSession:
         self.name, self.program_id, self.ended = "", 1, "it isn't begun yet"
         self.drawer = Drawer(self.aside, face.publish)
         self.never_cut = NeverCutSearch(self.aside, face)
-        self.past, self.past_at = "", ""  # how far the motors may be past the player's record, which has them there
+        # how far the motors may be past the player's record, which has them there, in words and in mm
+        self.past, self.past_mm, self.past_at = "", "", ""
         self.started = 0.0  # when the program was started in this session, in seconds since 1970
         self.is_finished = False  # it ran to its end, and nothing was begun since
         self._word = ""  # of the player's report at rest
@@ -155,7 +156,7 @@ class PageSession:
         self.drawer.begin(self._source_of(begun or self.kept.device))
         self.face.look = self._look
         self._look()
-        self.past, self.past_at = self._found_past(), self.stand.report.at if self.stand.report else ""
+        self._see_past()
         self._find_never_cut()
 
     def _follow(self, found: Device | None) -> None:
@@ -164,20 +165,23 @@ class PageSession:
         self.is_finished, self.face.message = False, ""
         self.kept.read()
         self._look()
-        self.past, self.past_at = self._found_past(), self.stand.report.at if self.stand.report else ""
+        self._see_past()
         self._find_never_cut()
 
-    def _found_past(self) -> str:
-        """How old the player's record was, and how far the motors may be past it, in words; nothing where nothing was
-        left by the last session, or that isn't known."""
-        recovery = self.stand.recovery
-        is_left = self.stand.status.half != "none" or recovery is not None and recovery["left"]
-        if not is_left or self.operator.session.report() is None:
-            return ""
+    def _see_past(self) -> None:
+        self.past, self.past_mm = self._found_past()
+        self.past_at = self.stand.report.at if self.stand.report else ""
+
+    def _found_past(self) -> tuple[str, str]:
+        """How old the player's record was, and how far the motors may be past it, in words, and in mm; nothing where
+        that isn't known."""
+        if self.operator.session.report() is None:
+            return "", ""
         try:
-            return self.operator.recover.past().words()
+            past = self.operator.recover.past()
         except (NoAnswer, OSError):
-            return ""
+            return "", ""
+        return past.words(), past.at_most_mm
 
     def _find_never_cut(self) -> None:
         """Finds what the last session left uncut. Of a file that is followed no line is lost."""
@@ -220,6 +224,8 @@ class PageSession:
     def tell(self, line: str) -> None:
         """Does a short command, and waits for it; one that may come while something runs is given then. Raises Busy."""
         word, command = line.split()[0], None
+        if word == "go" and self.face.says_go():
+            return
         with self._wake:
             if word in _ASIDES and self.is_busy:
                 self.face.give_aside(line)

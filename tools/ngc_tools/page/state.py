@@ -119,7 +119,7 @@ class Pictured:
                 "homes": self.session.homes,
                 "again": on_words(report.again) if report and report.again else "", "can": self._can(),
                 "recover": self.stand.recovery,
-                "past": self.session.past if report and report.at == self.session.past_at else ""}
+                **self._past()}
         if not report or not meter:
             return said | {"behind": None, "waits": False, "ahead": None, "percent": 100, "has_percent": False,
                            "spindle_percent": None, "held_motors": False, "behind_mm": None, "keeps": False}
@@ -147,6 +147,11 @@ class Pictured:
     def _machine_said(self) -> MoveReport | None:
         """What the player said last of moves without lines; None where it makes none, or is gone."""
         return self.operator.session.machine if self.stand.machine else None
+
+    def _past(self) -> dict:
+        """How far the motors may be past the player's record, as long as they are where it had them."""
+        is_there = self.report is not None and self.report.at == self.session.past_at
+        return {"past": self.session.past if is_there else "", "past_mm": self.session.past_mm if is_there else ""}
 
     def _moves_too(self) -> dict:
         """What it says of them."""
@@ -225,6 +230,7 @@ class Pictured:
                 "program": {"id": session.program_id, "name": session.name, "lines": self.program.count},
                 "job": session.drawer.count + session.never_cut.count,
                 "finished": session.is_finished, "started": session.started,
+                "given_back": self.operator.choices.given, "not_given_back": self.operator.choices.lost,
                 "left_at": session.opened.left_at, "broken": self.stand.is_broken, "undo": self.operator.touch.undoes,
                 "setter": None if setter_nm is None else millimetres(setter_nm),
                 "has_probe": self.operator.touch.has_probe,

@@ -1,6 +1,6 @@
 // The page: what the server says is shown, what people touch is asked. It decides nothing.
 import { Alarm } from './alarm.js';
-import { $, el, grouped, lasting, micrometres, point, text, zeroOf } from './dom.js';
+import { $, el, grouped, lasting, micrometres, mm, point, text, zeroOf } from './dom.js';
 import { Job, TRAVERSE } from './job.js';
 import { connect, get, post } from './link.js';
 import { load } from './loader.js';
@@ -130,23 +130,29 @@ function running(s) {
   if (s.recover?.left && !s.busy && s.half === 'none') return ['Recover', s.yours, takeUpLines];
   if (s.held_motors && s.behind && s.does !== 'held' && !s.busy) return ['Go on', s.yours, () => asks('release')];
   if (s.does === 'held') return ['Continue', s.yours && !s.busy, run];
-  if (s.apart.some(Boolean)) return ['Where is it?', app.isRest, whereIsIt];
+  if (s.apart.some(Boolean) || isNowhere(s)) return ['Where is it?', app.isRest, whereIsIt];
   if (s.does === 'stopped') return ['Continue', app.isRest, () => (s.typed ? goOn(s, 'Continue') : run())];
   if (s.place > 0 && !s.busy) return [`Run from ${s.line}`, app.isRest && s.known, () => goOn(s, `Run from ${s.line}`)];
   return ['Run', app.isRest && s.known && s.program.lines > 0 && !app.job?.refused, run];
 }
 
+// Nothing is half-done, and nobody told since where the machine is: as after a line was given up.
+const isNowhere = s => !s.known && s.half === 'none' && ['idle', 'stopped'].includes(s.does) && Boolean(s.motors);
+
 // The motors rest at another place than where ngc takes them to be: as after power was lost in a jog.
 function whereIsIt() {
   const s = app.state, hasHome = s.machine !== null && s.homes !== '';
+  const off = s.past_mm ? `, \u00b1 ${mm(s.past_mm)} mm` : '';
   const does = (what, body) => () => { sheet.close(); asks(what, body); };
   sheet.open('Where is the machine?', [
-    sheet.warning('Two places are told. Look at the machine: a line goes from the one that is true.'),
+    sheet.warning(`${s.known ? 'Two places are told' : 'The player alone tells a place'}. Look at the machine: a line `
+      + 'goes from the one that is true.'),
     sheet.facts([['The player counts', sheet.code(point(s.motors))],
-      ['The last line ended at', sheet.code(point(s.at))]]),
+      ['The last line ended at', s.known && sheet.code(point(s.at))]]),
+    s.past && sheet.said(`By the player\u2019s record. ${s.past}; and a motor that turned went on for a while.`),
     hasHome && sheet.said('Where steps may be lost, as after a loss of power, home it.')],
   [sheet.button('Back', sheet.close), sheet.gap('Nothing moves by the first.'),
-    sheet.button('Where the player counts', does('reference', { at: 'player' })),
+    sheet.button(`Where the player counts${off}`, does('reference', { at: 'player' })),
     hasHome ? sheet.go('Home all', does('home', { axes: '' })) : '']);
 }
 

@@ -24,7 +24,7 @@ export class Recovery {
   // `app` has the state and the job; `asks` sends a request, and gives its answer, or null, where it can be told who is
   // to hear why; `log` knows what was said.
   constructor(app, asks, log) {
-    Object.assign(this, { app, asks, log });
+    Object.assign(this, { app, asks, log, isHoming: false });
     this.isOpen = false;
     this.isLater = false;    // somebody put it off
     this.again = sheet.button('Rehearse again', () => this.rehearseStored());
@@ -56,8 +56,18 @@ export class Recovery {
     this.close();
   }
 
+  // Home comes first, and then the steps once more.
+  homeFirst() {
+    this.later();
+    sheet.ask('Home all axes?', [sheet.said('Each goes to its switch, in the order of the machine\u2019s file. Where '
+      + 'the tool stands in the work, free it by hand first. Then come these steps again.')], 'Home', async () => {
+      this.isHoming = await this.asks('home', { axes: '' }) !== null;
+    });
+  }
+
   // The session goes on meanwhile: what is shown follows it.
   show(s) {
+    if (this.isHoming && !s.busy && s.homed) Object.assign(this, { isHoming: false, isLater: false });
     if (!this.isOpen) return;
     const isOver = !s.busy && s.half === 'none' || s.moving;
     if (s.ended || isOver && !s.question) {
@@ -181,6 +191,9 @@ export class Recovery {
         ['It begins at', found?.begins?.length && sheet.code(point(found.begins))], ['Was on there', found?.comes_on],
         ['From there to the end', found?.rest_us && lasting(found.rest_us)]]),
       found ? found.refused && sheet.warning(found.refused, 'bad') : this.notRehearsed(),
+      state.given_back.length && sheet.said(`Given back, as it was: ${state.given_back.join(', ')}.`),
+      state.not_given_back.length && sheet.warning('Not given back, since the player doesn\u2019t take it: '
+        + `${state.not_given_back.join(', ')}.`, 'bad'),
       ...ways.neverCut(this.app.neverCut),
       sheet.soft('In the picture solid is done, amber was under way, pale is left. The amber segment is made again '
         + 'from its beginning.')];
@@ -196,7 +209,8 @@ export class Recovery {
   // ---- 2: where the machine stands
 
   second() {
-    const { state } = this.app, next = this.next('Next: rehearsal', () => this.rehearsal());
+    const { state } = this.app, isHomeFirst = Boolean(state.machine) && state.homed.length < AXES.length;
+    const next = (isHomeFirst ? sheet.button : sheet.go)('Next: rehearsal', () => this.rehearsal(), state.yours);
     const enable = () => { next.disabled = !(state.yours && this.sure.every(Boolean)); };
     const age = state.left_at ? ` The device was written last ${lasting(1e6 * (state.now - state.left_at))} ago.` : '';
     const past = state.past && `By the player\u2019s record. ${state.past}; and a motor that turned went on for a `
@@ -204,19 +218,22 @@ export class Recovery {
     this.put([sheet.title('Where does the machine stand now?'),
       sheet.said('Machine coordinates in mm. Look at the machine, and confirm each axis.'),
       ...AXES.map((_, i) => this.confirm(i, enable)),
-      state.machine && sheet.said('Where steps may be lost, choose Back and Later, and home the machine: Setup.'),
+      isHomeFirst && sheet.warning('Home first: a motor that turned as its power was lost may be elsewhere than the '
+        + 'record says, and the rest of the job would keep that offset.'),
       sheet.soft(`${past}If you freed the tool by hand, write where it is now.${age}`)],
-    [this.back(0), sheet.gap(), next]);
+    [this.back(0), sheet.gap(), next, isHomeFirst && sheet.go('Home first', () => this.homeFirst(), state.yours)]);
     enable();
   }
 
   confirm(i, changed) {
     const { state } = this.app, button = el('button');
+    const isRecord = () => state.past_mm && Number(this.at[i]) === Number(state.motors?.[i]);
+    const off = () => (isRecord() ? `, \u00b1 ${mm(state.past_mm)} mm` : '');
     const input = el('input', { value: this.at[i], inputMode: 'decimal', 'aria-label': `Machine ${AXES[i]}` });
     const set = isSure => {
       this.sure[i] = isSure && typedNumber(input.value) !== null;
       button.setAttribute('aria-pressed', String(this.sure[i]));
-      button.textContent = this.sure[i] ? '\u2713 It is there' : 'Confirm';
+      button.textContent = `${this.sure[i] ? '\u2713 There' : 'Confirm'}${off()}`;
       changed();
     };
     button.onclick = () => set(!this.sure[i]);
