@@ -105,7 +105,8 @@ class Browser:
         self.js("void (ngc.dead.ms = 50)")
 
     def fill(self, entry: str, text: str) -> None:
-        """Types into an entry, in the place of what stands there."""
+        """Types into an entry, in the place of what stands there, once it is one that isn't dead."""
+        self.wait(f"document.querySelector({json.dumps(entry)} + ':not(:disabled, [inert] *)') !== null")
         self.js(f"(() => {{ const entry = document.querySelector({json.dumps(entry)}); entry.focus();"
                 " entry.select(); })()")
         self.type(text)
