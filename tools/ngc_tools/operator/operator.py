@@ -91,6 +91,7 @@ class Operator:
         """Says what the session begins with. `found` is the device as it stood before `ngc` was started."""
         self.face.say(bound)
         self._open(found)
+        self.choices.give_back(self.console.status())
 
     def _open(self, found: Device | None) -> None:
         """Says what a session of `ngc` begins with, and sees how it stands."""
@@ -98,7 +99,6 @@ class Operator:
         say_opening(self.session, self.places, self.left, found)
         status = self.console.status()
         self.recover.begin(status)
-        self.choices.give_back(status)
         self.session.told = status.place
 
     def do(self, line: str) -> None:
