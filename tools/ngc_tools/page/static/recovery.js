@@ -209,7 +209,7 @@ export class Recovery {
   // ---- 2: where the machine stands
 
   second() {
-    const { state } = this.app, isHomeFirst = Boolean(state.machine) && state.homed.length < AXES.length;
+    const { state } = this.app, isHomeFirst = Boolean(state.machine) && state.homes !== '' && !state.homed;
     const next = (isHomeFirst ? sheet.button : sheet.go)('Next: rehearsal', () => this.rehearsal(), state.yours);
     const enable = () => { next.disabled = !(state.yours && this.sure.every(Boolean)); };
     const age = state.left_at ? ` The device was written last ${lasting(1e6 * (state.now - state.left_at))} ago.` : '';
