@@ -747,6 +747,9 @@ class PageWords(unittest.TestCase):
                 ("held before line 5: G1: run goes on; a line of G-code, as M5, is done and ends the hold; then home",
                  "held before line 5: G1: Continue goes on; a line of G-code, as M5, is done and ends the hold"),
                 ("line 5: G1 X1 runs: hold first", "line 5: G1 X1 runs: Hold first"),
+                ("held in segment 0 of line 5: G1 X1: run goes on; to give the block up: quit, start again, abandon. No"
+                 " other line is done before that", "held in segment 0 of line 5: G1 X1: Continue goes on, and Stop"
+                 " ends it. No other line is done before that"),
                 ("segment 0 of line 4: X2 is half-done. rehearse says what resume would do; reference player, or"
                  " reference X Y Z, then resume or abandon, and home after that",
                  "segment 0 of line 4: X2 is half-done. Recover takes it up, or gives it up"),

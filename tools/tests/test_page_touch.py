@@ -1,5 +1,5 @@
 """What a finger does on the page, and what it sees there: buttons that come to mean something else, refusals, scrolling
-on a jog button, windows that are upright, and the units of the readout."""
+on a jog button, and the units of the readout."""
 import sys
 import unittest
 from pathlib import Path
@@ -9,60 +9,12 @@ sys.path.insert(0, str(Path(__file__).resolve().parent))
 import test_page_browser  # noqa: E402
 from test_page_browser import InBrowser  # noqa: E402
 
-UPRIGHT = ((820, 1180), (390, 844), (360, 640))
 CHANGE = "G17 G21 G90 G94\nT1 M6\nG1 X5 F60\nM2\n"
-OVER = """(() => {
-    const out = [], far = document.getElementById('hold').getBoundingClientRect();
-    if (far.left < 0 || far.top < 0 || far.right > innerWidth || far.bottom > innerHeight) out.push('Hold is off');
-    if (document.documentElement.scrollWidth > innerWidth) out.push('too wide');
-    for (const one of document.querySelectorAll('button, input')) {
-        if (!one.checkVisibility() || !one.offsetWidth) continue;
-        one.scrollIntoView({ block: 'center' });
-        const box = one.getBoundingClientRect(), x = box.left + box.width / 2, y = box.top + box.height / 2;
-        const inert = one.closest('[inert]');
-        const found = document.elementFromPoint(x, y);
-        const isUnder = document.getElementById('over').checkVisibility() && one.closest('main');
-        if (!inert && !isUnder && found !== one && !one.contains(found)) {
-            out.push(`${one.id || one.textContent} under ${found && (found.id || found.className || found.tagName)}`);
-        }
-        if (!isUnder && (box.left < 0 || box.right > innerWidth + 0.5)) out.push(`${one.id || one.textContent} is out`);
-    }
-    const scale = document.getElementById('scale').getBoundingClientRect();
-    for (const one of document.querySelectorAll('.path .views button, #legend')) {
-        const box = one.getBoundingClientRect();
-        const isApart = box.right < scale.left || box.left > scale.right || box.bottom < scale.top
-            || box.top > scale.bottom;
-        if (!isApart) out.push(`the scale lies over ${one.id || one.textContent}`);
-    }
-    document.querySelector('main').scrollTop = 0;
-    return out;
-})()"""
-"""What lies over a button or an entry, or is out of the window to the side; whether Hold isn't on the screen."""
 FINGER = """void (window.finger = (kind, down) => {
     const what = { pointerType: 'touch', pointerId: 7, clientX: 100, clientY: 100 - down, button: 0, bubbles: true };
     document.querySelector('.pad .right').dispatchEvent(new PointerEvent(kind, what));
 })"""
 """What a finger does on the button X+, so far above where it came down."""
-
-
-class Upright(InBrowser):
-    """A tablet that stands upright, and a phone."""
-
-    def test_upright(self) -> None:
-        """Hold is on the screen, nothing lies over anything, and the picture's scale over no button; on a sheet too."""
-        browser = self.browser
-        for width, height in UPRIGHT:
-            browser.size(width, height)
-            for tab in ("setup", "tools", "log", "program"):
-                browser.js(f"document.querySelector('[data-tab={tab}]').click()")
-                browser.frame()
-                self.assertEqual(browser.js(OVER), [], (tab, width))
-        self.choose("G1 X1 Q2 F10\nM2\n")
-        for width, height in UPRIGHT:
-            browser.size(width, height)
-            self.assertEqual(browser.js(OVER), [], ("a sheet", width))
-        browser.size(1280, 800)
-        self.no_complaints()
 
 
 class Steady(InBrowser):

@@ -3,7 +3,6 @@ import { $, clock, el } from './dom.js';
 import { notice } from './notice.js';
 
 const MOST = 400;
-const NOTICED = ['refused', 'warning'];
 
 export class Log {
   constructor() {
@@ -12,13 +11,13 @@ export class Log {
     this.isNew = false;      // what was said before the page came isn't news
   }
 
-  // `isElsewhere` where a sheet shows what is said anyway, or another page commands.
-  show(entries, isElsewhere) {
+  // What is of the kinds `noticed` is shown where the finger was.
+  show(entries, noticed) {
     for (const entry of entries.filter(one => one.id > this.last)) {
       this.last = entry.id;
       this.entries = [...this.entries.slice(1 - MOST), entry];
       this.add(entry.kind, entry.text, new Date(entry.at * 1000));
-      if (this.isNew && !isElsewhere && NOTICED.includes(entry.kind)) notice(entry.text, entry.kind);
+      if (this.isNew && noticed.includes(entry.kind)) notice(entry.text, entry.kind);
     }
     this.isNew = true;
   }

@@ -66,7 +66,7 @@ function show(s) {
   program.follow(s.line, s.busy && !s.does_move || s.half === 'program', s.finished);
   setup.show(s, app.isIdle && !s.apart.some(Boolean));
   tools.show(s, app.isIdle, asks);
-  log.show(s.log, !s.yours || Boolean(s.question));
+  log.show(s.log, noticed(s));
   recovery.show(s);
   alarm.show(s);
   showQuestion(s);
@@ -74,6 +74,12 @@ function show(s) {
   if (isHalf && !s.alarm && !recovery.isOpen && !recovery.isLater) recovery.begin();
   if (s.half === 'none') recovery.isLater = false;
   fetchNew(s);
+}
+
+// What is seen beside the finger: a question shows by itself what was said before it, and the band an alarm.
+function noticed(s) {
+  if (!s.yours || s.question) return [];
+  return s.alarm ? ['refused'] : ['refused', 'warning'];
 }
 
 function showWords(s) {
@@ -92,7 +98,8 @@ function showControls(s) {
   $('load').disabled = !app.isIdle;
   $('quit').disabled = s.busy || !s.yours;
   $('restart').hidden = !(s.yours && !s.over && (s.ended || s.broken));
-  for (const one of [$('line'), $('do')]) one.disabled = !(app.isRest && app.isFree && !s.recover?.left);
+  $('line').disabled = !(app.isRest && app.isFree && !s.recover?.left);
+  enableDo();
   $('hold').disabled = Boolean(s.ended);
   $('stop').disabled = !(s.yours && s.can.stop);
   $('rewind').hidden = !s.place;
@@ -115,6 +122,11 @@ function showOff(s) {
   $('off').hidden = !on || s.player_gone || s.ended;
   $('off').disabled = !(s.yours && s.can.off);
   text($('off'), `${on.charAt(0).toUpperCase()}${on.slice(1)} off`);
+}
+
+// A line has to be there.
+function enableDo() {
+  $('do').disabled = $('line').disabled || !$('line').value.trim();
 }
 
 // What the large button does now.
@@ -300,13 +312,16 @@ $('restart').onclick = () => asks('restart');
 let typed = ''; // the last line, for the key that goes up
 $('line').addEventListener('keydown', event => {
   if (event.key === 'ArrowUp' && typed) $('line').value = typed;
+  enableDo();
 });
+$('line').addEventListener('input', enableDo);
 $('typed').addEventListener('submit', async event => {
   event.preventDefault();
   const line = $('line').value.trim();
   if (!line || !await asks('mdi', { line })) return;
   typed = line;
   $('line').value = '';
+  enableDo();
 });
 for (const name of ['single', 'optional', 'delete']) {
   $(name).onclick = () => asks('switch', { name, on: $(name).getAttribute('aria-checked') !== 'true' });

@@ -31,12 +31,13 @@ function clear() {
   $('toast').hidden = true;
 }
 
-// Above what was touched, or below it, and within the window; never over the band, nor over Hold.
+// Above what was touched, or below it, and within the window; never over the band, a sheet's buttons, or Hold.
 function place() {
   const toast = $('toast');
   if (toast.hidden) return;
   const from = $('state').getBoundingClientRect().bottom + GAP_PX;
-  const to = document.querySelector('footer').getBoundingClientRect().top - GAP_PX;
+  const foot = document.querySelector('#over:not([hidden]) .foot') ?? document.querySelector('footer');
+  const to = foot.getBoundingClientRect().top - GAP_PX;
   const at = touched?.isConnected ? touched.getBoundingClientRect() : $('run').getBoundingClientRect();
   const { width, height } = toast.getBoundingClientRect(), middle = (at.left + at.right) / 2;
   const above = at.top - height - GAP_PX, below = at.bottom + GAP_PX;
