@@ -580,6 +580,8 @@ class AtTerminal(InFolder):
         self.assertIn("held; up to 100 lines that are handed out are still carried out\r\n", shown)
         self.player.lazy = False
         terminal.send(b"continue\n")
+        terminal.read_to(b"holds: ")
+        terminal.send(b"yes\n")
         self.assertIn("idle; X 1.000000 Y 0.000000 Z 0.000000\r\n", terminal.read_to(PROMPT).decode())
         self.player.lazy = True
         enough = self.player.asked + 5

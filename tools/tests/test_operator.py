@@ -1219,8 +1219,13 @@ class Ends(Core):
         self.run_ngc("mdi S70 M3\ntick 9\nmdi G0 X1\ntick 4\n", "before")
         self.begin(FileLink("0.002 0 0"))
         said = self.do("reference player", "resume anyway", answers=("no",))
-        self.assertEqual(said[-2], "nothing has moved. continue goes on; after quit the block is still half-done")
+        self.assertEqual(said[-2], "nothing has moved. continue asks again; after quit the block is still half-done")
         self.assertTrue(said[-1].startswith("on: the spindle, clockwise at 70. The player switches that off"), said)
+        before = self.out()
+        self.do("continue", answers=("no",))
+        self.assertEqual((self.out(), self.status().does), (before, "held"))
+        self.do("run", answers=("yes",))
+        self.assertEqual((self.status().does, self.status().at[0]), ("idle", "1.000000"))
 
     def test_player_answers_again(self) -> None:
         """A player that was silent and answers again: `run` goes on."""

@@ -5,6 +5,7 @@ import difflib
 import os
 from collections.abc import Callable
 from contextlib import AbstractContextManager
+from dataclasses import dataclass
 
 from ngc_tools.files import read_regular
 from ngc_tools.formats.device import Device
@@ -46,6 +47,15 @@ CHOSEN = ("percent", "spindle", "single", "optional", "delete")
 PLAIN = ("abandon", "tool", "optional", "delete")
 
 
+@dataclass(slots=True)
+class TakenUp:
+    """A block that is taken up, of which nobody has agreed yet that it goes on. `is_there`: nothing has to move before
+    it. `is_switched`: its switch is handed out, and that alone."""
+
+    is_there: bool
+    is_switched: bool = False
+
+
 class Operator:
     """A person's session. It sends no tick that nobody asked for, and hides no refusal. `keys` are those of a terminal,
     by which a person jogs; None where there are none."""
@@ -70,6 +80,7 @@ class Operator:
         self.touch = Touch(self.session, self.places, self.moves, self._line_done)
         self.keys: Callable[[], AbstractContextManager[Keys]] | None = None
         self.over = False
+        self.taken_up: TakenUp | None = None
         self._doings: dict[str, Callable[[Typed], None]] = {
             "load": self._load, "run": self._run, "start": self._start, "continue": self._continue,
             "where": self._where, "status": self._status, "reference": self._reference, "resume": self._resume,
@@ -98,6 +109,7 @@ class Operator:
         self.session.program = Program(self.stored().program)
         say_opening(self.session, self.places, self.left, found)
         status = self.console.status()
+        self.taken_up = None
         self.recover.begin(status)
         self.session.told = status.place
 
@@ -171,6 +183,9 @@ class Operator:
     def _go_on(self, command: str, typed: Typed) -> None:
         """Starts the program, or goes on with what waits."""
         status = self.console.status()
+        if self.taken_up and status.half != "none" and status.does == "held":
+            self._look_again()
+            return
         if not typed.anyway and not comes_on_agreed(self.session):
             return
         if self.motors.are_held and self._let_go(command, status):
@@ -381,9 +396,22 @@ class Operator:
         self.left.forget()
         said = TAKEN_UP_THERE if is_there else TAKEN_UP
         self.face.say(said.format(half=self.session.half(status), place=place(status)), WARNING)
-        if not self._switched():
+        self.taken_up = TakenUp(is_there)
+        self._look_and_go(self.taken_up)
+
+    def _look_again(self) -> None:
+        """Nobody has agreed yet since a block was taken up, and nothing but its switch was handed out: asks again."""
+        if self.motors.are_held:
+            self.motors.release()
+        if self.taken_up and not refused(self.session, self.console.ask("continue")[0], "continue"):
+            self._look_and_go(self.taken_up)
+
+    def _look_and_go(self, taken_up: TakenUp) -> None:
+        """Makes the switch of a block that is taken up, and goes on once somebody has looked."""
+        if not self._switched(taken_up):
             self._hold()
-        elif self.session.agrees(self._last_look(is_there)):
+        elif self.session.agrees(self._last_look(taken_up.is_there)):
+            self.taken_up = None
             self._run_on()
         else:
             self._hold()
@@ -399,11 +427,15 @@ class Operator:
             return GO_ON
         return SWITCHED_THERE if is_there else SWITCHED
 
-    def _switched(self) -> bool:
-        """Makes the switch of an approach; whether the motors' side has done it too."""
-        if not self.work.await_motors() or not self.work.room():
-            return False
-        return not any(map(self.session.is_refusal, self.console.ask("tick 2"))) and self.work.await_motors()
+    def _switched(self, taken_up: TakenUp) -> bool:
+        """Makes the switch of an approach, once; whether the motors' side has done it too."""
+        if not taken_up.is_switched:
+            if not self.work.await_motors() or not self.work.room():
+                return False
+            if any(map(self.session.is_refusal, self.console.ask("tick 2"))):
+                return False
+            taken_up.is_switched = True
+        return self.work.await_motors()
 
     def _rehearse(self, typed: Typed) -> None:
         rehearse(self.session, typed.rest.split())

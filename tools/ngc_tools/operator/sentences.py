@@ -69,7 +69,7 @@ yes goes on, anything else holds: """
 GO_ON = """\
 The motors are where the segment begins, and nothing was switched on the way.
 yes goes on with the cut, anything else holds: """
-NOT_MOVED = "nothing has moved. continue goes on; after quit the block is still half-done"
+NOT_MOVED = "nothing has moved. continue asks again; after quit the block is still half-done"
 
 
 def explained(refusal: str, cause: str = "") -> str:

@@ -299,7 +299,8 @@ export class Recovery {
 
   held() {
     this.put([sheet.title('Held'), sheet.warning('Spindle and coolant stay as they are: stop them yourself.'),
-      sheet.said('Continue goes on at once, without asking again. After Quit the line is still half-done.')],
+      sheet.said('Continue asks you to look once more, where nothing was cut yet. After Quit the line is still '
+        + 'half-done.')],
     [sheet.button('Close', () => this.later()), sheet.gap(), this.next('Continue', () => this.asks('run'))]);
   }
 
