@@ -237,6 +237,10 @@ class Day(Walk):
         self.assertIn("^^", said)
         self.assertIn("Mend: ", said)
         self.browser.press("Back", "#over button")
+        Path("part.ngc").write_text("G21 G90 G91.1\nM2\n")
+        self.browser.choose_file(self.folder / "part.ngc")
+        self.press("Adapt and load", "#over button")
+        self.wait("s.program.lines === 2 && !s.busy")
         self.load(DAY)
         self.done.append("Load")
         for kind, shown in (("3-D", "turn"), ("Top", "shift")):

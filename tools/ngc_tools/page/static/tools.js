@@ -11,8 +11,8 @@ export function show(s, isIdle, asks) {
   const lengths = [...s.tools, ''].slice(0, MOST_SLOTS);
   const rows = lengths.map((length, i) => row(i + 1, length, s.slot === i + 1, isIdle, asks));
   $('tab-tools').replaceChildren(
-    el('p', { class: 'hint' }, 'Lengths in mm. A new length counts from the next G43 on. Slots that are passed over get '
-      + '0, as of a tool that isn\u2019t measured.'), ...rows);
+    el('p', { class: 'hint' }, 'Lengths in mm. A new length counts from the next G43 on. Slots that are passed over '
+      + 'get 0, as of a tool that isn\u2019t measured.'), ...rows);
 }
 
 function row(slot, length, isIn, isIdle, asks) {
