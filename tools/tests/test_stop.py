@@ -333,7 +333,7 @@ class OfConsole(Moving):
         typed("load part.ngc")
         cuts()
         said = typed("stop", "half-done: ")
-        self.assertIn("stopped in segment 0 of line 3: G1 X4 F60. Given up,", said)
+        self.assertIn("Stopped in segment 0 of line 3: G1 X4 F60. Given up,", said)
         self.assertEqual((link.ask().outputs.spindle, self.world.get(IS_ON)), (0, 0))
         said = typed("yes")
         self.assertIn("given up: run begins that line again, from where the machine stands\n", said)

@@ -17,12 +17,12 @@ _OFF_S = 2.0  # how long a player may take for that, but for a spindle that is b
 _LOOKS_S = 0.02
 _FREE_S = 0.3  # after so long motors that are let go and still say that they are held are held by something else
 WITHIN = """\
-stopped in {half}. Given up, what was cut of it stays, and run begins it again, whole. Kept, recover or resume goes on
-with it.
+Stopped in {half}. Given up, what was cut of it stays, and run begins it again, whole. Kept, recover or resume goes on
+with it. Is it given up?
 yes gives it up, anything else keeps it half-done: """
 LINES = """\
-stopped with {count} in hand, which no motor carried out. Dropped, nothing makes them any more. Kept, recover goes on
-along them, where OUT is a file.
+Stopped with {count} in hand, which no motor carried out. Dropped, nothing makes them any more. Kept, recover goes on
+along them, where OUT is a file. Are they dropped?
 yes drops them, anything else keeps them: """
 _AT_MACHINE = "switch spindle and coolant off at the machine"
 _MOVES = "spindle and coolant go off while the motors stand: hold first"
@@ -134,7 +134,7 @@ class Stopping:
 
     def _let_go(self, report: Report | None) -> Report | None:
         """Held motors with nothing in hand are let go, so that they carry such lines out; an open door holds on."""
-        if report is None or not report.is_held or not self.motors.are_free():
+        if report is None or not report.is_held or report.behind or not self.motors.are_free():
             return report
         until = time.monotonic() + _FREE_S
         while report and report.is_held and time.monotonic() < until:

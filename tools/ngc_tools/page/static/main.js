@@ -102,8 +102,7 @@ function showControls(s) {
   enableDo();
   $('hold').disabled = Boolean(s.ended);
   $('stop').disabled = !(s.yours && s.can.stop);
-  $('rewind').hidden = !s.place;
-  $('rewind').disabled = !(s.yours && s.can.rewind);
+  $('rewind').hidden = !(s.yours && s.can.rewind);
   showOff(s);
   for (const name of ['single', 'optional', 'delete']) {
     $(name).setAttribute('aria-checked', String(Boolean(s[name])));
