@@ -223,6 +223,7 @@ class SocketMachine:
         self.listener = Listener("progress")
         self.out = out
         self.others: list[bytes] = []
+        self.received, self.is_held = 0, False  # so many lines are in hand
         self.over = threading.Event()
         self.thread = threading.Thread(target=self._work)
         self.thread.start()
@@ -236,7 +237,8 @@ class SocketMachine:
         words = question.decode().split()
         if words[0] == "progress":
             at = str(Position(STEP_NM, self.axes.at_nm))
-            answer = Report(0, 0, False, at, self.out, wants=self.wants, word=self.axes.word).text()
+            answer = Report(0, self.received, False, at, self.out, is_held=self.is_held, wants=self.wants,
+                            word=self.axes.word).text()
         elif words[0] == "machine":
             answer = _said(self.axes.ask())
         elif words[0] in ("home", "jog", "seek", "stop"):

@@ -2,6 +2,7 @@
 on a jog button, and the units of the readout."""
 import sys
 import unittest
+from dataclasses import replace
 from pathlib import Path
 
 sys.path.insert(0, str(Path(__file__).resolve().parent))
@@ -119,6 +120,30 @@ class Fingers(test_page_browser.Moves):
         browser.press("10", ".jog .choices button")
         browser.js("finger('pointerdown', 0), finger('pointermove', 3), finger('pointerup', 3)")
         self.wait_for("it goes so far", lambda: jogs()[-1].endswith("X+ 600 for 10"))
+
+    def test_door(self) -> None:
+        """With the door open nothing is enabled that moves, and it is said why; motors that it held with lines in hand
+        go on by `Go on`, once it is closed."""
+        browser, axes = self.browser, self.machine.axes
+        axes.stands = axes.machine = replace(axes.stands, on=("door",))
+        self.machine.is_held = True
+        browser.wait("ngc.state.word === 'Door open'")
+        moves = "[...document.querySelectorAll('.pad button, .four button, .five button')].filter(one => !one.disabled)"
+        run = "[document.getElementById('run').textContent, document.getElementById('run').disabled]"
+        self.assertEqual(browser.js(run), ["Close the door", True])
+        self.assertEqual(browser.js(f"{moves}.map(one => one.textContent)"), ["Set X", "Set Y", "Set Z", "Set XY"])
+        self.assertIn("The door is open", browser.js("document.querySelector('#tab-setup .why').textContent"))
+        self.look("an open door")
+        self.machine.received = 50
+        browser.wait("ngc.state.word === 'Held' && ngc.state.detail === 'The door is open. Close it; then Go on'")
+        axes.stands = axes.machine = replace(axes.stands, on=())
+        browser.wait("ngc.state.detail === 'The door was open, and is closed now. Go on carries on'")
+        self.assertEqual(self.machine.others.count(b"release"), 0)
+        browser.press("Go on", "#run")
+        self.wait_for("it is let go on", lambda: b"release" in self.machine.others)
+        self.machine.received, self.machine.is_held = 0, False
+        browser.wait("ngc.state.word === 'Idle'")
+        self.no_complaints()
 
     def test_inches(self) -> None:
         """The readout has its unit; inches where they are chosen, also once the page is opened again."""
