@@ -17,7 +17,8 @@ bool off_heed(struct play *play);
  * switch_on. */
 enum end off_is_over(struct play *play, const struct line *line, bool *is_back);
 
-/* The pins get again what a person switched off, amid a wait for the spindle; false, with the cause, where they fail. */
+/* The pins get again what a person switched off, amid a wait for the spindle; false, with the cause, where they
+ * fail. */
 bool off_ends_in_wait(struct play *play);
 
 /* What a person switched off stays off. */

@@ -152,14 +152,46 @@ static void begin_screws(struct player *player) {
     has_next = false;
 }
 
+/* Makes the next move that is known, which lasts so long; one that isn't to be done is counted. */
+static enum end make_next(struct play *play, uint64_t ns, uint64_t ramp) {
+    const struct move *move = &ahead[first_ahead % PACE_ROOM];
+    play->is_moving = pace.square != 0;
+    atomic_store(&play->player->stands_held, false);
+    first_ahead++;
+    if (link_is_there()) {
+        link_give(move, ns, ramp, !play->is_moving);
+        return AT_OUTS_END;
+    }
+    return make_move(play, move, ns);
+}
+
+/* Makes the next move that is known, or waits a little at rest, where it is to rest. */
+static enum end go_on(struct play *play) {
+    const struct move *move = &ahead[first_ahead % PACE_ROOM];
+    bool is_held = is_rest_asked(play) || anew_is_wanted(play->player) || atomic_load(&play->player->is_held);
+    uint64_t wanted = is_held ? 0 : pace_wanted(&pace, (unsigned)atomic_load(&play->player->percent));
+    uint64_t ramp = pace.lines[pace.first % PACE_ROOM].ramp;
+    uint64_t ns = 0;
+    bool is_back = false;
+    enum end end = move->is_done && wanted != 0 ? off_is_over(play, &move->line, &is_back) : AT_OUTS_END;
+    if (end != AT_OUTS_END) {
+        return end;
+    }
+    if (move->is_done && !pace_next(&pace, is_back ? 0 : wanted, &ns)) {
+        play->is_moving = false;
+        return rest(play) ? AT_OUTS_END : STOPPED;
+    }
+    return make_next(play, ns, ramp);
+}
+
 static enum end go_paced(struct play *play) {
     bool is_all = false;
     struct cause what;
+    enum end end = AT_OUTS_END;
     pace_begin(&pace, &play->machine.limits);
     first_ahead = end_ahead = 0;
     begin_screws(play->player);
     while (!is_all || first_ahead < end_ahead) {
-        uint64_t ns = 0;
         if (!is_ready(play)) {
             return STOPPED;
         }
@@ -169,32 +201,9 @@ static enum end go_paced(struct play *play) {
         if (!play->is_moving) {
             schedule_pause(&play->schedule); /* as long as it took to read */
         }
-        const struct move *move = &ahead[first_ahead % PACE_ROOM];
-        bool is_held = is_rest_asked(play) || anew_is_wanted(play->player) || atomic_load(&play->player->is_held);
-        uint64_t ramp = pace.lines[pace.first % PACE_ROOM].ramp;
-        uint64_t wanted = is_held ? 0 : pace_wanted(&pace, (unsigned)atomic_load(&play->player->percent));
-        bool is_next = first_ahead < end_ahead && move->is_done;
-        bool is_back = false;
-        enum end end = is_next && wanted != 0 ? off_is_over(play, &move->line, &is_back) : AT_OUTS_END;
+        end = first_ahead < end_ahead ? go_on(play) : AT_OUTS_END;
         if (end != AT_OUTS_END) {
             return end;
-        }
-        if (is_next && !pace_next(&pace, is_back ? 0 : wanted, &ns)) {
-            play->is_moving = false;
-            if (!rest(play)) {
-                return STOPPED;
-            }
-            continue;
-        }
-        if (first_ahead < end_ahead) {
-            play->is_moving = pace.square != 0;
-            atomic_store(&play->player->stands_held, false);
-            first_ahead++;
-            if (link_is_there()) {
-                link_give(move, ns, ramp, !play->is_moving);
-            } else if (make_move(play, move, ns) == FAILED) {
-                return FAILED;
-            }
         }
     }
     play->is_moving = false;

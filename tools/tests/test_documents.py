@@ -599,8 +599,8 @@ class Machine(Documents):
         command = "\n".join(page).rstrip()
         Path("player.toml").write_text(blocks(chapters("MACHINE.md")["Motors"])[0])
         self.shell(f"{make}; {fresh}")
-        served = subprocess.Popen(["bash", "-c", f"exec {command} --listen 127.0.0.1:0"], env=self.environment, text=True,
-                                  stdout=subprocess.PIPE, stderr=subprocess.PIPE)
+        served = subprocess.Popen(["bash", "-c", f"exec {command} --listen 127.0.0.1:0"], env=self.environment,
+                                  text=True, stdout=subprocess.PIPE, stderr=subprocess.PIPE)
         self.addCleanup(self._end, served)
         self.assertRegex(served.stdout.readline(), r"^http://127\.0\.0\.1:\d+/[\w-]+/\n$")
         served.send_signal(signal.SIGINT)

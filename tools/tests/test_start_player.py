@@ -62,7 +62,7 @@ class Started(InFolder):
         server = self.served(command)
         out, wrong = server.communicate(timeout=PATIENCE_S)
         self.assertEqual((server.returncode, out), (2, ""))
-        self.assertTrue(wrong.splitlines()[-1].startswith("ngc-page: the player ended: ngc-player: other.toml: "), wrong)
+        self.assertIn("\nngc-page: the player ended: ngc-player: other.toml: ", "\n" + wrong)
 
     def test_words(self) -> None:
         """What is no command, what can't be started, and a command without a socket."""

@@ -233,7 +233,7 @@ class OverFile(Stopping):
         self.assertIn("by legs", state["question"]["text"])
 
     def test_limit_and_back(self) -> None:
-        """After a limit, with nothing of the line left to do by hand: the line is given up once the machine is homed."""
+        """After a limit: the cause is named, and the line is half-done once the machine is homed."""
         self.world.switch(4, X_HIGH, 0, 1, 2_000)
         self.load(self.seen, "G21 G90\nM3 S1000\nG1 X4 F600\nM2\n")
         self.seen.post("run")

@@ -199,8 +199,8 @@ class Player(Goes):
                 self._begin_anew()
 
     def _begin_anew(self) -> None:
-        """Begins the next session, at rest: spindle and coolant are off, what is in hand or stands in OUT is let go, and
-        of a file nothing is carried out before a console says so. Raises OSError if the pins fail."""
+        """Begins the next session, at rest: spindle and coolant are off, what is in hand or stands in OUT is let go,
+        and of a file nothing is carried out before a console says so. Raises OSError if the pins fail."""
         if self.is_on():
             self._turn_off()
         with self._lock:
@@ -214,8 +214,8 @@ class Player(Goes):
         self.schedule.pause()
 
     def _stands(self) -> bool:
-        """Whether the motors stand, and go on only once somebody says so, a line comes, or the spindle has its time. The
-        lock is held."""
+        """Whether the motors stand, and go on only once somebody says so, a line comes, or the spindle has its time.
+        The lock is held."""
         has_nothing = self.errand is None and self.source.received == self.lines
         return has_nothing or self._stands_held or self._tool is not None or self._turns
 

@@ -55,7 +55,8 @@ export class Setup {
     this.why.hidden = !this.why.textContent;
     text(this.homed, s.homed ? `homed: ${[...s.homed].join(' ')}` : 'not homed');
     text(this.system, systemName(s.system));
-    this.home.forEach((one, i) => { one.disabled = !isOff || s.busy || i > 0 && !(s.homes ?? 'XYZ').includes(AXES[i - 1]); });
+    const isHome = i => i === 0 || (s.homes ?? 'XYZ').includes(AXES[i - 1]);
+    this.home.forEach((one, i) => { one.disabled = !isOff || s.busy || !isHome(i); });
     this.jog.enable(isFree && hasMoves && !s.alarm && (!s.busy || isJogging));
     for (const one of [...this.seeks, this.within]) one.disabled = !isOff || s.busy || Boolean(s.alarm);
     for (const one of [...this.zero, this.value, this.byProbe]) one.disabled = !isIdle;
