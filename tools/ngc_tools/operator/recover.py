@@ -3,7 +3,7 @@
 The player moves them, since it has the machine's words, its pins and its record, and a second one couldn't have them
 too. It is sent by a datagram that names bytes of OUT, and takes that only at rest with nothing in hand; where they lead
 it reads itself. So no word of a console can make it leave the lines that were handed out, but for legs, which go up
-first."""
+first, and the straight line of `resume`, which goes at a feed."""
 from ngc_tools.formats.device import Device
 from ngc_tools.formats.position import Position, millimetres, nanometres
 from ngc_tools.job.figures import millimetres as rounded
@@ -47,8 +47,8 @@ What was handed out and not carried out is never cut then, and is cut off OUT. y
 
 class Recover:
     """What `recover` and `drop` do, and `resume` before its block. `found` is what the session found of OUT, a file;
-    None where OUT is none. `way` brings the motors.
-    `most_percent` is the most that an override may be, by the machine's file; without one what any file may say.
+    None where OUT is none. `way` brings the motors. `most_percent` is the most that an override may be, by the
+    machine's file; without one what any file may say.
     `confirmed_nm` is where a person, who was told of `past`, has confirmed that the motors stand: by the record at that
     very place they aren't asked about again, once."""
 
