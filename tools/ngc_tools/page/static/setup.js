@@ -145,7 +145,7 @@ function whyNot(s) {
   if (s.alarm) return 'After the alarm home comes first.';
   if (s.does === 'held') return 'A line is held: Continue or Stop comes before the axes are jogged or homed.';
   if (s.held_motors && s.behind) return 'The motors are held with lines in hand: Go on carries them out first.';
-  return isOn(s) ? 'Spindle or coolant is on: home and the probe want both off. M5 M9 does it.' : '';
+  return isOn(s) ? 'Spindle or coolant is on: home and the probe want both off.' : '';
 }
 
 function part(title, beside, ...content) {
