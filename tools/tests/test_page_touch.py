@@ -114,12 +114,13 @@ class Fingers(test_page_browser.Moves):
         self.assertEqual(jogs(), [])
         self.assertEqual(browser.js("getComputedStyle(document.querySelector('.pad .right')).touchAction"), "pan-y")
         browser.js("finger('pointerdown', 0)")
-        self.wait_for("it goes on while the finger rests", lambda: self.jogs() > 3)
+        self.wait_for("it jogs while the finger rests", lambda: self.jogs() > 0)
         browser.js("finger('pointerup', 0)")
-        browser.wait("!ngc.state.busy && ngc.state.at[0] > 0")
+        browser.wait("!ngc.state.busy")
         browser.press("10", ".jog .choices button")
         browser.js("finger('pointerdown', 0), finger('pointermove', 3), finger('pointerup', 3)")
         self.wait_for("it goes so far", lambda: jogs()[-1].endswith("X+ 600 for 10"))
+        self.assertFalse(any("for 10" in word for word in jogs()[:-1]))
 
     def test_door(self) -> None:
         """With the door open nothing is enabled that moves, and it is said why; motors that it held with lines in hand
