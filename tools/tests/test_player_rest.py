@@ -9,6 +9,7 @@ sys.path.insert(0, str(Path(__file__).resolve().parent))
 
 from player_support import InC, PlayerTest, Sanitized, record  # noqa: E402
 from session_support import PATIENCE_S  # noqa: E402
+from test_sink_player import OverSink  # noqa: E402
 
 from ngc_tools.formats.out import OFF, Switch  # noqa: E402
 from ngc_tools.player.progress import Link  # noqa: E402
@@ -166,6 +167,47 @@ class Rest:
         self.assertEqual(link.ask().outputs, OFF)
         os.close(pipe)
         self.assertEqual(child.wait(PATIENCE_S), 1)
+
+
+class COverSink(InC, OverSink):
+    """tools/player over a step sink."""
+
+    def test_off_and_anew(self) -> None:
+        """Held amid pulses the sink's outputs go off, come on again before the next pulse, and are off for the next
+        session; each pulse that is counted is made once."""
+        sink = self.serve()
+        Path("out").write_text(ON + "P 1 0 0 500\n" * 6000)
+        child = self.begin("--follow", "--progress", "progress", *self.words())
+        link = self.linked()
+        link.synced(os.path.getsize("out"))
+        self.wait_for("it goes", lambda: link.ask().carried > 100)
+        link.hold()
+        self.wait_for("it is held", lambda: link.ask().is_held)
+        link.off()
+        self.wait_for("it is off", lambda: link.ask().outputs == IS_OFF)
+        held = link.ask()
+        self.assertEqual(held.again, WAS)
+        link.release()
+        self.wait_for("it goes on", lambda: link.ask().carried > held.carried + 100)
+        self.assertEqual((link.ask().outputs, link.ask().again), (WAS, None))
+        link.anew()
+        self.wait_for("nothing is in hand", lambda: link.ask().behind == 0)
+        self.assertEqual(link.ask().outputs, IS_OFF)
+        self.wait_for("the record has it", lambda: link.kept()[0] == link.ask().carried)
+        carried, size = link.kept()
+        os.truncate("out", size)
+        with open("out", "ab") as out:
+            out.write(b"P 0 1 0 500\n")
+        link.synced(os.path.getsize("out"))
+        self.wait_for("the next session's line comes", lambda: link.ask().carried == carried + 1)
+        link.end()
+        self.assertEqual(child.wait(PATIENCE_S), 0, child.stderr.read())
+        made = sink.end()
+        self.check_made(made)
+        spindle = [each.outputs[0] for each in made if each.outputs]
+        before = [sum(any(other.step or ()) for other in made[:at]) for at, each in enumerate(made) if each.outputs]
+        self.assertEqual([turns for turns, last in zip(spindle, [0, *spindle]) if turns != last], [1, 0, 1, 0])
+        self.assertIn(held.carried - 1, before)
 
 
 class Python(Rest, PlayerTest):
