@@ -56,10 +56,8 @@ def dangers(lines: Lines, run: Run, under: Conditions) -> list[Danger]:
     found = [*(Danger(0, "device", note) for note in notes), *_too_long(lines, under.is_large),
              *_homes(lines, printed), *_dwells(printed), *_full_turns(acts),
              *heights.heights(lines, acts, under.is_placed), *heights.first_descent(lines, acts),
-             *cutting.spindle(acts), *cutting.lengths(lines, acts, under.tools_nm),
-             *cutting.unmeasured(lines, acts, under.tools_nm),
+             *cutting.spindle(acts), *cutting.lengths(lines, acts, under.tools_nm), *_by_slots(lines, acts, under),
              *(() if under.asks_tools else cutting.tool_changes(acts)),
-             *(cutting.unset(lines, acts, under.tools_nm) if under.beginning.image is not None else ()),
              *_other_lengths(lines, acts, under),
              *(cutting.capped(acts, under.settings) if under.settings else ()),
              *(cutting.too_fast_to_stop(acts, under.motion) if under.motion else ()),
@@ -88,6 +86,13 @@ def _other_lengths(lines: Lines, acts: list[Act], under: Conditions) -> list[Dan
     return [Danger(0, "slots", f"slot {slot} has {number(on, 6)} mm on the device, and {number(other, 6)} in the"
                    " settings: a dry run without --device is as much too high or too deep")
             for slot, on, other in both if on != other]
+
+
+def _by_slots(lines: Lines, acts: list[Act], under: Conditions) -> Iterator[Danger]:
+    """Which lengths count that the program doesn't set, or that weren't measured: a device alone has them."""
+    if under.beginning.image is not None:
+        yield from cutting.unset(lines, acts, under.tools_nm)
+        yield from cutting.unmeasured(lines, acts, under.tools_nm)
 
 
 def _homes(lines: Lines, printed: Printed) -> list[Danger]:
