@@ -1,7 +1,7 @@
 #!/usr/bin/env python3
 """Walks the operator's page by chance, and looks at each step whether what it says is so.
 
-    NGC=PATH tools/tests/walk.py [--seed N] [--seconds S] [--steps N] [--again FILE] [--keep-on]
+    NGC=PATH tools/tests/walk.py [--seed N] [--seconds S] [--steps N] [--again FILE] [--keep-on] [--tell]
 
 A person's touches at the buttons that a page in Chromium shows, at moments by chance: jobs, jogs, typed lines, holds,
 reloads, more pages; and the door, the emergency stop, limits, kills of the player, of the page's server, of `ngc`, and
@@ -25,7 +25,7 @@ from pathlib import Path
 sys.path.insert(0, str(Path(__file__).resolve().parent))
 
 from browser_support import Failed, chromium  # noqa: E402
-from session_support import memory  # noqa: E402
+from session_support import PATIENCE_S, memory  # noqa: E402
 from walk_machine import Bench, Lateness  # noqa: E402
 from walk_page import Seen, Tabs  # noqa: E402
 from walk_rules import Judge, Truth, Wrong, changes, number  # noqa: E402
@@ -72,6 +72,7 @@ _AXIS = re.compile(r"^([XYZ])([+\u2212]?)( @.*)?$")
 class Covered:
     """What walks did."""
 
+    tells: bool = False
     walks: int = 0
     steps: Counter = field(default_factory=Counter)
     buttons: Counter = field(default_factory=Counter)
@@ -120,8 +121,12 @@ class Walk:
         """Does a step, and looks at what comes of it. Raises Wrong."""
         self.done.append(step)
         self.covered.steps[step[0]] += 1
+        begun = time.monotonic()
         getattr(self, f"_do_{step[0]}")(*step[1:])
+        did = time.monotonic()
         self.settle()
+        if self.covered.tells:
+            print(f"  {step} {did - begun:.2f} + {time.monotonic() - did:.2f} s; {self.seen and self.seen.word}", flush=True)
         if self.seen is not None:
             self.covered.words[self.seen.word] += 1
 
@@ -161,9 +166,36 @@ class Walk:
         self.truth.touched_at = time.monotonic()
         self.tabs.down(*found)
         self.tabs.up(*found)
+        if text == "Confirm":
+            self._confirms(before, button)
         if not before.buttons[button]["chosen"]:
             self._answered(text, before.buttons[button]["says"], before)
+        self._told_place(self.tabs.posts(before.posts))
         return True
+
+    def _confirms(self, seen: Seen, button: int) -> None:
+        """What is confirmed is at most as far off as the page says."""
+        confirms = [i for i, one in enumerate(seen.buttons) if one["says"].startswith(("Confirm", "\u2713"))]
+        axis = confirms.index(button)
+        entries = [one for one in seen.entries if one["label"].startswith("Machine ")]
+        if len(confirms) != 3 or len(entries) != 3 or (value := number(entries[axis]["value"])) is None:
+            return
+        off_mm = abs(value - self.bench.mill.at_mm[axis])
+        said_mm = max(map(float, re.findall(r"(\d+\.\d+) mm", seen.sheet)), default=0.0)
+        if off_mm > said_mm + 0.01:
+            raise Wrong("confirmed further off", f"the place of {'XYZ'[axis]} is {off_mm:.3f} mm off, told is {said_mm}")
+
+    def _told_place(self, posts: list[dict]) -> None:
+        """Where the person told that the machine stands: what is shown is off by as much from then on."""
+        truth, at_mm = self.truth, self.bench.mill.at_mm
+        for post in posts:
+            at = json.loads(post["body"] or "{}").get("at") if post["what"] in ("reference", "recover", "stands") else {}
+            if isinstance(at, list):
+                at = dict(zip("XYZ", at))
+            if isinstance(at, dict) and at:
+                told = [float(at[axis]) - at_mm["XYZ".index(axis)] if axis in at else truth.offset["XYZ".index(axis)]
+                        for axis in "XYZ"]
+                truth.offset, truth.is_place_known, truth.is_zero_asked = (told[0], told[1], told[2]), True, True
 
     def _answered(self, text: str, says: str, before: Seen) -> None:
         """Something has to come of a touch of an enabled button, and a refusal has to be seen."""
@@ -178,9 +210,13 @@ class Walk:
             if not any(click["text"].strip() == says for click in clicks):
                 return  # it was made anew under the finger
             said, posts = list(changes(before, after)), self.tabs.posts(before.posts)
+            if any(post["ok"] is False and _is_told(_why(post), after) for post in posts):
+                return
             if said or after.logs > before.logs and after.log[0][0] == "said":
                 break
-            if time.monotonic() > until + self.judge.slack_s(until - ANSWER_S):
+            patience_s = PATIENCE_S if any(post["ok"] is None for post in posts) else 0
+            if time.monotonic() > until + patience_s + self.judge.slack_s(until - ANSWER_S):
+                self._refused(text, before, after)
                 raise Wrong("nothing comes of it", f"{text}, at {before.word}: {before.detail}; posted {posts}")
             time.sleep(0.03)
         self._refused(text, before, after)
@@ -297,6 +333,8 @@ class Walk:
         self.seen = seen = self.tabs.see()
         entry = next((i for i, one in enumerate(seen.entries) if one["label"] == label), None)
         place = self.tabs.find("entries", entry) if entry is not None else None
+        if label.startswith("Machine ") and label[-1] in "XYZ":  # somebody measures it
+            value = f"{self.bench.mill.at_mm['XYZ'.index(label[-1])]:.3f}"
         if place is not None:
             self.tabs.js(f"(() => {{ const one = walked.entries[{entry}]; one.focus(); one.select(); }})()")
             self.tabs.type(value)
@@ -410,6 +448,14 @@ class Walk:
         while time.monotonic() < until:
             self.settle(0.3)
             time.sleep(0.05)
+
+
+def _why(post: dict) -> str:
+    """Why what was posted isn't done."""
+    try:
+        return str(json.loads(post["said"]).get("why", ""))
+    except ValueError:
+        return str(post["said"])
 
 
 def _text(seen: Seen, button: int) -> str:
@@ -568,8 +614,9 @@ def main(words: list[str]) -> int:
     parser.add_argument("--steps", type=int, default=STEPS, help=f"of each walk ({STEPS})")
     parser.add_argument("--again", metavar="FILE", help="does the steps that a failure printed, a line each")
     parser.add_argument("--keep-on", action="store_true", help="walks on after a failure, without shortening it")
+    parser.add_argument("--tell", action="store_true", help="tells each step, and how long it took")
     given = parser.parse_args(words)
-    tabs, late, covered = Tabs(chromium() or "chromium"), Lateness(), Covered()
+    tabs, late, covered = Tabs(chromium() or "chromium"), Lateness(), Covered(given.tell)
     try:
         return _walk_on(given, tabs, late, covered)
     finally:

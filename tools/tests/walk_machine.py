@@ -231,6 +231,7 @@ class Bench:
         self.key = "walk-by-chance-is-no-secret"
         self.address = f"http://127.0.0.1:{self.port}/{self.key}/"
         self.program, self.complaints = player_program(), open("complaints", "wb")
+        self.serves = TOOLS / "ngc-page"
 
     def start_player(self) -> None:
         """Starts the player, and waits until it listens."""
@@ -247,9 +248,11 @@ class Bench:
 
     def start_server(self) -> None:
         """Starts the page's server, and waits until it serves."""
+        if self.server is not None:
+            self.server.stdout.close()
         words = ["mill.dev", "first.toml", "out", "--player", "progress", "--machine", "motion.toml", "--ngc", ngc(),
                  "--listen", f"127.0.0.1:{self.port}"]
-        self.server = subprocess.Popen([sys.executable, TOOLS / "ngc-page", *words], stdin=subprocess.DEVNULL,
+        self.server = subprocess.Popen([sys.executable, self.serves, *words], stdin=subprocess.DEVNULL,
                                        stdout=subprocess.PIPE, stderr=self.complaints, text=True,
                                        env=os.environ | {"NGC_PAGE_KEY": self.key})
         if self.server.stdout.readline().strip() != self.address:
@@ -305,6 +308,8 @@ class Bench:
     def close(self) -> None:
         """Ends all."""
         self.kill("player", "server", "ngc")
+        if self.server is not None:
+            self.server.stdout.close()
         self.mill.close()
         self.complaints.close()
 

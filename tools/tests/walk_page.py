@@ -36,7 +36,7 @@ _SEE = """(() => {
     const over = shown('over');
     const buttons = [...document.querySelectorAll('button, summary')].filter(one => isSeen(one) && !one.disabled);
     const isFree = one => over.hidden || over.contains(one) || !one.closest('main');
-    const entries = [...document.querySelectorAll('input')].filter(one => isSeen(one) && !one.disabled && isFree(one));
+    const entries = [...document.querySelectorAll('input:not([type=file])')].filter(one => isSeen(one) && !one.disabled && isFree(one));
     window.walked ??= { posts: [], clicks: [] };
     window.walked.buttons = buttons.filter(isFree);
     window.walked.entries = entries;
@@ -45,7 +45,7 @@ _SEE = """(() => {
         || one.getAttribute('aria-pressed') === 'true' && !one.closest('.look, .confirm')
         || one.closest('.override') && one.textContent.trim().endsWith(' 100 %');
     const named = one => ({ text: one.textContent.trim() + (group(one) && ` @${group(one)}`), id: one.id,
-        chosen: isChosen(one) || ['fit', 'view-top', 'view-solid'].includes(one.id), says: one.textContent.trim(), part: one.closest('.tab, nav, header, footer, '
+        chosen: isChosen(one) || ['Fit', 'Top', '3-D'].includes(one.textContent), says: one.textContent.trim(), part: one.closest('.tab, nav, header, footer, '
         + '.path, .place, #over')?.id || one.closest('nav, header, footer, .path, .place')?.className || '',
         look: one.closest('.look') !== null, pressed: one.getAttribute('aria-pressed') ?? one.getAttribute(
         'aria-checked') ?? '', label: one.getAttribute('aria-label') ?? '' });
@@ -63,7 +63,7 @@ _SEE = """(() => {
         goes: [...over.querySelectorAll('.foot button.go')].filter(isSeen).map(one => [one.textContent, !one.disabled]),
         log: [...document.querySelectorAll('#log li')].slice(0, 12).map(one => [one.className, one.textContent]),
         logs: document.querySelectorAll('#log li').length, wrong: document.querySelectorAll('input.wrong').length,
-        buttons: window.walked.buttons.map(named), entries: entries.map(named),
+        buttons: window.walked.buttons.map(named), entries: entries.map(one => ({ ...named(one), value: one.value })),
         switches: Object.fromEntries(['single', 'optional', 'delete'].map(name => [name,
             shown(name).getAttribute('aria-checked')])),
         overrides: [...document.querySelectorAll('.override button:not(.tens)')].filter(isSeen).map(text),
@@ -77,7 +77,7 @@ _SEE = """(() => {
 })()"""
 """What a person sees, and a little of what the server said, by which the walk decides where to go next."""
 _FIND = """(() => {
-    const one = window.walked.%s[%d];
+    const one = window.walked?.%s?.[%d];
     if (!one?.isConnected || one.disabled || !one.checkVisibility()) return null;
     one.scrollIntoView({ block: 'nearest' });
     const box = one.getBoundingClientRect(), x = box.x + box.width / 2, y = box.y + box.height / 2;
