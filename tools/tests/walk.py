@@ -16,6 +16,7 @@ import re
 import sys
 import tempfile
 import time
+import traceback
 from collections import Counter
 from collections.abc import Callable
 from contextlib import suppress
@@ -31,6 +32,8 @@ from walk_page import Seen, Tabs  # noqa: E402
 from walk_rules import Judge, Truth, Wrong, changes, number  # noqa: E402
 
 STEPS = 50
+WAYS = 40
+"""In so many steps a person has to get on, whatever came."""
 ANSWER_S = 2.0
 """So soon something has to come of a touch."""
 _DIGITS = re.compile(r"\d+(?:\.\d+)?")
@@ -63,6 +66,11 @@ _WEIGHTS: tuple[tuple[str, float], ...] = (
     (r"^(Program|Setup|Tools|Log)$", 1.2),
     (r"^(Top|3-D|Fit|Light|Dark|All that)", 0.2), (r"^Quit", 0.25), (r"^(Load\u2026|Hold|Do$)", 0),
 )
+_WAYS_ON = (
+    r"Take over", r"Yes, give it up", r"(They|It) stand", r"Tool .* (is in|is out|in)$", r"Home$", r"Drop", r"Give up",
+    r"No\b", r"Next", r"Confirm", r"Start ngc again", r"Stop$", r"Yes", r"It is done", r"Recover", r"Home all$",
+    r"Continue", r"Let go on", r"Go on", r"Back", r"Close", r"Load")
+"""What a person touches who wants to get on, the first of these that there is."""
 _MOVING = re.compile(r"^(Run|Continue|Let go on|Tool .* (in|out)$|Yes|It is done|Go on|Recover|Home|Restore|Resume"
                      r"|Go along|Go by|[XYZ]([+\u2212]| @|$))")
 _AXIS = re.compile(r"^([XYZ])([+\u2212]?)( @.*)?$")
@@ -96,6 +104,8 @@ class Walk:
         self.done: list[Step] = []
         self.has_stop, self.has_door = False, False
         self.seen: Seen | None = None
+        self.chosen: dict[str, bool] = {}
+        self.chosen_in = ""  # the session
 
     @property
     def truth(self) -> Truth:
@@ -424,11 +434,14 @@ class Walk:
         """Processes are killed; all of them as by a loss of power."""
         is_moving = self.bench.mill.last_pulse_at() > time.monotonic() - 0.3
         self.judge.moves()
+        if "server" in names and self.bench.has_server():
+            self.settle()
+            self.chosen, self.chosen_in = _chosen(self.seen), self.seen.session
         if "ngc" in names and self.bench.has_server():
             self.bench.kill("ngc")
         self.bench.kill(*(name for name in names if name != "ngc"))
         if "player" in names:
-            self.truth.may_move = False
+            self._rests_now()
             if is_moving:
                 self.truth.is_place_known = False
         if len(names) == 3:
@@ -440,7 +453,46 @@ class Walk:
             self.bench.start_player()
         elif what == "server" and not self.bench.has_server() and self.bench.has_player():
             self.bench.start_server()
-            self._until(lambda s: not s.isLost, 10)
+            self._until(lambda s: not s.isLost and s.session != self.chosen_in, PATIENCE_S)
+            self._chosen_again()
+
+    def _chosen_again(self) -> None:
+        """What was chosen is in force again, or is named."""
+        self.settle()
+        seen = self.seen
+        lost = [name for name, is_on in self.chosen.items() if is_on and not _chosen(seen).get(name)]
+        named = [name for name in lost if name.split(" ")[0].lower() in seen.all_words.lower()]
+        if lost != named:
+            raise Wrong("choices lost", f"chosen was {lost}; the page says {seen.word}: {seen.detail}")
+
+    # the end of a walk
+
+    def leads_out(self) -> None:
+        """Whatever came: with all started again and nothing pressed, the buttons lead to a machine that rests, and
+        takes a program. Raises Wrong."""
+        for step in (("door", "shuts"), ("stop", "freed"), ("start", "player"), ("start", "server")):
+            self.do(step)
+        for _ in range(WAYS):
+            self.seen = seen = self.tabs.see()
+            if any(one["id"] == "load" for one in seen.buttons) and not seen.sheet:
+                return
+            self.do(self._way_on(seen))
+        raise Wrong("no way on", f"{self.seen.word}: {self.seen.detail}; enabled are"
+                                 f" {[one['text'] for one in self.seen.buttons]}")
+
+    def _way_on(self, seen: Seen) -> Step:
+        """The step that leads on."""
+        if seen.isLost:
+            return "wait", "0.5"
+        for entry in (one for one in seen.entries if one["label"].startswith("Machine ")):
+            true = f"{self.bench.mill.at_mm['XYZ'.index(entry['label'][-1])]:.3f}"
+            if number(entry["value"]) != number(true):
+                return "fill", entry["label"], true
+        for form in _WAYS_ON:
+            for button in seen.buttons:
+                if re.match(form, button["text"]) and not (button["look"] and button["pressed"] == "true"):
+                    return "touch", button["text"]
+        return "wait", "0.5"
 
     def _do_wait(self, seconds: str) -> None:
         """Waits, and sees."""
@@ -450,12 +502,20 @@ class Walk:
             time.sleep(0.05)
 
 
+def _chosen(seen: Seen) -> dict[str, bool]:
+    """What a person chose, by its name: whether it is in force."""
+    names = {"single": "Single block", "optional": "Optional stop", "delete": "Block delete"}
+    found = {names[name]: is_on == "true" for name, is_on in seen.switches.items()}
+    return found | {says: True for says in seen.overrides if not says.endswith(" 100 %")}
+
+
 def _why(post: dict) -> str:
     """Why what was posted isn't done."""
+    said = str(post.get("said", ""))
     try:
-        return str(json.loads(post["said"]).get("why", ""))
+        return str(json.loads(said).get("why", ""))
     except ValueError:
-        return str(post["said"])
+        return said
 
 
 def _text(seen: Seen, button: int) -> str:
@@ -578,10 +638,12 @@ def walked(tabs: Tabs, late: Lateness, covered: Covered, given: list[Step] | int
                 if time.monotonic() > until:
                     break
                 walk.do(chance.next() if isinstance(given, int) else given[number_])
-        except (Wrong, Failed, AssertionError) as error:
+            walk.leads_out()
+        except Exception as error:  # a walk that dies is told as any other that fails
             rule = getattr(error, "rule", type(error).__name__)
             seed = given if isinstance(given, int) else 0
-            return Failure(seed, f"{error}\n  said by the processes: {walk.bench.said()}", rule, walk.done)
+            says = str(error) if isinstance(error, (Wrong, Failed)) else traceback.format_exc()
+            return Failure(seed, f"{says}\n  said by the processes: {walk.bench.said()}", rule, walk.done)
         finally:
             walk.close()
             covered.walks += 1
