@@ -2,6 +2,7 @@
 import http.client
 import json
 import os
+import select
 import signal
 import socket
 import subprocess
@@ -908,6 +909,21 @@ class Asides(InFolder):
         with self.assertRaises(NotDone):
             aside.call(divmod, 7, 2)
 
+    def test_cut_off(self) -> None:
+        """What is given up as its result is under way counts as not done: a part of that is none."""
+        child = Aside().begin(bytes, 1 << 20)
+        process, pipe = child._process, child._process.stdout
+
+        def cut_off() -> bytes:
+            """What came before it was given up."""
+            select.select([pipe], [], [])
+            child.give_up()
+            process.wait()
+            return pipe.read()
+
+        process.stdout = SimpleNamespace(read=cut_off, close=pipe.close)
+        with self.assertRaisesRegex(NotDone, "it was ended before it was done"):
+            child.result()
 
     def test_killed(self) -> None:
         """A kill of whoever asked leaves neither the work nor what that started behind."""

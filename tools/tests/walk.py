@@ -70,7 +70,9 @@ _WAYS_ON = (
     r"Take over", r"Yes, give it up", r"(They|It) stand", r"Tool .* (is in|is out|in)$", r"Home$", r"Drop", r"Give up",
     r"No\b", r"Next", r"Confirm", r"Start ngc again", r"Stop$", r"Yes", r"It is done", r"Recover", r"Home all$",
     r"Continue", r"Let go on", r"Go on", r"Back", r"Close", r"Load")
-"""What a person touches who wants to get on, the first of these that there is."""
+_FORWARDS = len(_WAYS_ON) - 3
+"""What a person touches who wants to get on, the first of these that there is; the last three once nothing else comes.
+"""
 _MOVING = re.compile(r"^(Run|Continue|Let go on|Tool .* (in|out)$|Yes|It is done|Go on|Recover|Home|Restore|Resume"
                      r"|Go along|Go by|[XYZ]([+\u2212]| @|$))")
 _AXIS = re.compile(r"^([XYZ])([+\u2212]?)( @.*)?$")
@@ -488,7 +490,7 @@ class Walk:
             true = f"{self.bench.mill.at_mm['XYZ'.index(entry['label'][-1])]:.3f}"
             if number(entry["value"]) != number(true):
                 return "fill", entry["label"], true
-        for form in _WAYS_ON:
+        for form in _WAYS_ON if self.done[-1] == self.done[-2] == ("wait", "0.5") else _WAYS_ON[:_FORWARDS]:
             for button in seen.buttons:
                 if re.match(form, button["text"]) and not (button["look"] and button["pressed"] == "true"):
                     return "touch", button["text"]
