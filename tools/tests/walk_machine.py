@@ -189,6 +189,17 @@ class Mill(World):
                     counts[axis] = counts.get(axis, 0) + abs(way)
         return max(counts.values(), default=0) * STEP_MM / within_s
 
+    def pauses_ms(self, since: float, least_s: float = 0.03) -> list[tuple[int, int]]:
+        """Where no pulse came for a while since a moment: when that began, and how long it was."""
+        found, later = [], 0.0
+        for when, _ in self.last(_LAST):
+            if later and later - when > least_s:
+                found.append((round(1000 * (when - since)), round(1000 * (later - when))))
+            if when < since:
+                break
+            later = when
+        return found[::-1]
+
     def steps_between(self, begin: float, end: float) -> tuple[float, float]:
         """How far an axis went at most between two moments, in mm, and when the last pulse before the second was."""
         counts, latest = {"X": 0, "Y": 0, "Z": 0}, 0.0

@@ -217,20 +217,21 @@ class Judge:
     def hold(self, touched: float, pulses: int) -> None:
         """After a touch of Hold at a moment the motors rest within v^2/2a, and what they go in 100 ms."""
         mill, now = self.bench.mill, time.monotonic
-        rate = mill.rate_mm_s(touched)
         if mill.last_pulse_at() < touched - 0.3:
             time.sleep(0.05)
             return
-        ramp_s, stop_mm = rate / ACCEL_MM_S2, rate * rate / (2 * ACCEL_MM_S2)
-        while now() < touched + ramp_s + HOLD_S + 0.25 + self.slack_s(touched):
+        while now() < touched + HOLD_S + 0.4 + self.slack_s(touched):
             time.sleep(0.01)
         slack_s = self.slack_s(touched)
         way_mm, last = mill.steps_between(touched, now())
+        # it may go faster until it is heeded, as at the beginning of a move
+        rate = max(mill.rate_mm_s(touched + ms / 1000) for ms in range(0, 10 + round(1000 * (HOLD_S + slack_s)), 10))
+        ramp_s, stop_mm = rate / ACCEL_MM_S2, rate * rate / (2 * ACCEL_MM_S2)
         self._count("hold")
         if last - touched > ramp_s + HOLD_S + slack_s:
             raise Wrong("hold too late", f"at {rate:.1f} mm/s the motors rest {1000 * (last - touched):.0f} ms after it,"
                         f" {way_mm:.3f} mm on; allowed are {1000 * (ramp_s + HOLD_S):.0f} ms, and"
-                        f" {1000 * slack_s:.0f} ms for the load")
+                        f" {1000 * slack_s:.0f} ms for the load; pauses in ms: {mill.pauses_ms(touched)}")
         if way_mm > stop_mm + rate * (HOLD_S + slack_s) + 0.05:
             raise Wrong("hold too far", f"{way_mm:.3f} mm at {rate:.1f} mm/s")
 
