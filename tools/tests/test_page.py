@@ -914,12 +914,12 @@ class Asides(InFolder):
         child = Aside().begin(bytes, 1 << 20)
         process, pipe = child._process, child._process.stdout
 
-        def cut_off() -> bytes:
+        def cut_off(size: int) -> bytes:
             """What came before it was given up."""
             select.select([pipe], [], [])
             child.give_up()
             process.wait()
-            return pipe.read()
+            return pipe.read(size)
 
         process.stdout = SimpleNamespace(read=cut_off, close=pipe.close)
         with self.assertRaisesRegex(NotDone, "it was ended before it was done"):

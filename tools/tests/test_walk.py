@@ -110,7 +110,11 @@ class Planted(InFolder):
 
     def test_lies(self) -> None:
         """A place one step off, a tool of before, outputs that aren't so, what runs and what rests."""
-        self.does(("type", "T1 M6"), ("touch", "Tool 1 is in"), ("type", "M3 S500"), ("wait", "1"))
+        self.does(("type", "T1 M6"))
+        self.until(lambda walk: any(one["text"] == "Tool 1 is in" for one in walk.seen.buttons))
+        self.does(("touch", "Tool 1 is in"))
+        self.until(lambda walk: not walk.seen.busy and walk.seen.tool.startswith("T1"))
+        self.does(("type", "M3 S500"), ("wait", "1"))
         for fault, rule in (("place", "place"), ("work", "work zero"), ("tool", "tool"), ("spindle", "spindle"),
                             ("coolant", "coolant")):
             self.found(fault, rule)
@@ -125,6 +129,7 @@ class Planted(InFolder):
         self.found("dead", "nothing comes of it", ("touch", "Single block"))
         self.does(("touch", "Setup"))
         self.found("moves", "moved unasked", ("touch", "Job goes on if this page is lost @This page"))
+        TABS.js("document.getElementById('toast').style.display = 'none'")
         self.found("silent", "refused in Log alone", ("touch", "Set X @Work zero"))
         self.loads()
         self.does(("touch", "Run"))

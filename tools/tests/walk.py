@@ -60,7 +60,7 @@ NUMBERS = ("0", "1", "2.5", "-3", "4", "10", "-40", "0.1", "x")
 _WEIGHTS: tuple[tuple[str, float], ...] = (
     (r"^(Run|Continue|Let go on|Tool .* (in|out)$|Yes|It is done|Go on|Load$|Recover|Home)", 9),
     (r"^(Next|Confirm|Go along|Go by|Resume|Rehearse again|Start ngc|They stand|It stands)", 7),
-    (r"^(Stop|Spindle off|Coolant off|Take over|Where is|Restore|Drop|Give up|Yes, give)", 5),
+    (r"^(Spindle.* off|Coolant off|Take over|Where |Restore|Drop|Give up|Yes, give)", 5), (r"^(Stop|From line 1)", 1),
     (r"^(Set |Undo|Tool \d+ stands|Where the probe|[XYZ]([+\u2212]|$| @))", 2),
     (r"^(Back|No|Later|Close)", 2),
     (r"^(Program|Setup|Tools|Log)$", 1.2),
@@ -68,13 +68,13 @@ _WEIGHTS: tuple[tuple[str, float], ...] = (
 )
 _WAYS_ON = (
     r"Take over", r"Yes, give it up", r"(They|It) stand", r"Tool .* (is in|is out|in)$", r"Home$", r"Drop", r"Give up",
-    r"No\b", r"Next", r"Confirm", r"Start ngc again", r"Stop$", r"Yes", r"It is done", r"Recover", r"Home all$",
+    r"Where is", r"Where the player counts", r"No\b", r"Next", r"Confirm", r"Start ngc again", r"Stop$", r"Yes", r"It is done", r"Recover", r"Home all$",
     r"Continue", r"Let go on", r"Go on", r"Back", r"Close", r"Load")
 _FORWARDS = len(_WAYS_ON) - 3
 """What a person touches who wants to get on, the first of these that there is; the last three once nothing else comes.
 """
 _MOVING = re.compile(r"^(Run|Continue|Let go on|Tool .* (in|out)$|Yes|It is done|Go on|Recover|Home|Restore|Resume"
-                     r"|Go along|Go by|[XYZ]([+\u2212]| @|$))")
+                     r"|Go along|Go by|Resume|[XYZ]([+\u2212]| @|$))")
 _AXIS = re.compile(r"^([XYZ])([+\u2212]?)( @.*)?$")
 
 
@@ -178,12 +178,24 @@ class Walk:
         self.truth.touched_at = time.monotonic()
         self.tabs.down(*found)
         self.tabs.up(*found)
-        if text == "Confirm":
+        if text.startswith("Stop"):
+            self._stops()
+        if text.startswith("Confirm"):
             self._confirms(before, button)
         if not before.buttons[button]["chosen"]:
             self._answered(text, before.buttons[button]["says"], before)
         self._told_place(self.tabs.posts(before.posts))
         return True
+
+    def _stops(self) -> None:
+        """After Stop the motors come to rest as after Hold, and spindle and coolant go off."""
+        touched = self.truth.touched_at
+        self.judge.hold(touched, self.bench.mill.pulses)
+        self._rests_now()
+        while (on := self.bench.mill.outputs) and (on.spindle or on.mist or on.flood):
+            if time.monotonic() > touched + ANSWER_S + self.judge.slack_s(touched):
+                raise Wrong("stop leaves it on", f"{on}")
+            time.sleep(0.02)
 
     def _confirms(self, seen: Seen, button: int) -> None:
         """What is confirmed is at most as far off as the page says."""
@@ -202,6 +214,8 @@ class Walk:
         truth, at_mm = self.truth, self.bench.mill.at_mm
         for post in posts:
             at = json.loads(post["body"] or "{}").get("at") if post["what"] in ("reference", "recover", "stands") else {}
+            if at == "player":
+                at = dict(zip("XYZ", map(number, self.seen.motors)))
             if isinstance(at, list):
                 at = dict(zip("XYZ", at))
             if isinstance(at, dict) and at:
@@ -588,7 +602,7 @@ class Chance:
     def _touch(self, seen: Seen) -> Step:
         """A button, the likelier the more it does."""
         texts = [one["text"] for one in seen.buttons]
-        weights = [0 if seen.sheet and one["id"] == "quit" else _weight(text, one["part"]) + 8 * (one["id"] == "run")
+        weights = [0 if seen.sheet and one["id"] in ("quit", "restart") else _weight(text, one["part"]) + 8 * (one["id"] == "run")
                    for text, one in zip(texts, seen.buttons)]
         if not texts or not any(weights):
             return "wait", "0.3"

@@ -56,6 +56,7 @@ _SEE = """(() => {
         blind: document.body.classList.contains('blind'), place: text(shown('axes')),
         work: axes.map(one => text(one.querySelector('output'))),
         motors: axes.map(one => [...one.querySelectorAll('b')].slice(1).map(text).filter(Boolean).pop() ?? ''),
+        units: axes.map(one => text(one.querySelector('small'))), risk: text(shown('risk')),
         feed: gauge(0), spindle: gauge(1), coolant: gauge(2), tool: gauge(3), modes: text(shown('modes')),
         share: text(shown('share')), left: text(shown('left')), toast: text(shown('toast')), sheet: text(over),
         isLost: isSeen(shown('lost')), header: text(document.querySelector('header')),
@@ -76,9 +77,12 @@ _SEE = """(() => {
     };
 })()"""
 """What a person sees, and a little of what the server said, by which the walk decides where to go next."""
+_DEAD_S = 2.0
+"""A button may be dead for a second, after it came to mean something else."""
 _FIND = """(() => {
     const one = window.walked?.%s?.[%d];
     if (!one?.isConnected || one.disabled || !one.checkVisibility()) return null;
+    if (one.closest('[inert]')) return 'dead';
     one.scrollIntoView({ block: 'nearest' });
     const box = one.getBoundingClientRect(), x = box.x + box.width / 2, y = box.y + box.height / 2;
     const top = document.elementFromPoint(x, y);
@@ -171,8 +175,10 @@ class Tabs(Chromium):
 
     def find(self, kind: str, number: int) -> tuple[float, float] | None:
         """Where the middle of a button or an entry is, if it can be touched."""
-        found = self.js(_FIND % (kind, number))
-        return (found[0], found[1]) if found else None
+        until = time.monotonic() + _DEAD_S
+        while (found := self.js(_FIND % (kind, number))) == "dead" and time.monotonic() < until:
+            time.sleep(0.1)
+        return (found[0], found[1]) if found and found != "dead" else None
 
     def clock_offset(self) -> float:
         """What a time of the page's clock, in ms, is behind the monotonic clock, in s."""

@@ -65,7 +65,7 @@ def refuses(given: deeds.Given) -> dict | None:
 
 def hold(session: PageSession, *given: object) -> None:
     """A hold that comes late."""
-    time.sleep(0.6 if planted() == "late" else 0)
+    time.sleep(2.0 if planted() == "late" else 0)
     HOLD(session, *given)
 
 

@@ -13,9 +13,12 @@ FRESH_S = 0.8
 HOPS = 6
 """A touch, and what it changes, goes through so many threads, each of which may be woken late."""
 HOLD_S = 0.1
+AGED_S = 30.0
+"""A place that is shown with its age may be one of so long ago."""
 REST_S = 2.0
 """So long a page may say that the machine moves while it rests."""
-NEAR_MM = 0.0011
+NEAR_MM = {"mm": 0.0011, "in": 0.0026}
+_UNITS = {"mm": 1.0, "in": 25.4}
 _TURNS = {"\u21bb": 1, "\u21ba": 2}
 _NUMBER = re.compile(r"[-\u2212]?\d[\d,]*(?:\.\d+)?")
 UNKNOWN = ("\u2013", "-", "\u2014", "?", "")
@@ -71,6 +74,7 @@ class Judge:
         self.bench, self.late, self.truth = bench, late, Truth()
         self.checked: dict[str, int] = {}
         self._runs_at_rest_since = 0.0
+        self._rests_in_motion_since = 0.0
 
     def _count(self, name: str) -> None:
         self.checked[name] = self.checked.get(name, 0) + 1
@@ -123,37 +127,29 @@ class Judge:
             self._runs_at_rest_since = now
         elif now - self._runs_at_rest_since > REST_S + self.slack_s(now - REST_S):
             raise Wrong("says it runs", f"{seen.word}: {seen.detail}; the motors rest for {now - last:.1f} s")
-        moved = self.bench.mill.steps_between(seen.at - 1.2 - self.slack_s(now - 3), seen.at - 0.2)
-        is_moving = last > seen.at - 0.1 and self._moved_throughout(seen.at)
-        if is_moving and moved[0] and not seen.runs and seen.tone in ("idle", "hold"):
-            raise Wrong("says it rests", f"{seen.word}: {seen.detail}; the motors moved {moved[0]:.3f} mm meanwhile")
-
-    def _moved_throughout(self, at: float) -> bool:
-        """Whether pulses came all the time that a page's word may be old."""
-        begin, last = at - 1.2 - self.slack_s(at - 3), at
-        for when, _ in self.bench.mill.last(1 << 16):
-            if last - when > 0.15:
-                return False
-            last = when
-            if when < begin:
-                return True
-        return False
+        if seen.tone not in ("idle", "hold") or last < seen.at - 0.1:
+            self._rests_in_motion_since = 0.0
+        elif not self._rests_in_motion_since:
+            self._rests_in_motion_since = now
+        elif now - self._rests_in_motion_since > 1.2 + self.slack_s(now - 2):
+            raise Wrong("says it rests", f"{seen.word}: {seen.detail}; the motors move")
 
     # what stands on the page
 
     def place(self, seen: Seen, since: float, is_still: bool) -> None:
         """The machine's place is one where it was just now; the work's follows it."""
-        truth = self.truth
-        motors, work = point(seen.motors), point(seen.work)
+        truth, unit = self.truth, seen.units[0]
+        motors, work = _scaled(point(seen.motors), unit), _scaled(point(seen.work), unit)
         if motors is None and work is not None and truth.zero is not None and not truth.is_zero_asked:
             motors = _sum(work, truth.zero)
-        if motors is None or not truth.is_place_known:
+        is_said = truth.is_place_known or seen.tone in ("idle", "run") and not seen.blind
+        if motors is None or not is_said:
             return
         self._count("place")
-        wanted = _difference(motors, truth.offset)
-        begin = min(since, self.bench.mill.last_pulse_at() - 1.0) if seen.blind else since
-        if not any(_is_near(wanted, at) for at in self.bench.mill.places_since(begin)):
-            raise Wrong("place", f"shown is {motors}, told wrong by {truth.offset}; the machine is at"
+        wanted, is_aged = _difference(motors, truth.offset), seen.blind and seen.risk
+        begin = min(since, self.bench.mill.last_pulse_at() - (AGED_S if is_aged else 1.0)) if seen.blind else since
+        if not any(_is_near(wanted, at, unit) for at in self.bench.mill.places_since(begin)):
+            raise Wrong("place", f"{seen.word}: shown is {motors}, told wrong by {truth.offset}; the machine is at"
                                  f" {self.bench.mill.at_mm}")
         if is_still and work is not None and point(seen.motors) is not None:
             self._zero(seen, motors, work)
@@ -161,7 +157,8 @@ class Judge:
     def _zero(self, seen: Seen, motors: Point, work: Point) -> None:
         """What lies between machine and work stays, where nobody asked for another zero."""
         zero, truth = _difference(motors, work), self.truth
-        if truth.zero is not None and not truth.is_zero_asked and not _is_near(zero, truth.zero) and not seen.busy:
+        is_same = truth.zero is None or _is_near(zero, truth.zero, "in")
+        if not truth.is_zero_asked and not is_same and not seen.busy:
             raise Wrong("work zero", f"it was {truth.zero}, and is {zero}: nobody asked for that")
         truth.zero = zero
         truth.is_zero_asked = truth.is_zero_asked and bool(seen.busy)
@@ -209,8 +206,8 @@ class Judge:
             raise Wrong("done while it runs", f"{seen.word}: {seen.detail}")
         if self.truth.without_lines and seen.runs and not is_still and re.search(r"\bline \d", seen.detail):
             raise Wrong("says lines run", f"{seen.word}: {seen.detail}; what moves is home, a jog or a seek")
-        if re.search(r"\bG20\b", seen.modes) and not re.search(r"\b(in|inch|inches|mm)\b", seen.place):
-            raise Wrong("no unit", f"G20 is in force, and the place has no unit: {seen.place!r}")
+        if not all(unit in _UNITS for unit in seen.units):
+            raise Wrong("no unit", f"the place has no unit: {seen.place!r}")
 
     # how Hold is answered
 
@@ -244,8 +241,14 @@ def _sum(a: Point, b: Point) -> Point:
     return a[0] + b[0], a[1] + b[1], a[2] + b[2]
 
 
-def _is_near(a: Point, b: Point) -> bool:
-    return max(abs(p - q) for p, q in zip(a, b)) < NEAR_MM
+def _scaled(at: Point | None, unit: str) -> Point | None:
+    """A point that is shown in a unit, in millimetres."""
+    factor = _UNITS.get(unit, 1.0)
+    return at and (at[0] * factor, at[1] * factor, at[2] * factor)
+
+
+def _is_near(a: Point, b: Point, unit: str) -> bool:
+    return max(abs(p - q) for p, q in zip(a, b)) < NEAR_MM.get(unit, NEAR_MM["mm"])
 
 
 def changes(before: Seen, after: Seen) -> Iterator[str]:
