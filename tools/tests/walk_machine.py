@@ -233,6 +233,8 @@ class Bench:
         Path("motion.toml").write_text(MACHINE)
         Path("out").touch()
         subprocess.run([ngc(), "format", "mill.dev"], check=True, capture_output=True)
+        subprocess.run([ngc(), "run", "mill.dev", "first.toml", "out"], input="tool 1 20\ntool 2 30\n", text=True,
+                       check=True, capture_output=True)
         self.mill = Mill()
         self.player: subprocess.Popen | None = None
         self.server: subprocess.Popen | None = None
