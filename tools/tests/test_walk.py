@@ -33,7 +33,7 @@ KNOWN: tuple[tuple[str, str], ...] = (
 )
 """What is known to be wrong yet, by its rule and how the words begin: a walk that ends so is told, and isn't a failure.
 """
-LONG = "G17 G21 G90 G94\nM3 S1000\nG1 X20 F600\nG1 X0 F600\nM2\n"
+LONG = "G17 G21 G90 G94\nM3 S1000\nG1 X40 F300\nG1 X0 F600\nM2\n"
 
 
 def is_known(failure: Failure) -> bool:
@@ -97,7 +97,11 @@ class Planted(InFolder):
                 self.does(*steps, ("wait", "3"))
             self.assertEqual(raised.exception.rule, rule, raised.exception)
         self.plant("")
-        time.sleep(0.5)
+        told, mill = time.time(), self.walk.bench.mill
+        self.wait_for("the page has heard the truth", lambda: TABS.see().now > told + 0.2)
+        if fault == "moves":
+            self.wait_for("it rests", lambda: mill.last_pulse_at() < time.monotonic() - 1)
+        self.walk.truth.quiet_pulses = mill.pulses
         self.does(("wait", "1"))
 
     def until(self, holds: Callable[[Walk], object]) -> None:
@@ -133,11 +137,11 @@ class Planted(InFolder):
         self.found("silent", "refused in Log alone", ("touch", "Set X @Work zero"))
         self.loads()
         self.does(("touch", "Run"))
-        self.until(lambda walk: walk.bench.mill.rate_mm_s(time.monotonic()) > 5)
+        self.until(lambda walk: walk.bench.mill.rate_mm_s(time.monotonic()) > 3)
         self.found("late", "hold too late", ("hold", "button"))
 
     def loads(self) -> None:
-        """A program with a cut of two seconds is loaded."""
+        """A program with a cut of eight seconds is loaded."""
         Path("part.ngc").write_text(LONG)
         TABS.choose_file(Path("part.ngc").resolve())
         self.until(lambda walk: walk.seen.goes and walk.seen.goes[-1][1])

@@ -342,12 +342,13 @@ class Walk:
 
     def _do_type(self, line: str) -> None:
         """Types a line of G-code."""
-        self.seen = before = self.tabs.see()
-        entry = next((i for i, one in enumerate(before.entries) if one["id"] == "line"), None)
-        button = next((i for i, one in enumerate(before.buttons) if one["id"] == "do"), None)
-        if entry is None or button is None:
+        if not any(one["id"] == "line" for one in self.tabs.see().entries):
             return
         self.tabs.fill("#line", line)
+        self.seen = before = self.tabs.see()
+        button = next((i for i, one in enumerate(before.buttons) if one["id"] == "do"), None)
+        if button is None:
+            return
         axes = [axis for axis in "XYZ" if axis in line]
         self.judge.moves()
         self.truth.may_move, self.truth.is_zero_asked = bool(axes), True
@@ -590,7 +591,7 @@ class Chance:
             return "wait", chance.choice(("0.1", "0.3", "1.0"))
         ids = {one["id"] for one in seen.buttons}
         has_program = "No program" not in seen.detail
-        if draw < 0.26 and "do" in ids:
+        if draw < 0.26 and any(one["id"] == "line" for one in seen.entries):
             return "type", chance.choice(LINES)
         if draw < (0.31 if has_program else 0.6) and "load" in ids and not seen.sheet:
             return "load", str(chance.randrange(len(PROGRAMS)))
