@@ -32,7 +32,7 @@ from walk_page import Seen, Tabs  # noqa: E402
 from walk_rules import Judge, Truth, Wrong, changes, number  # noqa: E402
 
 STEPS = 50
-WAYS = 40
+WAYS = 60
 """In so many steps a person has to get on, whatever came."""
 ANSWER_S = 2.0
 """So soon something has to come of a touch."""
@@ -68,9 +68,10 @@ _WEIGHTS: tuple[tuple[str, float], ...] = (
 )
 _WAYS_ON = (
     r"Take over", r"Yes, give it up", r"(They|It) stand", r"Tool .* (is in|is out|in)$", r"Home$", r"Drop", r"Give up",
-    r"Where is", r"Where the player counts", r"No\b", r"Next", r"Confirm", r"Start ngc again", r"Stop$", r"Yes", r"It is done", r"Recover", r"Home all$",
+    r"Where is", r"Where the player counts", r"No\b", r"Next", r"Confirm", r"Start ngc again", r"Stop$", r"Yes",
+    r"It is done", r"Recover", r"Home all$",
     r"Continue", r"Let go on", r"Go on", r"Back", r"Close", r"Load")
-_FORWARDS = len(_WAYS_ON) - 3
+_FORWARDS, _WAITS = len(_WAYS_ON) - 3, 8
 """What a person touches who wants to get on, the first of these that there is; the last three once nothing else comes.
 """
 _MOVING = re.compile(r"^(Run|Continue|Let go on|Tool .* (in|out)$|Yes|It is done|Go on|Recover|Home|Restore|Resume"
@@ -138,7 +139,8 @@ class Walk:
         did = time.monotonic()
         self.settle()
         if self.covered.tells:
-            print(f"  {step} {did - begun:.2f} + {time.monotonic() - did:.2f} s; {self.seen and self.seen.word}", flush=True)
+            took = f"{did - begun:.2f} + {time.monotonic() - did:.2f} s"
+            print(f"  {step} {took}; {self.seen and self.seen.word}", flush=True)
         if self.seen is not None:
             self.covered.words[self.seen.word] += 1
 
@@ -148,6 +150,8 @@ class Walk:
         while True:
             if self.tabs.sessions and self.bench.has_server():
                 self.seen = self.tabs.see()
+                if not self.seen.busy and self.seen.does == "idle":
+                    self.truth.is_recovering = self.seen.half != "none"
                 self.judge.all(self.seen)
             else:
                 self.judge.moves()
@@ -207,13 +211,14 @@ class Walk:
         off_mm = abs(value - self.bench.mill.at_mm[axis])
         said_mm = max(map(float, re.findall(r"(\d+\.\d+) mm", seen.sheet)), default=0.0)
         if off_mm > said_mm + 0.01:
-            raise Wrong("confirmed further off", f"the place of {'XYZ'[axis]} is {off_mm:.3f} mm off, told is {said_mm}")
+            raise Wrong("confirmed further off", f"{'XYZ'[axis]} is {off_mm:.3f} mm off, told is {said_mm}")
 
     def _told_place(self, posts: list[dict]) -> None:
         """Where the person told that the machine stands: what is shown is off by as much from then on."""
         truth, at_mm = self.truth, self.bench.mill.at_mm
         for post in posts:
-            at = json.loads(post["body"] or "{}").get("at") if post["what"] in ("reference", "recover", "stands") else {}
+            tells = post["what"] in ("reference", "recover", "stands")
+            at = json.loads(post["body"] or "{}").get("at") if tells else {}
             if at == "player":
                 at = dict(zip("XYZ", map(number, self.seen.motors)))
             if isinstance(at, list):
@@ -505,7 +510,7 @@ class Walk:
             true = f"{self.bench.mill.at_mm['XYZ'.index(entry['label'][-1])]:.3f}"
             if number(entry["value"]) != number(true):
                 return "fill", entry["label"], true
-        for form in _WAYS_ON if self.done[-1] == self.done[-2] == ("wait", "0.5") else _WAYS_ON[:_FORWARDS]:
+        for form in _WAYS_ON if set(self.done[-_WAITS:]) == {("wait", "0.5")} else _WAYS_ON[:_FORWARDS]:
             for button in seen.buttons:
                 if re.match(form, button["text"]) and not (button["look"] and button["pressed"] == "true"):
                     return "touch", button["text"]
@@ -603,8 +608,8 @@ class Chance:
     def _touch(self, seen: Seen) -> Step:
         """A button, the likelier the more it does."""
         texts = [one["text"] for one in seen.buttons]
-        weights = [0 if seen.sheet and one["id"] in ("quit", "restart") else _weight(text, one["part"]) + 8 * (one["id"] == "run")
-                   for text, one in zip(texts, seen.buttons)]
+        weights = [0 if seen.sheet and one["id"] in ("quit", "restart") else
+                   _weight(text, one["part"]) + 8 * (one["id"] == "run") for text, one in zip(texts, seen.buttons)]
         if not texts or not any(weights):
             return "wait", "0.3"
         text = self.random.choices(texts, weights)[0]

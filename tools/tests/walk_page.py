@@ -36,7 +36,8 @@ _SEE = """(() => {
     const over = shown('over');
     const buttons = [...document.querySelectorAll('button, summary')].filter(one => isSeen(one) && !one.disabled);
     const isFree = one => over.hidden || over.contains(one) || !one.closest('main');
-    const entries = [...document.querySelectorAll('input:not([type=file])')].filter(one => isSeen(one) && !one.disabled && isFree(one));
+    const entries = [...document.querySelectorAll('input:not([type=file])')].filter(one => isSeen(one)
+        && !one.disabled && isFree(one));
     window.walked ??= { posts: [], clicks: [] };
     window.walked.buttons = buttons.filter(isFree);
     window.walked.entries = entries;
@@ -45,7 +46,8 @@ _SEE = """(() => {
         || one.getAttribute('aria-pressed') === 'true' && !one.closest('.look, .confirm')
         || one.closest('.override') && one.textContent.trim().endsWith(' 100 %');
     const named = one => ({ text: one.textContent.trim() + (group(one) && ` @${group(one)}`), id: one.id,
-        chosen: isChosen(one) || ['Fit', 'Top', '3-D'].includes(one.textContent), says: one.textContent.trim(), part: one.closest('.tab, nav, header, footer, '
+        chosen: isChosen(one) || ['Fit', 'Top', '3-D'].includes(one.textContent), says: one.textContent.trim(),
+        part: one.closest('.tab, nav, header, footer, '
         + '.path, .place, #over')?.id || one.closest('nav, header, footer, .path, .place')?.className || '',
         look: one.closest('.look') !== null, pressed: one.getAttribute('aria-pressed') ?? one.getAttribute(
         'aria-checked') ?? '', label: one.getAttribute('aria-label') ?? '' });

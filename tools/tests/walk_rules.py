@@ -3,7 +3,7 @@ that nobody asked for, and each touch is answered where it was made."""
 import re
 import time
 from collections.abc import Iterator
-from dataclasses import dataclass, field
+from dataclasses import dataclass
 
 from walk_machine import ACCEL_MM_S2, Bench, Lateness, Outputs, Point
 from walk_page import Seen
@@ -50,7 +50,8 @@ def point(texts: list[str]) -> Point | None:
 @dataclass
 class Truth:
     """What the person at the machine knows: which tool is in, by how much the page's numbers were told wrong, which
-    axes may move as was asked, and what was chosen. `zero` is what the page showed between motors and work."""
+    axes may move as was asked, and whether a half-done block is being taken up. `zero` is what the page showed between
+    motors and work."""
 
     tool: int | None = 0
     offset: Point = (0.0, 0.0, 0.0)
@@ -61,8 +62,6 @@ class Truth:
     is_zero_asked: bool = True
     without_lines: bool = False
     touched_at: float = 0.0
-    chosen: dict[str, str] = field(default_factory=dict)
-    turned_by_touch: float = 0.0
     is_recovering: bool = False
     quiet_pulses: int = 0
 
@@ -226,7 +225,7 @@ class Judge:
         ramp_s, stop_mm = rate / ACCEL_MM_S2, rate * rate / (2 * ACCEL_MM_S2)
         self._count("hold")
         if last - touched > ramp_s + HOLD_S + slack_s:
-            raise Wrong("hold too late", f"at {rate:.1f} mm/s the motors rest {1000 * (last - touched):.0f} ms after it,"
+            raise Wrong("hold too late", f"at {rate:.1f} mm/s they rest {1000 * (last - touched):.0f} ms after it,"
                         f" {way_mm:.3f} mm on; allowed are {1000 * (ramp_s + HOLD_S):.0f} ms, and"
                         f" {1000 * slack_s:.0f} ms for the load; pauses in ms: {mill.pauses_ms(touched)}")
         if way_mm > stop_mm + rate * (HOLD_S + slack_s) + 0.05:
