@@ -317,7 +317,7 @@ class Places(Core):
         self.assertIn("taken up", self.do("resume anyway")[0])
         self.assertEqual(self.do("continue"), [refused[0].replace("resume", "continue")])
         self.assertEqual((self.out(), self.status().does), ([], "held"))
-        self.do("continue anyway")
+        self.do("continue anyway", answers=("yes",))
         self.assertEqual(self.out(), ["S 0 0.000000 0 0 0 0"] + ["P -1 0 0 50"] * 43 + ["P 1 0 0 50"] * 5)
 
     def test_lines_and_programs(self) -> None:

@@ -184,7 +184,8 @@ class Operator:
         """Starts the program, or goes on with what waits."""
         status = self.console.status()
         if self.taken_up and status.half != "none" and status.does == "held":
-            self._look_again()
+            if typed.anyway or self.places.agree(status, f"{typed.word} {ANYWAY}"):
+                self._look_again()
             return
         if not typed.anyway and not comes_on_agreed(self.session):
             return
