@@ -26,6 +26,9 @@ class Steady(InBrowser):
     def test_twice(self) -> None:
         """After a hold at a tool change the second tap on `Tool 1 is in` doesn't hit `Continue`."""
         browser = self.browser
+        browser.open(self.address)
+        self.assertEqual(browser.wait("window.ngc?.state?.yours && ngc.jobId !== null && ngc.dead.ms"), 1000)
+        browser.hurry()
         browser.js("document.querySelector('[data-tab=tools]').click()")
         browser.fill("#tab-tools input", "50")
         browser.press("Add", "#tab-tools button")
@@ -35,7 +38,7 @@ class Steady(InBrowser):
         browser.wait("ngc.state.waits")
         browser.press("Hold", "#hold")
         browser.wait("ngc.state.does === 'held' && !ngc.state.busy")
-        browser.js("void (ngc.dead.ms = 4000)")
+        browser.js("void (ngc.dead.ms = 1e6)")  # however slow the machine is
         x, y = browser.place("Tool 1 is in", "#run")
         for _ in range(2):
             browser.down(x, y)
@@ -46,6 +49,7 @@ class Steady(InBrowser):
         browser.wait(f"ngc.state.now > {seen} + 1")
         self.assertEqual(browser.js("[ngc.state.does, ngc.state.busy, ngc.state.motors[0]]"),
                          ["held", False, "0.000000"])
+        browser.js("void (document.getElementById('run').inert = false)")
         browser.press("Continue", "#run")
         browser.wait("ngc.state.motors[0] > 0")
         self.no_complaints()
