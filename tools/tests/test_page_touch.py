@@ -30,7 +30,7 @@ class Steady(InBrowser):
         self.assertEqual(browser.wait("window.ngc?.state?.yours && ngc.jobId !== null && ngc.dead.ms"), 1000)
         browser.hurry()
         browser.js("document.querySelector('[data-tab=tools]').click()")
-        browser.fill("#tab-tools input", "50")
+        browser.fill("#tab-tools input[aria-label='Length of tool 1']", "50")
         browser.press("Add", "#tab-tools button")
         browser.wait("ngc.state.tools.length === 1 && !ngc.state.busy")
         self.load(CHANGE, 4)
