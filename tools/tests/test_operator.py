@@ -634,7 +634,7 @@ class Causes(Core):
             "refused U1 BadCommand: tool N LENGTH: a slot from 1 to 128 and its length in millimetres, 0 to 1000, as in"
             " `tool 1 62.5`",
             "refused U1 BadCommand: optional on or optional off",
-            "refused B14 BadSlot: slot 3 comes first: the table has slots 1 to 2, and takes one more at a time"])
+            "slots 3 to 4 have length 0 now, since the table has no gaps: measure before G43 takes that", "done 5"])
 
 
     def test_nothing_to_do(self) -> None:
