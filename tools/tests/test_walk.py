@@ -21,15 +21,9 @@ WALK_S = float(os.environ.get("NGC_WALK_S", "75"))
 SHORTEN_S = 60.0
 STEPS = 40
 KNOWN: tuple[tuple[str, str], ...] = (
-    ("no unit", ""),
-    ("nothing comes of it", "^Let go on, at Door open"),
-    ("nothing comes of it", "^Start ngc again"),
     ("choices lost", ""),
-    ("confirmed further off", ""),
-    ("look unticked", ""),
-    ("moved before the look", ""),
-    ("second tap", ""),
-    ("done while it runs", ""),
+    ("nothing comes of it", "^(Single block|Optional stop|Block delete), at (Look|Question)"),
+    ("nothing comes of it", "^Home all, at ALARM"),
 )
 """What is known to be wrong yet, by its rule and how the words begin: a walk that ends so is told, and isn't a failure.
 """

@@ -32,6 +32,8 @@ from walk_page import Seen, Tabs  # noqa: E402
 from walk_rules import Judge, Truth, Wrong, changes, number  # noqa: E402
 
 STEPS = 50
+BEGINS_S = 1.0
+"""So soon what was asked for has begun."""
 WAYS = 60
 """In so many steps a person has to get on, whatever came."""
 ANSWER_S = 2.0
@@ -158,7 +160,8 @@ class Walk:
             now, truth = time.monotonic(), self.truth
             is_still = self.bench.mill.last_pulse_at() < now - 0.15
             if is_still and now - begun > 0.12 and not self._is_busy():
-                truth.may_move, truth.ways, truth.without_lines = False, None, False
+                if now > truth.touched_at + BEGINS_S + self.judge.slack_s(truth.touched_at):
+                    truth.may_move, truth.ways, truth.without_lines = False, None, False
                 return
             if now - begun > (0.35 if not is_still else most_s):
                 return
