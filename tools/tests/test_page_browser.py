@@ -250,7 +250,7 @@ class Looks(InBrowser):
         count, says = browser.js("""[document.querySelectorAll('#over .finding').length,
             document.querySelector('#over .warn').textContent]""")
         self.assertEqual((count, says.partition(".")[0]), (2, "Adapted, still 1 line refused"))  # G41 is left out
-        browser.press("Load it all the same", "#over button")
+        browser.press("Adapt and load all the same", "#over button")
         browser.wait("ngc.state.question && document.querySelector('#over .asked')")
         self.look("a question")
         browser.press("No", "#over button")
