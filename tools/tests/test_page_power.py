@@ -275,7 +275,7 @@ class Moments(InFolder):
         """Ends the player as a loss of power does."""
         self.player.kill()
         self.player.wait()
-        os.unlink("progress")
+        Path("progress").unlink(missing_ok=True)  # one that the session's end has ended first took it along
 
     def go_back(self) -> bool:
         """Through the four steps, where the page leads through them, and on to the end; whether it did."""
