@@ -506,6 +506,8 @@ class PageSession:
         try:
             status, report = operator.look()
             machine = operator.session.meter.link.machine() if self.opened.has_moves else None
+            if machine and report and bool(machine.alarm) != (report.word == ALARM):
+                status, report = operator.look()  # an alarm came or went between the two answers
             if report:
                 if report.word == ALARM != self._word:
                     self.face.refusal = ""  # it was before that
