@@ -54,7 +54,8 @@ OVER = """(() => {
         const found = document.elementFromPoint(x, y);
         const isUnder = document.getElementById('over').checkVisibility() && one.closest('main');
         if (!inert && !isUnder && found !== one && !one.contains(found)) {
-            out.push(`${one.id || one.textContent} under ${found && (found.id || found.className || found.tagName)}`);
+            const over = found && `${found.id || found.className || found.tagName}: ${found.textContent.slice(0, 99)}`;
+            out.push(`${one.id || one.textContent} under ${over}`);
         }
         if (!isUnder && (box.left < 0 || box.right > innerWidth + 0.5)) out.push(`${one.id || one.textContent} is out`);
     }
@@ -477,6 +478,9 @@ class Moves(InBrowser):
         browser.wait("ngc.state.word === 'ALARM'")
         self.look("an alarm")
         browser.press("Home all", "#run")
+        self.assertTrue(browser.js("document.querySelector('#over .go').disabled"))
+        self.machine.axes.release()
+        browser.wait("!ngc.state.inputs.length && !document.querySelector('#over .go').disabled")
         self.assertEqual(browser.js("ngc.state.alarm"), "emergency_stop")
         browser.press("Home", "#over button")
         browser.wait("ngc.state.alarm === '' && ngc.state.word === 'Idle'")
@@ -645,6 +649,9 @@ class PowerOverPipe(InBrowser):
         browser.wait(f"ngc.state?.session && ngc.state.session !== '{before}' && ngc.neverCut")
         browser.wait("document.querySelector('#over .bad')?.textContent.includes('NEVER CUT')")
         self.assertTrue(browser.js("ngc.picture.lost[0].length > 1 && !document.getElementById('never-cut').hidden"))
+        log = "document.querySelector('#log .uncut')"
+        browser.wait(f"{log}?.textContent.includes('NEVER CUT')")
+        self.assertTrue(browser.js("document.getElementById('toast').hidden"))  # the sheet shows it
         self.look("what was never cut")
         browser.press("Next", "#over button")
         for _ in range(3):

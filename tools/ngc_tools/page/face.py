@@ -11,6 +11,8 @@ from ngc_tools.operator.way_back import TYPE_GO
 from ngc_tools.page.words import page_words
 from ngc_tools.player.progress import Report
 
+UNCUT = "uncut"
+"""The kind of a warning of what was never cut: pages show that by themselves, too."""
 ENTRIES = 400
 """So many entries of the log are kept."""
 LOOKS = tuple(text.strip() for text in (LOOK_SWITCHED, LOOK, LOOK_AGAIN, SWITCHED, SWITCHED_THERE))

@@ -76,7 +76,8 @@ function show(s) {
   fetchNew(s);
 }
 
-// What is seen beside the finger: a question shows by itself what was said before it, and the band an alarm.
+// What is seen beside the finger: a question shows by itself what was said before it, the band an alarm, and the sheet
+// after a loss of power what was never cut.
 function noticed(s) {
   if (!s.yours || s.question) return [];
   return s.alarm ? ['refused'] : ['refused', 'warning'];
