@@ -98,6 +98,11 @@ class Axes:
             self._end(f"the {cause.replace('_', ' ')} is on")
         self.machine = self.stands
 
+    def release(self) -> None:
+        """Somebody releases the emergency stop; the alarm stands."""
+        self.stands = replace(self.stands, on=())
+        self.machine = self.stands
+
     def end_alarm(self) -> None:
         """The machine's place is known again."""
         self.word = "broken" if self.drops_lines else "moved"

@@ -6,6 +6,7 @@ import re
 import signal
 import time
 from collections.abc import Callable
+from contextlib import suppress
 from pathlib import Path
 
 from session_support import PATIENCE_S, InFolder, ngc
@@ -200,7 +201,11 @@ class Served(InFolder):
         os.unlink("progress")
 
     def children(self) -> list[int]:
-        """The processes of `ngc` that the server started."""
+        """The processes of `ngc` that the server started; others may end meanwhile."""
         lists = Path(f"/proc/{self.server.pid}/task").glob("*/children")
-        pids = [int(pid) for path in lists for pid in path.read_text().split()]
-        return [pid for pid in pids if Path(f"/proc/{pid}/exe").resolve() == Path(ngc()).resolve()]
+        found, pids = [], [int(pid) for path in lists for pid in path.read_text().split()]
+        for pid in pids:
+            with suppress(FileNotFoundError, ProcessLookupError):
+                if Path(f"/proc/{pid}/exe").resolve() == Path(ngc()).resolve():
+                    found.append(pid)
+        return found
