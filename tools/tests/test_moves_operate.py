@@ -224,6 +224,21 @@ class Alarms(Core):
         self.assertEqual(self.do("home"), ["home: the emergency stop is on"])
         self.assertEqual(self.do("G0 X1"), [self.NOTHING.replace("EMERGENCY STOP", "LIMIT X LOW")])
 
+    def test_seen(self) -> None:
+        """Once it is said the session has it from the player: a page shows both at once."""
+        self.begin(self.link)
+        had, say = [], self.face.say
+
+        def see(text: str, *kind: str) -> None:
+            machine = self.operator.session.machine
+            had.append((text, machine and machine.alarm))
+            say(text, *kind)
+
+        self.face.say = see
+        self.axes.alarm("emergency_stop")
+        self.do("run")
+        self.assertEqual(had[0], (self.STOPPED, "emergency_stop"))
+
     def test_outputs(self) -> None:
         """An alarm turns spindle and coolant off, and so does a player that begins: a program that goes on with them is
         asked about, with a line that switches them on."""

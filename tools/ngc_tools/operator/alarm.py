@@ -106,11 +106,12 @@ class Alarm:
             pass
 
     def _cause(self) -> str:
-        """What it came by, with the switches that are on."""
+        """What it came by, with the switches that are on; the session sees it before anything is said of it."""
         try:
             machine = self.session.meter.link.machine()
         except NoAnswer:
             return "alarm"
+        self.session.see_machine(machine)
         on = [_limit(name) for name in machine.on if name.startswith("limit_")]
         return " and ".join(on) if machine.alarm == "limits" and on else _CAUSES.get(machine.alarm, "alarm")
 
