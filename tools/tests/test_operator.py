@@ -787,6 +787,20 @@ class Loads(Core):
         self.do("run")
         self.assertEqual(self.face.asked, [])
 
+    def test_unset_length_again(self) -> None:
+        """Over the next part too, which begins where the one before ended: another line moves Z first, and the same
+        length counts."""
+        self.begin()
+        self.do("tool 1 0.5")
+        self.load("G17 G21 G90 G94\nG0 Z0.02\nG0 Z0.01\nG0 Z0.02\nM2\n")
+        for _ in range(2):
+            self.do("run")
+            self.assertEqual((self.face.asked, self.status().at[2]), ([], "0.020000"))
+        self.do("G43 H1", "G0 Z0.02")
+        said = self.do("run", answers=("no",))
+        self.assertEqual([text for text in said if text.startswith("line 3: it moves Z before it sets G43")], said)
+        self.assertEqual(self.face.asked, ["begin all the same? yes begins: "])
+
 
 class Shown(Core):
     """What stands, for a person at the machine."""
