@@ -113,7 +113,7 @@ class NeverCutSearch:
         if asked is self._asked:
             earlier = self._kept(asked, told) if told["lines"] else self._earlier
             self._take(told | {"earlier": _plain(earlier)})
-            self._face.say(told["words"], SAID if told["words"] == _KEPT else UNCUT)
+            self._face.say(told["words"], UNCUT if told["lines"] else SAID if told["words"] == _KEPT else WARNING)
             self._tell(earlier)
 
     def _kept(self, asked: LossRequest, told: dict) -> list[Loss]:
