@@ -99,7 +99,7 @@ class Examples(InFolder):
                 shown = self.operate(delete + "run\n" + agreed + "run\n" * 2 + "quit\n")
                 self.assertEqual(shown.count(ASKS), int(name in UNSET), shown)
                 if name in UNSET:
-                    self.assertIn(f"line {UNSET[name]}: it moves Z before it sets G43 or G49, and no tool length", shown)
+                    self.assertIn(f"line {UNSET[name]}: it moves Z before it sets G43 or G49, and no tool", shown)
                 ends = " ".join(f"{axis} {millimetres(nm)}" for axis, nm in zip("XYZ", (x, y, z), strict=True))
                 self.assertIn(f"idle; {ends}; next line ", shown)
                 status, said, error = played("--untimed", "--no-ask-tool", "--at", "0", "0", "0", "out", "coarse.toml",
