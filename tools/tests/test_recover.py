@@ -160,6 +160,17 @@ class Going:
                                        *PATH.decode().splitlines()[2:], "off"])
         self.assertTrue(record().endswith(WHOLE_RECORD))
 
+    def test_half_of_legs(self) -> None:
+        """No leg goes down at a rate that nobody named, and no rate is named for nothing."""
+        before = record()
+        for words in (("--go-to-line", "2", "--yes", "--lift", "1"), ("--go-to-line", "2", "--yes", "--feed", "1"),
+                      ("--feed", "1")):
+            status, said = self.go(*words)
+            self.assertEqual((status, self.pins()), (2, []), words)
+            self.assertTrue(said.endswith(": --lift Z and --feed RATE go together: so fast the last leg goes, down into"
+                                          " the work\n"), said)
+        self.assertEqual(record(), before)
+
     def test_refused(self) -> None:
         """What doesn't belong together is named, and nothing moves."""
         shutil.copy("out", "copy")
