@@ -860,6 +860,17 @@ class Given(unittest.TestCase):
         session._work()
         self.assertEqual(done, ["reference", "single on", "run"])
 
+    def test_finished(self) -> None:
+        """A program that ran to its end isn't finished any more once another run, a move or a load is given, though
+        that isn't begun yet; other commands leave it finished."""
+        for word, is_finished in (("run", False), ("home", False), ("load", False), ("zero", True), ("tool", True)):
+            session = PageSession.__new__(PageSession)
+            session.face, session._wake, session.over = PageFace(), threading.Condition(), threading.Event()
+            session.ended, session.under, session._next, session._stops = "", None, None, False
+            session.is_finished = True
+            session.give(word, lambda: None)
+            self.assertEqual((session.is_busy, session.is_finished), (True, is_finished), word)
+
 
 class HeldJogs(unittest.TestCase):
     """The wish to jog, as pages repeat it."""

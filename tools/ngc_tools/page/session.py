@@ -207,6 +207,8 @@ class PageSession:
             if self.is_busy:
                 raise Busy("something runs: hold first")
             command = self._next = self._command(word, does)
+            if word in MOVES | {"load"}:
+                self.is_finished = False  # at once: no page is told that what runs is finished
             self._wake.notify_all()
         return command
 
@@ -437,7 +439,6 @@ class PageSession:
         """Does a command, and sees how it ended."""
         self.face.begin(command.holds)
         if command.word in MOVES | {"load"}:
-            self.is_finished = False
             self.held_from = "" if self.face.holds == command.holds else self.held_from
         self.face.publish()
         before = self.stand.status
