@@ -381,6 +381,19 @@ class Work(InBrowser):
         self.assertEqual(self.browser.js("window.failed"), 5)
         self.no_complaints()
 
+    def test_drawn_anew(self) -> None:
+        """Once another program is loaded nothing is shown that was drawn of the one before."""
+        browser = self.browser
+        self.load(SLOW, 4)
+        browser.js("""void (window.fetched = window.fetch,
+            window.fetch = (what, ...more) => what === 'job' ? new Promise(() => {}) : fetched(what, ...more))""")
+        self.choose("M2\n", "other.ngc")
+        browser.press("Load", "#over button")
+        browser.wait("ngc.state.program.lines === 1 && !ngc.state.busy")
+        shown = browser.js("[ngc.job, ngc.picture.job, document.getElementById('share').textContent]")
+        self.assertEqual(shown, [None, None, "The path is being drawn\u2026"])
+        self.no_complaints()
+
     def test_hold_at_once(self) -> None:
         """From the touch to the word Held, while programs are checked: by the median less than 50 ms of a machine that
         has time for it."""

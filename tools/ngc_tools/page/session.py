@@ -319,9 +319,9 @@ class PageSession:
             """Whether it is stored; then it is drawn."""
             if not self.operator.load(name, text):
                 return False
-            self.name, self.program_id, self.started = name, self.program_id + 1, 0.0
             self.never_cut.forget()
             self.face.message = ""
+            self.name, self.program_id, self.started = name, self.program_id + 1, 0.0
             self._draw()
             return True
         return bool(self.ask("load", does, 600))

@@ -55,6 +55,7 @@ function show(s) {
     location.reload(); // what is on the page is of another session
     return;
   }
+  if (app.state && app.state.program.id !== s.program.id) letGoOfJob();
   app.state = s;
   app.isRest = !s.busy && s.half === 'none' && !s.ended && s.yours && !s.player_gone;
   app.isFree = s.yours && !s.ended && !s.player_gone && !s.alarm && !s.broken; // settings are taken
@@ -232,6 +233,14 @@ async function fetchOnce(name, id, what, shows) {
   const got = await get(what).catch(() => null);
   if (app[name] !== id) return;
   if (got) shows(got); else app[name] = null;
+}
+
+// What was drawn is of another program.
+function letGoOfJob() {
+  Object.assign(app, { job: null, jobId: null, failed: '', neverCut: null });
+  picture.lost = [];
+  $('never-cut').hidden = true;
+  picture.show(null, app.travel);
 }
 
 function showJob(got) {
