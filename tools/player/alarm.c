@@ -11,6 +11,7 @@
 #include "home.h"
 #include "inputs.h"
 #include "manual.h"
+#include "off.h"
 #include "play_parts.h"
 #include "sink_link.h"
 #include "sink_play.h"
@@ -106,6 +107,7 @@ static void begin_alarm(struct play *play, uint32_t hits) {
         link_stop(true);
     }
     switch_off(play);
+    off_forget(player);
     player_lock(player);
     player->alarm = is_stop ? EMERGENCY_STOP : LIMITS;
     player->stopped = alarm_word(player->alarm);
@@ -225,6 +227,9 @@ bool alarm_wait(struct play *play) {
             say("%s: %s spindle and coolant off", play->options->out, play->why.text);
         }
         doze(play);
+        if (anew_is_wanted(player) && !anew_begin(play)) {
+            return false;
+        }
         goes_on = !alarm_stands(player) && !player->is_broken;
     }
     schedule_pause(&play->schedule);

@@ -13,11 +13,11 @@
 #include <unistd.h>
 
 #include "askers.h"
-#include "machine.h"
+#include "off.h"
+#include "orders.h"
 #include "player.h"
 #include "scan.h"
 #include "schedule.h"
-#include "spindle.h"
 
 enum { QUESTION_ROOM = 192, LOOKS_MS = 50 };
 
@@ -63,10 +63,21 @@ bool answers_open(struct player *player, const char *path, struct cause *why) {
     return true;
 }
 
+/* What comes on again before the next line, since a person switched it off. The lock is held. */
+static void print_again(char *text, size_t room, const struct player *player) {
+    char outputs[OUTPUTS_ROOM];
+    text[0] = '\0';
+    if (player->has_again) {
+        outputs_print(outputs, sizeof outputs, &player->again);
+        snprintf(text, room, " again %s", outputs);
+    }
+}
+
 /* How far the player is, with the lines that stand in OUT now. */
 static void report(struct player *player, char *text, size_t room, const char *question) {
     char place[PLACE_ROOM];
     char outputs[OUTPUTS_ROOM];
+    char again[OUTPUTS_ROOM + 8];
     char does[32];
     int64_t nm[3];
     player_doing(player, does, sizeof does);
@@ -74,9 +85,11 @@ static void report(struct player *player, char *text, size_t room, const char *q
     bool took = source_take_all(&player->source);
     uint64_t lines = player->lines;
     uint64_t received = player->errand.is_there ? errand_line(player) : player->source.received;
-    received += player->manual.is_there && received == lines;
+    bool is_busy = player->manual.is_there || anew_is_wanted(player);
+    received += is_busy && received == lines;
     player_place(player, nm);
     outputs_print(outputs, sizeof outputs, &player->outputs);
+    print_again(again, sizeof again, player);
     player_unlock(player);
     if (took) {
         eventfd_write(player->wake, 1);
@@ -85,35 +98,9 @@ static void report(struct player *player, char *text, size_t room, const char *q
     int percent = atomic_load(&player->percent);
     int spindle = atomic_load(&player->spindle_percent);
     unsigned wants = atomic_load(&player->wants);
-    snprintf(text, room, "%s carried %" PRIu64 " received %" PRIu64 " %s reference %s outputs %s percent %d"
-             " spindle %d wants %u out %s", question, lines, received, does, place, outputs, percent, spindle, wants,
-             player->out);
-}
-
-/* What stands in OUT now is all that comes for now. */
-static void note_last(struct player *player) {
-    player_lock(player);
-    bool took = source_take_all(&player->source);
-    atomic_store(&player->last, source_end(&player->source));
-    player_unlock(player);
-    if (took) {
-        eventfd_write(player->wake, 1);
-    }
-}
-
-/* Takes how many bytes of OUT are on the disk. */
-static void take_synced(struct player *player, uint64_t bytes) {
-    player_lock(player);
-    bool is_heeded = player->source.follows && !player->errand.is_there && player->alarm == NO_ALARM
-        && !player->is_broken;
-    if (is_heeded) {
-        player->source.limit = bytes;
-    }
-    bool took = is_heeded && source_take_all(&player->source);
-    player_unlock(player);
-    if (took) {
-        eventfd_write(player->wake, 1);
-    }
+    snprintf(text, room, "%s carried %" PRIu64 " received %" PRIu64 " %s reference %s outputs %s%s percent %d"
+             " spindle %d wants %u out %s", question, lines, received, does, place, outputs, again, percent, spindle,
+             wants, player->out);
 }
 
 /* Sends the motors where somebody wants them. */
@@ -140,27 +127,6 @@ static bool is_question(const char *text, size_t size, const char *word) {
     return scan_is_over(&scan);
 }
 
-static bool is_word(const char *text, size_t size, const char *word) {
-    return size == strlen(word) && memcmp(text, word, size) == 0;
-}
-
-/* Reads "percent N", or what else the words before it are, 1 to 999. */
-static bool read_percent(const char *text, size_t size, const char *words, int *percent) {
-    struct scan scan = {text, text + size};
-    uint64_t number = 0;
-    if (!scan_word(&scan, words) || !scan_whole(&scan, 3, &number, NULL) || !scan_is_over(&scan)) {
-        return false;
-    }
-    *percent = (int)number;
-    return number >= 1;
-}
-
-/* Reads "synced BYTES". */
-static bool read_synced(const char *text, size_t size, uint64_t *bytes) {
-    struct scan scan = {text, text + size};
-    return scan_word(&scan, "synced ") && scan_whole(&scan, 18, bytes, NULL) && scan_is_over(&scan);
-}
-
 /* What the record on the disk counts. */
 static int kept(struct player *player, char *text, size_t room, const char *question) {
     player_lock(player);
@@ -168,52 +134,6 @@ static int kept(struct player *player, char *text, size_t room, const char *ques
                         player->kept.bytes, player->kept.age_ms);
     player_unlock(player);
     return size;
-}
-
-/* Goes on after a hold, unless the door is open. */
-static void release(struct player *player) {
-    const struct machine *machine = player->machine;
-    if (machine == NULL || !input_is_on(atomic_load(&player->on), machine->inputs.door)) {
-        atomic_store(&player->is_held, false);
-    }
-}
-
-/* Overrides the spindle's speed, if it may be overridden so. */
-static void override_spindle(struct player *player, int percent) {
-    if (percent >= LEAST_SPINDLE_PERCENT && percent <= spindle_most_percent(player->machine)) {
-        atomic_store(&player->spindle_percent, percent);
-        eventfd_write(player->wake, 1);
-    }
-}
-
-/* Does what a datagram asks for that is done at once and not answered. Whether it was one. */
-static bool heed_order(struct player *player, const char *text, size_t size) {
-    int64_t nm[3];
-    int percent = 0;
-    uint64_t bytes = 0;
-    if (is_word(text, size, "go")) {
-        atomic_store(&player->tool, NO_TOOL);
-    } else if (is_word(text, size, "hold")) {
-        atomic_store(&player->is_held, true);
-    } else if (is_word(text, size, "release")) {
-        release(player);
-    } else if (read_percent(text, size, "percent ", &percent) && percent <= player->most_percent) {
-        atomic_store(&player->percent, percent);
-    } else if (read_percent(text, size, "spindle percent ", &percent)) {
-        override_spindle(player, percent);
-    } else if (is_word(text, size, "last")) {
-        note_last(player);
-    } else if (read_synced(text, size, &bytes)) {
-        take_synced(player, bytes);
-    } else if (is_word(text, size, "end")) {
-        note_last(player);
-        atomic_store(&player->has_ended, true);
-    } else if (size > 3 && memcmp(text, "at ", 3) == 0 && place_read(text + 3, size - 3, nm)) {
-        told_place(player, nm);
-    } else {
-        return false;
-    }
-    return true;
 }
 
 /* Does what a datagram asks for; others are left alone. */
@@ -228,7 +148,7 @@ static void heed(struct player *player, const char *text, size_t size, const str
         atomic_store(&player->asked_at, schedule_now());
         report(player, answer, sizeof answer, text);
         length = strlen(answer);
-    } else if (heed_order(player, text, size)) {
+    } else if (order_heed(player, text, size)) {
         return;
     } else if (is_question(text, size, "kept ")) {
         length = (size_t)kept(player, answer, sizeof answer, text);

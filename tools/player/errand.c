@@ -18,10 +18,10 @@ static size_t pass_word(struct scan *scan) {
     return (size_t)(scan->at - begin);
 }
 
-/* Reads "LIFT X Y Z ". */
+/* Reads "LIFT X Y Z ", of a straight line without LIFT. */
 static bool read_legs(struct scan *scan, struct wish *wish) {
     int64_t *const numbers[] = {&wish->lift_nm, &wish->nm[0], &wish->nm[1], &wish->nm[2]};
-    for (int at = 0; at < 4; at++) {
+    for (int at = wish->is_straight ? 1 : 0; at < 4; at++) {
         const char *word = scan->at;
         size_t size = pass_word(scan);
         if (!nm_read(word, size, numbers[at]) || !scan_word(scan, " ")) {
@@ -31,22 +31,54 @@ static bool read_legs(struct scan *scan, struct wish *wish) {
     return true;
 }
 
+/* Reads outputs, up to the end. */
+static bool read_on(const struct scan *scan, struct wish *wish) {
+    wish->is_on = true;
+    return outputs_read(scan->at, (size_t)(scan->end - scan->at), &wish->on);
+}
+
+/* Reads " feed RATE", if it is there. */
+static bool read_feed(struct scan *scan, struct wish *wish) {
+    if (!scan_word(scan, " feed ")) {
+        return true;
+    }
+    const char *word = scan->at;
+    return nm_read(word, pass_word(scan), &wish->nm_per_min) && wish->nm_per_min > 0;
+}
+
 bool wish_read(const char *text, size_t size, struct wish *wish) {
     struct scan scan = {text, text + size};
     memset(wish, 0, sizeof *wish);
-    wish->is_by_legs = scan_word(&scan, "legs ");
+    wish->is_switch = scan_word(&scan, "switch ");
+    if (wish->is_switch) {
+        return read_on(&scan, wish);
+    }
+    wish->is_straight = scan_word(&scan, "straight ");
+    wish->is_by_legs = wish->is_straight || scan_word(&scan, "legs ");
     if (wish->is_by_legs ? !read_legs(&scan, wish) : !scan_word(&scan, "along ")) {
         return false;
     }
-    if (!scan_whole(&scan, 18, &wish->bytes, NULL)) {
+    if (!scan_whole(&scan, 18, &wish->bytes, NULL) || !read_feed(&scan, wish)) {
         return false;
     }
-    wish->is_on = scan_word(&scan, " ");
-    return wish->is_on ? outputs_read(scan.at, (size_t)(scan.end - scan.at), &wish->on) : scan_is_over(&scan);
+    return scan_word(&scan, " ") ? read_on(&scan, wish) : scan_is_over(&scan);
+}
+
+/* One line: the legs before the last one lead nowhere. */
+static void set_straight(const struct player *player, const struct wish *wish, struct errand *errand) {
+    memcpy(errand->legs[0], player->steps, sizeof errand->legs[0]);
+    memcpy(errand->legs[1], player->steps, sizeof errand->legs[1]);
+    for (int axis = 0; axis < 3; axis++) {
+        errand->legs[2][axis] = in_steps(wish->nm[axis], player->step_nm[axis]);
+    }
 }
 
 /* Up, over, and down; false, with the cause, where that isn't above both points. */
 static bool set_legs(struct player *player, const struct wish *wish, struct errand *errand, struct cause *why) {
+    if (wish->is_straight) {
+        set_straight(player, wish, errand);
+        return true;
+    }
     int64_t lift = in_steps(wish->lift_nm, player->step_nm[2]);
     int64_t end = in_steps(wish->nm[2], player->step_nm[2]);
     int64_t highest = (player->steps[2] > end ? player->steps[2] : end) * player->step_nm[2];
@@ -75,6 +107,10 @@ bool errand_take(struct player *player, const struct wish *wish, struct cause *w
     }
     if (player->manual.is_there || player->alarm != NO_ALARM || player->is_broken) {
         return because(why, "it was stopped, or moves without lines");
+    }
+    if (wish->is_switch) {
+        player->errand = errand;
+        return true;
     }
     if (player->is_off && !wish->is_by_legs) {
         return because(why, "the motors were moved off the path of OUT: legs lead back to it");

@@ -1,4 +1,5 @@
-/* What a player does besides OUT's next lines: it goes on to a line of OUT, back to one, or by legs to a point.
+/* What a player does besides OUT's next lines: it goes on to a line of OUT, back to one, by legs or in one straight
+ * line to a point, or switches outputs where it stands.
  *
  * What the record says meanwhile. At each moment the motors are where its `reference` is, and but for legs that is
  * where the first `lines` lines of OUT lead, its first `bytes` bytes: on along the lines both counts grow, and back
@@ -21,9 +22,12 @@ struct wish {
     uint64_t bytes; /* where so many bytes of OUT lead */
     bool is_on;     /* `on` is switched on before */
     struct outputs on;
-    bool is_by_legs; /* up to `lift_nm`, over, and down to `nm` */
+    bool is_switch;   /* that alone: nothing moves */
+    bool is_by_legs;  /* up to `lift_nm`, over, and down to `nm` .. */
+    bool is_straight; /* .. or in one line there */
     int64_t lift_nm;
     int64_t nm[3];
+    int64_t nm_per_min; /* the most of the last leg, and of a way back; 0 for no other than the traverse rate */
 };
 
 /* What is to be done, if it is there. */

@@ -115,6 +115,10 @@ static bool set_legs(const struct play *play, const struct settings *settings, c
     if (!nm_read(lift, strlen(lift), &wish->lift_nm)) {
         return because(why, "not a number of millimetres with at most six decimals: %s", lift);
     }
+    const char *feed = play->options->feed;
+    if (!nm_read(feed, strlen(feed), &wish->nm_per_min) || wish->nm_per_min <= 0) {
+        return because(why, "not a rate in millimetres a minute with at most six decimals: %s", feed);
+    }
     for (int axis = 0; axis < 3; axis++) {
         wish->nm[axis] = sum->steps[axis] * settings->step_nm[axis];
     }

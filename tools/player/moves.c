@@ -16,7 +16,21 @@ static wide whole_root(wide square) {
     return root;
 }
 
-/* Begins a leg: all axes together, at the traverse rate. */
+/* How long so many nanometres take at a rate, rounded up. */
+static uint64_t us_of(wide square, int64_t nm_per_min) {
+    wide rate = (wide)nm_per_min;
+    return (uint64_t)((whole_root(square) * 60000000 + rate - 1) / rate);
+}
+
+/* The rate of the leg under way: that of traverses, of the last one no more than was asked for. */
+static int64_t rate_of_leg(const struct moves *from) {
+    const struct player *player = from->play->player;
+    int64_t most = player->errand.wish.nm_per_min;
+    bool is_slow = from->leg == LEGS - 1 && most > 0 && most < player->traverse_nm_per_min;
+    return is_slow ? most : player->traverse_nm_per_min;
+}
+
+/* Begins a leg: all axes together. */
 static void begin_leg(struct moves *from) {
     const struct player *player = from->play->player;
     const int64_t *end = player->errand.legs[from->leg];
@@ -30,7 +44,7 @@ static void begin_leg(struct moves *from) {
         from->count = llabs(steps) > from->count ? llabs(steps) : from->count;
         square += nm * nm;
     }
-    wide rate = (wide)player->traverse_nm_per_min * (wide)(from->count > 0 ? from->count : 1);
+    wide rate = (wide)rate_of_leg(from) * (wide)(from->count > 0 ? from->count : 1);
     from->us = (uint64_t)((whole_root(square) * 60000000 + rate - 1) / rate);
     from->us = from->us > player->least_us ? from->us : player->least_us;
 }
@@ -63,10 +77,34 @@ static bool next_pulse(struct moves *from, struct move *move) {
     return true;
 }
 
+/* The next move back along OUT: no pulse is faster than was asked for. */
+static enum step next_back(struct moves *from, struct move *move, struct cause *why) {
+    enum step step = way_next(&from->way, move, why);
+    const struct line *line = &move->line;
+    if (step == MOVE && move->is_done && line->kind == 'P') {
+        uint64_t least = from->least_us[(line->step[0] != 0) + 2 * (line->step[1] != 0) + 4 * (line->step[2] != 0)];
+        move->line.us = line->us > least ? line->us : least;
+    }
+    return step;
+}
+
+/* What each pulse of a way back takes at least. */
+static void set_least(struct moves *from) {
+    const struct player *player = from->play->player;
+    for (int axes = 0; axes < 8; axes++) {
+        wide square = 0;
+        for (int axis = 0; axis < 3; axis++) {
+            wide nm = (wide)((axes >> axis & 1) * player->step_nm[axis]);
+            square += nm * nm;
+        }
+        from->least_us[axes] = player->errand.wish.nm_per_min > 0 ? us_of(square, player->errand.wish.nm_per_min) : 0;
+    }
+}
+
 enum step moves_next(struct moves *from, struct move *move, struct cause *why) {
     const struct errand *errand = &from->play->player->errand;
     if (!from->is_by_legs) {
-        return way_next(&from->way, move, why);
+        return next_back(from, move, why);
     }
     bool is_there = from->has_later;
     *move = from->later;
@@ -89,5 +127,6 @@ void moves_begin(struct moves *from, struct play *play) {
         from->has_later = next_pulse(from, &from->later);
     } else {
         way_begin(&from->way, &player->source, player->lines, player->bytes, player->errand.bytes, play->least_us);
+        set_least(from);
     }
 }

@@ -16,6 +16,7 @@ struct moves {
     uint64_t us;      /* .. of so many microseconds .. */
     int64_t begun[3]; /* .. from here .. */
     int64_t at[3];    /* .. to here, now */
+    uint64_t least_us[8]; /* back: of a pulse that moves X (1), Y (2) and Z (4) */
     bool has_later;   /* the pulse that comes next: with the last one the counts change */
     struct move later;
 };

@@ -9,7 +9,7 @@
 #include "record.h"
 
 static const char usage[] = "usage: player [-unrtfyc] [-a X Y Z] [-o SECONDS] [-b BYTES] [-s SOCKET] [-p PINS]"
-                            " [-m FILE] [-i FILE] [-g LINE] [-l Z] OUT SETTINGS POSITION";
+                            " [-m FILE] [-i FILE] [-g LINE] [-l Z -e RATE] OUT SETTINGS POSITION";
 
 static const struct option words[] = {
     {"untimed", no_argument, NULL, 'u'},        {"anew", no_argument, NULL, 'n'},
@@ -19,7 +19,8 @@ static const struct option words[] = {
     {"pins", required_argument, NULL, 'p'},     {"machine", required_argument, NULL, 'm'},
     {"times", required_argument, NULL, 'i'},    {"follow", no_argument, NULL, 'f'},
     {"go-to-line", required_argument, NULL, 'g'}, {"lift", required_argument, NULL, 'l'},
-    {"yes", no_argument, NULL, 'y'},            {"across-tools", no_argument, NULL, 'c'},
+    {"feed", required_argument, NULL, 'e'},     {"yes", no_argument, NULL, 'y'},
+    {"across-tools", no_argument, NULL, 'c'},
     {NULL, 0, NULL, 0},
 };
 
@@ -111,6 +112,9 @@ static bool read_option(int option, int count, char **given, struct options *opt
     case 'l':
         options->lift = optarg;
         return true;
+    case 'e':
+        options->feed = optarg;
+        return true;
     case 'y':
         options->is_agreed = true;
         return true;
@@ -125,18 +129,21 @@ static bool read_option(int option, int count, char **given, struct options *opt
 bool options_read(int count, char **given, struct options *options, struct cause *why) {
     *options = (struct options){.pipe_bytes = 4096, .off_after_ns = INT64_C(10000000000)};
     opterr = 0;
-    int option = getopt_long(count, given, "unrtfyca:o:b:s:p:m:i:g:l:", words, NULL);
+    int option = getopt_long(count, given, "unrtfyca:o:b:s:p:m:i:g:l:e:", words, NULL);
     while (option != -1) {
         if (!read_option(option, count, given, options, why)) {
             return false;
         }
-        option = getopt_long(count, given, "unrtfyca:o:b:s:p:m:i:g:l:", words, NULL);
+        option = getopt_long(count, given, "unrtfyca:o:b:s:p:m:i:g:l:e:", words, NULL);
     }
     if (count - optind != 3) {
         return because(why, "%s", usage);
     }
     if (!options->goes && (options->lift != NULL || options->crosses_tools || options->is_agreed)) {
         return because(why, "--lift, --across-tools and --yes go with --go-to-line B");
+    }
+    if ((options->lift == NULL) != (options->feed == NULL)) {
+        return because(why, "--lift Z and --feed RATE go together: so fast the last leg goes, down into the work");
     }
     options->out = given[optind];
     options->settings = given[optind + 1];

@@ -17,7 +17,8 @@ struct options {
     uint64_t goes_to;   /* .. which is this .. */
     bool is_agreed;     /* .. without a question .. */
     bool crosses_tools; /* .. past tool changes too .. */
-    const char *lift;   /* .. by legs over this height; NULL for none */
+    const char *lift;   /* .. by legs over this height; NULL for none .. */
+    const char *feed;   /* .. of which the last one goes at this rate, in millimetres a minute */
     bool has_place;
     int64_t place_nm[3];
     int64_t off_after_ns;

@@ -5,6 +5,7 @@
 #include <string.h>
 #include <sys/eventfd.h>
 
+#include "off.h"
 #include "pace.h"
 #include "play_parts.h"
 #include "sink_link.h"
@@ -147,7 +148,8 @@ static bool has_to_be_told(struct play *play) {
 
 /* The square that is wanted: 0 where somebody asks for a rest. */
 static uint64_t wanted(struct play *play) {
-    if (is_rest_asked(play) || atomic_load(&play->player->is_held) || has_to_be_told(play)) {
+    bool is_to_rest = is_rest_asked(play) || anew_is_wanted(play->player) || atomic_load(&play->player->is_held);
+    if (is_to_rest || has_to_be_told(play)) {
         return 0;
     }
     return pace_wanted(&pace, (unsigned)atomic_load(&play->player->percent));
@@ -170,6 +172,18 @@ static enum end make_extra(struct play *play, const struct line *line, uint64_t 
     return make_move(play, &move, ns);
 }
 
+/* Waits for what has to be before a line, and has come on what a person switched off; `square` is what is wanted then.
+ */
+static enum end prepare(struct play *play, const struct line *line, uint64_t *square) {
+    bool is_back = false;
+    if (!is_prepared(play, line)) {
+        return STOPPED;
+    }
+    enum end end = off_is_over(play, line, &is_back);
+    *square = is_back ? wanted(play) : *square;
+    return end;
+}
+
 /* Carries out the next line, if one is to be: `is_given` says so. */
 static enum end carry_out_next(struct play *play, bool *is_given) {
     const struct ahead *ahead = line_at(pace.first);
@@ -177,8 +191,11 @@ static enum end carry_out_next(struct play *play, bool *is_given) {
     uint64_t ns = 0;
     *is_given = false;
     uint64_t ramp = pace.lines[pace.first % PACE_ROOM].ramp;
-    if (pace.first < pace.final && square != 0 && !is_prepared(play, &ahead->line)) {
-        return STOPPED;
+    if (pace.first < pace.final && square != 0) {
+        enum end end = prepare(play, &ahead->line, &square);
+        if (end != AT_OUTS_END) {
+            return end;
+        }
     }
     if (!pace_next(&pace, square, &ns)) {
         return AT_OUTS_END;

@@ -7,6 +7,7 @@
 #include <string.h>
 #include <sys/eventfd.h>
 
+#include "off.h"
 #include "pins.h"
 #include "play_parts.h"
 #include "sink_link.h"
@@ -26,6 +27,9 @@ static void count(struct play *play, const struct line *line, size_t size) {
     backlash_take(&play->player->backlash, play->player->screws, line, false);
     if (line->kind == 'S') {
         play->player->outputs = line->outputs;
+    }
+    if (line->kind == 'S' && play->player->has_again) { /* switched off amid the wait for the spindle */
+        outputs_stop(&play->player->outputs);
     }
     play->player->lines++;
     play->player->bytes += size;
@@ -92,6 +96,9 @@ bool take_line(struct play *play, char *line, size_t *size) {
         is_there = source_next(&play->player->source, line, size);
     }
     player_unlock(play->player);
+    if (is_there && atomic_load(&play->player->stays)) {
+        atomic_store(&play->player->stays, false);
+    }
     return is_there;
 }
 
@@ -115,6 +122,9 @@ enum end await_more(struct play *play, bool *has_ended) {
     }
     if (is_left(play) && (!shared->source.is_pipe || (on[0].revents & (POLLHUP | POLLIN)) == POLLHUP)) {
         return end_of_session(play, has_ended);
+    }
+    if ((on[0].revents & (POLLHUP | POLLIN)) == POLLHUP) {
+        poll(NULL, 0, SLICE_MS / 4); /* another session follows: the poll above doesn't wait */
     }
     play->left_at = 0;
     return AT_OUTS_END;
@@ -195,6 +205,11 @@ static enum end carry_out_all(struct play *play) {
         if (!is_ready(play, &line)) {
             return STOPPED;
         }
+        bool is_back = false;
+        end = off_is_over(play, &line, &is_back);
+        if (end != AT_OUTS_END) {
+            return end;
+        }
         end = carry_out(play, &line, text, size, lasts_ns(&line));
         if (end != AT_OUTS_END) {
             return end;
@@ -227,14 +242,22 @@ void play_begin(struct play *play) {
     }
 }
 
-/* Carries out lines, and goes on once an alarm is over. */
+/* Whether it goes on where it stopped: once an alarm is over, or with another session. */
+static bool goes_on_after(struct play *play) {
+    if (alarm_stands(play->player)) {
+        return alarm_wait(play);
+    }
+    return anew_is_wanted(play->player) && anew_begin(play);
+}
+
+/* Carries out lines, and goes on once an alarm is over, and where another session follows. */
 static enum end carry_out_lines(struct play *play) {
     enum end end = STOPPED;
     bool goes_on = !alarm_stands(play->player) || alarm_wait(play);
     while (goes_on) {
         play_begin(play);
         end = play->options->machine != NULL ? carry_out_paced(play) : carry_out_all(play);
-        goes_on = end == STOPPED && alarm_stands(play->player) && alarm_wait(play);
+        goes_on = end == STOPPED && goes_on_after(play);
     }
     return end;
 }

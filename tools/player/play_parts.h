@@ -27,6 +27,9 @@ enum end stop_at_line(struct play *play, const struct cause *what);
 /* At OUT's end: a part of a line isn't carried out. */
 enum end end_of_out(struct play *play);
 
+/* retrace.c: sets outputs, but for the tool, which stays in the spindle, and waits for the spindle. */
+enum end switch_on(struct play *play, const struct outputs *outputs);
+
 /* Turns spindle and coolant off, and notes it; says so if that fails. */
 bool switch_off(struct play *play);
 

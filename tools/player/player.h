@@ -46,6 +46,8 @@ struct player {
     const char *stopped; /* what ended it before OUT's end, in a word; "" */
     struct errand errand;
     struct manual manual;
+    struct outputs again; /* what a person switched off, amid lines: it comes on again before the next one that .. */
+    bool has_again;       /* .. doesn't say itself what is on */
     unsigned homed;      /* the axes that were homed since it began and no alarm came; bit 0 is X */
     bool is_off;         /* the motors left the path of OUT by a move without lines, and no line came since .. */
     bool knows_left;     /* .. and it is known where .. */
@@ -65,8 +67,12 @@ struct player {
     atomic_bool is_held;      /* somebody asks for a rest */
     atomic_bool is_untold;    /* they moved without lines, and nobody said since that `ngc` knows where they are */
     atomic_bool stands_held;  /* it has come to rest for that */
-    atomic_bool waits_spindle; /* a switch waits until the spindle is at its speed */
+    atomic_bool waits_spindle; /* a switch waits until the spindle is at its speed .. */
+    atomic_bool turns;        /* .. or for the seconds that it takes */
     atomic_uint on;           /* the inputs that are on, as they were looked at last */
+    atomic_bool wants_off;    /* spindle and coolant are to go off */
+    atomic_bool wants_anew;   /* the session is over, and another one follows .. */
+    atomic_bool stays;        /* .. for which it waits, though nobody writes OUT meanwhile */
     atomic_bool manual_stops; /* the move without lines is to end */
     _Atomic int64_t kept_up_at; /* when a jog was asked for last */
     atomic_int percent;       /* of OUT's rates */

@@ -1,4 +1,4 @@
-/* An errand, done: back along OUT, or by legs, each move in its time, or by ramps. */
+/* An errand, done: back along OUT, by legs, or a switch alone; each move in its time, or by ramps. */
 #define _GNU_SOURCE
 #include <inttypes.h>
 #include <poll.h>
@@ -6,6 +6,7 @@
 #include <string.h>
 
 #include "moves.h"
+#include "off.h"
 #include "pace.h"
 #include "pins.h"
 #include "play_parts.h"
@@ -95,8 +96,11 @@ static enum end go_unpaced(struct play *play) {
             }
         }
         atomic_store(&play->player->stands_held, false);
-        if (make_move(play, &move, move.line.us * 1000) == FAILED) {
-            return FAILED;
+        bool is_back = false;
+        enum end end = off_is_over(play, &move.line, &is_back);
+        end = end == AT_OUTS_END ? make_move(play, &move, move.line.us * 1000) : end;
+        if (end != AT_OUTS_END) {
+            return end;
         }
     }
     return step == NO_LINE ? stop_at_line(play, &what) : AT_OUTS_END;
@@ -148,14 +152,46 @@ static void begin_screws(struct player *player) {
     has_next = false;
 }
 
+/* Makes the next move that is known, which lasts so long; one that isn't to be done is counted. */
+static enum end make_next(struct play *play, uint64_t ns, uint64_t ramp) {
+    const struct move *move = &ahead[first_ahead % PACE_ROOM];
+    play->is_moving = pace.square != 0;
+    atomic_store(&play->player->stands_held, false);
+    first_ahead++;
+    if (link_is_there()) {
+        link_give(move, ns, ramp, !play->is_moving);
+        return AT_OUTS_END;
+    }
+    return make_move(play, move, ns);
+}
+
+/* Makes the next move that is known, or waits a little at rest, where it is to rest. */
+static enum end go_on(struct play *play) {
+    const struct move *move = &ahead[first_ahead % PACE_ROOM];
+    bool is_held = is_rest_asked(play) || anew_is_wanted(play->player) || atomic_load(&play->player->is_held);
+    uint64_t wanted = is_held ? 0 : pace_wanted(&pace, (unsigned)atomic_load(&play->player->percent));
+    uint64_t ramp = pace.lines[pace.first % PACE_ROOM].ramp;
+    uint64_t ns = 0;
+    bool is_back = false;
+    enum end end = move->is_done && wanted != 0 ? off_is_over(play, &move->line, &is_back) : AT_OUTS_END;
+    if (end != AT_OUTS_END) {
+        return end;
+    }
+    if (move->is_done && !pace_next(&pace, is_back ? 0 : wanted, &ns)) {
+        play->is_moving = false;
+        return rest(play) ? AT_OUTS_END : STOPPED;
+    }
+    return make_next(play, ns, ramp);
+}
+
 static enum end go_paced(struct play *play) {
     bool is_all = false;
     struct cause what;
+    enum end end = AT_OUTS_END;
     pace_begin(&pace, &play->machine.limits);
     first_ahead = end_ahead = 0;
     begin_screws(play->player);
     while (!is_all || first_ahead < end_ahead) {
-        uint64_t ns = 0;
         if (!is_ready(play)) {
             return STOPPED;
         }
@@ -165,26 +201,9 @@ static enum end go_paced(struct play *play) {
         if (!play->is_moving) {
             schedule_pause(&play->schedule); /* as long as it took to read */
         }
-        const struct move *move = &ahead[first_ahead % PACE_ROOM];
-        bool is_held = is_rest_asked(play) || atomic_load(&play->player->is_held);
-        uint64_t ramp = pace.lines[pace.first % PACE_ROOM].ramp;
-        uint64_t wanted = is_held ? 0 : pace_wanted(&pace, (unsigned)atomic_load(&play->player->percent));
-        if (first_ahead < end_ahead && move->is_done && !pace_next(&pace, wanted, &ns)) {
-            play->is_moving = false;
-            if (!rest(play)) {
-                return STOPPED;
-            }
-            continue;
-        }
-        if (first_ahead < end_ahead) {
-            play->is_moving = pace.square != 0;
-            atomic_store(&play->player->stands_held, false);
-            first_ahead++;
-            if (link_is_there()) {
-                link_give(move, ns, ramp, !play->is_moving);
-            } else if (make_move(play, move, ns) == FAILED) {
-                return FAILED;
-            }
+        end = first_ahead < end_ahead ? go_on(play) : AT_OUTS_END;
+        if (end != AT_OUTS_END) {
+            return end;
         }
     }
     play->is_moving = false;
@@ -202,8 +221,7 @@ static enum end switch_sink_on(struct play *play, const struct line *line, const
     return sink_await_rest(play) && sink_is_at_speed(play, before, &line->outputs) ? AT_OUTS_END : STOPPED;
 }
 
-/* Sets outputs, but for the tool, which stays in the spindle, and waits for the spindle. */
-static enum end switch_on(struct play *play, const struct outputs *outputs) {
+enum end switch_on(struct play *play, const struct outputs *outputs) {
     struct line line = {.kind = 'S', .outputs = *outputs};
     char text[LONGEST_LINE];
     line.outputs.slot = play->player->outputs.slot;
@@ -254,17 +272,21 @@ enum end do_errand(struct play *play) {
     const struct errand *errand = &player->errand;
     enum end end = AT_OUTS_END;
     schedule_pause(&play->schedule);
+    off_forget(player); /* it says itself what is on */
     if (errand->wish.is_on) {
         end = switch_on(play, &errand->wish.on);
     }
-    if (end == AT_OUTS_END && (errand->wish.is_by_legs || errand->bytes < player->bytes)) {
+    bool moves_back = errand->wish.is_by_legs || errand->bytes < player->bytes;
+    if (end == AT_OUTS_END && !errand->wish.is_switch && moves_back) {
         moves_begin(&moves, play);
         end = play->options->machine != NULL ? go_paced(play) : go_unpaced(play);
         end = end == AT_OUTS_END && !is_ready(play) ? STOPPED : end;
     }
     if (end == AT_OUTS_END) {
         player_lock(player);
-        arrive(player);
+        if (!errand->wish.is_switch) {
+            arrive(player);
+        }
         player->errand.is_there = false;
         player_unlock(player);
     }

@@ -7,6 +7,7 @@
 #include <string.h>
 
 #include "inputs.h"
+#include "off.h"
 #include "pins.h"
 #include "sink_link.h"
 #include "waits.h"
@@ -73,7 +74,7 @@ static bool wait_held(struct play *play) {
         }
     }
     atomic_store(&player->stands_held, false);
-    return true;
+    return off_ends_in_wait(play);
 }
 
 /* The spindle wasn't at its speed in time: held, or stopped where nobody could release it. */
@@ -96,7 +97,9 @@ static bool wait_at_speed(struct play *play) {
     const struct inputs *inputs = &play->machine.inputs;
     int64_t until = schedule_now() + inputs->at_speed_ns;
     bool goes_on = !has_to_stop(play);
-    while (goes_on && !input_is_on(atomic_load(&play->player->on), inputs->spindle_at_speed)) {
+    while (goes_on
+           && (play->player->has_again
+               || !input_is_on(atomic_load(&play->player->on), inputs->spindle_at_speed))) {
         poll(NULL, 0, LOOKS_MS);
         goes_on = !has_to_stop(play);
         if (goes_on && schedule_now() >= until) {
@@ -124,6 +127,8 @@ bool spindle_wait_at_speed(struct play *play, const struct outputs *before, cons
 }
 
 bool spindle_wait(struct play *play, const struct outputs *before, const struct outputs *now) {
-    bool turns = now->spindle != before->spindle;
-    return (!turns || wait_for(play, play->machine.spindle_ns)) && spindle_wait_at_speed(play, before, now);
+    atomic_store(&play->player->turns, now->spindle != before->spindle);
+    bool goes_on = !atomic_load(&play->player->turns) || wait_for(play, play->machine.spindle_ns);
+    atomic_store(&play->player->turns, false);
+    return goes_on && spindle_wait_at_speed(play, before, now);
 }

@@ -8,6 +8,7 @@
 #include <time.h>
 
 #include "askers.h"
+#include "off.h"
 #include "person.h"
 #include "sink_play.h"
 #include "spindle.h"
@@ -43,6 +44,7 @@ bool has_to_stop(struct play *play) {
         return true;
     }
     if ((play->is_moving || sink_is_moving()) && asked < 2) {
+        atomic_store(&play->player->wants_off, false);
         return false;
     }
     if (asked > 0) {
@@ -53,7 +55,10 @@ bool has_to_stop(struct play *play) {
         note_stop(play, "record");
         return !because(&play->why, "stopped after line %" PRIu64 ": the record can't be kept;", play->player->lines);
     }
-    return false;
+    if (anew_is_wanted(play->player)) {
+        return !because(&play->why, "another session follows, after line %" PRIu64 ";", play->player->lines);
+    }
+    return !off_heed(play);
 }
 
 /* Waits until a moment; false where the play has to stop before. */
@@ -77,8 +82,18 @@ bool wait_for(struct play *play, int64_t ns) {
     return ns == 0 || wait_until(play, schedule_now() + ns);
 }
 
+/* Whether another session follows, and isn't there yet. */
+static bool awaits_another(const struct play *play) {
+    const struct player *player = play->player;
+    return atomic_load(&player->stays)
+        && schedule_now() < atomic_load(&player->asked_at) + play->options->off_after_ns;
+}
+
 bool is_left(struct play *play) {
     struct player *player = play->player;
+    if (awaits_another(play)) {
+        return false;
+    }
     if (player->source.follows) {
         bool was_asked = atomic_load(&player->asked_at) != 0;
         return atomic_load(&player->has_ended)

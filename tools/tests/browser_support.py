@@ -24,7 +24,7 @@ WORDS = ("--headless=new", "--no-sandbox", "--disable-gpu", "--no-first-run", "-
          "--disable-dev-shm-usage", "--remote-debugging-pipe")
 _POINT = """(() => {
     const found = [...document.querySelectorAll(%s)].filter(one => one.offsetParent !== null && !one.disabled
-        && one.textContent.includes(%s)).pop();
+        && !one.closest('[inert]') && one.textContent.includes(%s)).pop();
     if (!found) return null;
     found.scrollIntoView({block: 'nearest'});
     const box = found.getBoundingClientRect();
@@ -100,8 +100,13 @@ class Browser:
         x, y = self.wait(_POINT % (json.dumps(within), json.dumps(says)))
         return x, y
 
+    def hurry(self) -> None:
+        """Buttons of the page that come to mean something else are dead for a moment, in the place of a second."""
+        self.js("void (ngc.dead.ms = 50)")
+
     def fill(self, entry: str, text: str) -> None:
-        """Types into an entry, in the place of what stands there."""
+        """Types into an entry, in the place of what stands there, once it is one that isn't dead."""
+        self.wait(f"document.querySelector({json.dumps(entry)} + ':not(:disabled, [inert] *)') !== null")
         self.js(f"(() => {{ const entry = document.querySelector({json.dumps(entry)}); entry.focus();"
                 " entry.select(); })()")
         self.type(text)

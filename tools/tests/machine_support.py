@@ -28,6 +28,7 @@ class Axes:
         self.refuses = self.fails = ""
         self.switches = "XYZ"
         self.word = "works"
+        self.drops_lines = False  # lines are in hand as an alarm comes
         self.stands = MoveReport("stands")
         self.machine = self.stands
         self.words: list[str] = []
@@ -97,9 +98,14 @@ class Axes:
             self._end(f"the {cause.replace('_', ' ')} is on")
         self.machine = self.stands
 
+    def release(self) -> None:
+        """Somebody releases the emergency stop; the alarm stands."""
+        self.stands = replace(self.stands, on=())
+        self.machine = self.stands
+
     def end_alarm(self) -> None:
         """The machine's place is known again."""
-        self.word = "moved"
+        self.word = "broken" if self.drops_lines else "moved"
         self.stands = replace(self.stands, alarm="")
         self.machine = self.stands
 
@@ -199,6 +205,11 @@ class MachineLink:
     def last(self) -> None:
         """Nothing more comes for now."""
 
+    def anew(self) -> None:
+        """Another session follows."""
+        self.carried = Path("out").read_bytes().count(b"\n")
+        self.axes.word, self.axes.drops_lines = "moved", False
+
     def at(self, place: str) -> None:
         """Takes where the machine stands."""
         self.axes.stand_at(list(map(nanometres, place.split())))
@@ -217,6 +228,7 @@ class SocketMachine:
         self.listener = Listener("progress")
         self.out = out
         self.others: list[bytes] = []
+        self.received, self.is_held = 0, False  # so many lines are in hand
         self.over = threading.Event()
         self.thread = threading.Thread(target=self._work)
         self.thread.start()
@@ -230,11 +242,16 @@ class SocketMachine:
         words = question.decode().split()
         if words[0] == "progress":
             at = str(Position(STEP_NM, self.axes.at_nm))
-            answer = Report(0, 0, False, at, self.out, wants=self.wants, word=self.axes.word).text()
+            answer = Report(0, self.received, False, at, self.out, is_held=self.is_held, wants=self.wants,
+                            word=self.axes.word).text()
         elif words[0] == "machine":
             answer = _said(self.axes.ask())
         elif words[0] in ("home", "jog", "seek", "stop"):
             answer = self.axes.take(words).encode()
+        elif words[0] == "anew":
+            self.axes.word = "moved"
+            self.others.append(question)
+            return
         elif words[0] == "at":
             self.axes.stand_at(list(map(nanometres, words[1:])))
             return

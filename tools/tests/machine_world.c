@@ -1,15 +1,16 @@
 /* Pins of a simulated machine, for tests: switches are where the file `world` says, and follow the motors. The file is
- * read and written by the test meanwhile. */
+ * read and written by the test meanwhile. Where there is a file `made` too, what the pins were set to is told there. */
 #define _GNU_SOURCE
 #include <errno.h>
 #include <fcntl.h>
 #include <string.h>
 #include <sys/mman.h>
+#include <time.h>
 #include <unistd.h>
 
 #include "pins.h"
 
-enum { SWITCHES = 8 };
+enum { SWITCHES = 8, LAST_PULSES = 1 << 17 };
 
 /* On where `sign` times the axis is at least as far as `sign` times `at`; within `bounces` steps of it by chance. Each
  * time that it goes off it moves by `drifts` steps. */
@@ -39,11 +40,82 @@ struct world {
     int64_t turned_up[3]; /* .. of which so many were turned up */
 };
 
+/* What the pins were set to: outputs, when the spindle began to turn, and the last pulses, each with when it was made
+ * by the monotonic clock. */
+struct made {
+    uint64_t pulses;
+    uint64_t spindle;
+    uint64_t speed; /* in millionths */
+    uint64_t mist;
+    uint64_t flood;
+    uint64_t slot;
+    uint64_t turns_since_ns;
+    uint64_t switched_ns; /* when an output changed last */
+    struct {
+        int64_t at_ns;
+        int8_t step[8];
+    } last[LAST_PULSES];
+};
+
 static volatile struct world *world;
+static volatile struct made *made;
+
+static int64_t now_ns(void) {
+    struct timespec now;
+    clock_gettime(CLOCK_MONOTONIC, &now);
+    return now.tv_sec * INT64_C(1000000000) + now.tv_nsec;
+}
+
+static void tell_outputs(const struct outputs *outputs) {
+    if (made == NULL) {
+        return;
+    }
+    bool is_same = made->spindle == outputs->spindle && made->speed == outputs->speed && made->mist == outputs->mist
+        && made->flood == outputs->flood && made->slot == outputs->slot;
+    if (made->spindle == 0 && outputs->spindle != 0) {
+        made->turns_since_ns = (uint64_t)now_ns();
+    }
+    made->spindle = outputs->spindle;
+    made->speed = outputs->speed;
+    made->mist = outputs->mist;
+    made->flood = outputs->flood;
+    made->slot = outputs->slot;
+    made->switched_ns = is_same ? made->switched_ns : (uint64_t)now_ns();
+}
+
+static void tell_pulse(const struct line *line) {
+    if (made == NULL) {
+        return;
+    }
+    size_t place = made->pulses % LAST_PULSES;
+    for (int axis = 0; axis < 3; axis++) {
+        made->last[place].step[axis] = (int8_t)line->step[axis];
+    }
+    made->last[place].at_ns = now_ns();
+    made->pulses++;
+}
+
+static void tell_off(void) {
+    if (made != NULL) {
+        struct outputs off = {.slot = (unsigned)made->slot, .speed = made->speed};
+        tell_outputs(&off);
+    }
+}
+
+static void open_made(void) {
+    int file = open("made", O_RDWR | O_CLOEXEC);
+    if (file >= 0) {
+        void *mapped = mmap(NULL, sizeof *made, PROT_READ | PROT_WRITE, MAP_SHARED, file, 0);
+        made = mapped == MAP_FAILED ? NULL : mapped;
+        close(file);
+        tell_off();
+    }
+}
 
 bool pins_begin(const char *path, const char *const *others, struct cause *why) {
     (void)path;
     (void)others;
+    open_made();
     int file = open("world", O_RDWR | O_CLOEXEC);
     void *mapped = mmap(NULL, sizeof *world, PROT_READ | PROT_WRITE, MAP_SHARED, file, 0);
     if (mapped == MAP_FAILED) {
@@ -67,21 +139,26 @@ int pins_set(const struct line *line, const char *text, size_t size) {
     (void)size;
     if (line->kind == 'S') {
         world->is_on = outputs_are_on(&line->outputs);
+        tell_outputs(&line->outputs);
     }
     for (int axis = 0; axis < 3 && line->kind == 'P'; axis++) {
         turn(axis, line->step[axis]);
     }
     world->pulses += line->kind == 'P';
+    if (line->kind == 'P') {
+        tell_pulse(line);
+    }
     return 0;
 }
 
 int pins_speed(const struct outputs *outputs) {
-    (void)outputs;
+    tell_outputs(outputs);
     return 0;
 }
 
 int pins_off(void) {
     world->is_on = 0;
+    tell_off();
     return 0;
 }
 

@@ -6,6 +6,7 @@ import re
 import signal
 import time
 from collections.abc import Callable
+from contextlib import suppress
 from pathlib import Path
 
 from session_support import PATIENCE_S, InFolder, ngc
@@ -77,7 +78,7 @@ class Page:
 
     def agree(self, state: dict, text: str = "") -> None:
         """Answers the question of a state with a yes, or with a text."""
-        words = {"text": text} if text else {"yes": True}
+        words = {"text": text} if text else {"yes": True, "seen": len(state["question"]["looks"])}
         if self.post("answer", {"question": state["question"]["id"]} | words) != (200, {"taken": True}):
             raise AssertionError(f"it isn't asked: {state['question']}")
         self.answered.add(state["question"]["id"])
@@ -200,7 +201,11 @@ class Served(InFolder):
         os.unlink("progress")
 
     def children(self) -> list[int]:
-        """The processes of `ngc` that the server started."""
+        """The processes of `ngc` that the server started; others may end meanwhile."""
         lists = Path(f"/proc/{self.server.pid}/task").glob("*/children")
-        pids = [int(pid) for path in lists for pid in path.read_text().split()]
-        return [pid for pid in pids if Path(f"/proc/{pid}/exe").resolve() == Path(ngc()).resolve()]
+        found, pids = [], [int(pid) for path in lists for pid in path.read_text().split()]
+        for pid in pids:
+            with suppress(FileNotFoundError, ProcessLookupError):
+                if Path(f"/proc/{pid}/exe").resolve() == Path(ngc()).resolve():
+                    found.append(pid)
+        return found

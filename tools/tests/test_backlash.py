@@ -141,7 +141,7 @@ class Turning(PlayerTest):
         self.turned()
         self.turned("--go-to-line", "10", "--yes")
         self.turned("--go-to-line", "121", "--yes")
-        self.turned("--go-to-line", "80", "--lift", "0.005", "--yes")
+        self.turned("--go-to-line", "80", "--lift", "0.005", "--feed", "600", "--yes")
         left = "".join(lines.splitlines(keepends=True)[10:])
         up, over, down = "P 0 0 1 50\n" * 35, "P 1 0 0 50\n" * 40 + "P 0 -1 0 50\n" * 20, "P 0 0 -1 50\n" * 55
         wanted = told(lines, back(left), left, up)

@@ -543,6 +543,34 @@ class FromDevice(Warned):
             " warning: the machine stands at X0.500000 Y0.000000 Z0.000000, outside the travel of the settings. Are they"
             " those of this machine?"])
 
+    def test_unset_length(self) -> None:
+        """Z is moved before G43 or G49: which length is in force on the device, where it or a slot has one."""
+        self.device()
+        words = ("--device", "mill.dev")
+        after = ", as it was left before: write G43 with the tool's H, or G49, before it"
+        program = HEAD + "G53 G0 Z0\nG0 X1\nG0 Z5\nG49\nM2\n"
+        self.assertEqual(self.warnings(program, *words), [])
+        self.run_ngc("tool 1 62.5\n")
+        self.assertEqual(self.warnings(program, *words), [
+            "5: warning: it moves Z before it sets G43 or G49, and no tool length is in force" + after])
+        self.run_ngc("mdi G43 H1\ntick 9\ntool 1 0\n")
+        self.assertEqual(self.warnings(program, *words), [
+            "5: warning: it moves Z before it sets G43 or G49, and a length of 62.500 mm is in force" + after])
+        for first in ("G43 H1", "G49"):
+            self.assertEqual(self.warnings(HEAD + first + "\nG0 Z5\nM2\n", *words), [])
+        self.assertEqual(self.warnings(program), [])  # nothing says what is in force
+
+    def test_unmeasured(self) -> None:
+        """G43 with a slot of length 0, where others have one."""
+        self.device()
+        program, words = HEAD + "G43 H2\nG0 Z5\nG43 H3\nG49\nG43 H2\nM2\n", ("--device", "mill.dev")
+        self.run_ngc("tool 1 0\ntool 2 0\ntool 3 0\n")
+        self.assertEqual(self.warnings(program, *words), [])
+        self.run_ngc("tool 3 5\n")
+        self.assertEqual(self.warnings(program, *words), [
+            "3: warning: H2 takes the length of slot 2, which is 0, as of a tool that wasn't measured: it goes too deep"
+            " by its length, unless the others are measured by it"])
+
     def test_slots(self) -> None:
         """Lengths that differ from those of the settings, where the program takes one."""
         self.device()
@@ -551,7 +579,7 @@ class FromDevice(Warned):
         self.assertEqual(self.warnings(HEAD + "G43 H1\nG0 Z5\nM2\n", *words), [
             " warning: slot 1 has 62.5 mm on the device, and 50 in the settings: a dry run without --device"
             " is as much too high or too deep"])
-        self.assertEqual(self.warnings(HEAD + "G0 Z5\nM2\n", *words), [])
+        self.assertNotIn("62.5", "".join(self.warnings(HEAD + "G0 Z5\nM2\n", *words)))
         self.assertEqual(self.warnings(HEAD + "G43 H0\nG0 Z5\nM2\n", *words), [])
 
 

@@ -17,7 +17,7 @@ from test_documents import blocks, chapters  # noqa: E402
 from test_moves import Moving  # noqa: E402
 
 STOP, X_LOW, Y_LOW, Z_HIGH, DOOR, PROBE = 0, 1, 2, 3, 4, 6  # inputs
-PROMPT, ASKS = "ngc> ", ("ends: ", "off: ", "holds: ", "goes on: ", "doesn't: ")
+PROMPT, ASKS = "ngc> ", ("ends: ", "off: ", "holds: ", "goes on: ", "doesn't: ", "back: ", "takes 600: ")
 COLUMNS = 116  # of the terminal: so wide are lines of a page
 MACHINE = """[motion]
 accel_mm_s2 = [2000, 2000, 2000]
@@ -120,8 +120,8 @@ class Day(InC, PlayerTest):
         """Says yes to each question, and at which height the legs go."""
         self.send("recover", *ASKS)
         while not self.shown.endswith(PROMPT):
-            is_height = self.shown.endswith("Nothing ends: ")
-            self.send("9.8" if is_height else "yes", *ASKS, PROMPT)
+            typed = {"Nothing ends: ": "9.8", "takes 600: ": "600"}
+            self.send(next((word for end, word in typed.items() if self.shown.endswith(end)), "yes"), *ASKS, PROMPT)
 
     def turns(self, steps: int, number: int) -> None:
         """An input turns round once the motors have made so many steps more."""
@@ -147,7 +147,6 @@ class Day(InC, PlayerTest):
         self.touch_off()
         self.cut()
         self.stop()
-        self.begin_day()
         self.recover()
         self.send("quit", "never")
         self.end_day(0)
@@ -159,9 +158,12 @@ class Day(InC, PlayerTest):
         self.send("home")
         self.send("T1 M6", "Enter there\n")
         for typed in ("go", "jog X+ 1200 for 3", "jog Z- 1200 for 6", "seek Z- 6 within 1", "touch tool 1 probe",
-                      "G53 G0 Z8", "G43 H1", "jog X+ 1200 for 1", "jog Z- 1200 for 6", "zero X Y", "zero Z 1",
-                      "load part.ngc"):
+                      "G53 G0 Z8", "G43 H1", "jog X+ 1200 for 1", "jog Z- 1200 for 6"):
             self.send(typed)
+        for typed in ("zero X Y", "zero Z 1"):
+            self.send(typed, "moves it: ")
+            self.send("yes")
+        self.send("load part.ngc")
 
     def cut(self) -> None:
         """The door is opened in the midst of line 5, of which 3 of 6 mm are cut then; at a stop the table is moved."""
@@ -181,9 +183,6 @@ class Day(InC, PlayerTest):
         self.send("run")
         self.turns_back()
         self.send("home")
-        self.send("quit", *ASKS)
-        self.send("yes", "never")
-        self.end_day(1)
 
     def check_page(self) -> None:
         """What the page shows stands in what was shown, in its order: without a gap, but for `..`. How many lines were

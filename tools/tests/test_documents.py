@@ -224,10 +224,10 @@ class Tools(Documents):
         for line, end in zip(typed.splitlines(True), (b"ngc> ",) * 3, strict=True):
             shown += terminal.read_to(end)
             terminal.send(line.removeprefix("ngc> ").encode())
-        shown += terminal.read_to(b"holds: ")
-        terminal.send(b"yes\n")
-        shown += terminal.read_to(b"ngc> ")
-        terminal.send(b"quit\n")
+        for end, answer in ((b"Nothing ends: ", b"600"), (b"anything else ends: ", b"yes"), (b"holds: ", b"yes"),
+                            (b"ngc> ", b"quit")):
+            shown += terminal.read_to(end)
+            terminal.send(answer + b"\n")
         terminal.read_to(b"never")
         self.assertEqual((terminal.status(), player.wait(PATIENCE_S)), (0, 0))
         self.assertIn(b"segment 0 of line 1: G0 X12\r\n", shown)
@@ -592,18 +592,20 @@ class Machine(Documents):
         self.assertEqual(said, Path("examples/mill.txt").read_text())
 
     def test_page(self) -> None:
-        """docs/PAGE.md: what it begins with, up to the address that is printed; Ctrl-C ends it."""
+        """docs/PAGE.md: what it begins with, up to the address that is printed; Ctrl-C ends it, and the player that it
+        started."""
         os.symlink(player(), "bin/player")
-        make, fresh, play, page = (command for command, _ in self.chapter("PAGE.md", "")[1])
+        (make, _), (fresh, _), page = self.chapter("PAGE.md", "")[1]
+        command = "\n".join(page).rstrip()
         Path("player.toml").write_text(blocks(chapters("MACHINE.md")["Motors"])[0])
         self.shell(f"{make}; {fresh}")
-        self.begin(play)
-        served = subprocess.Popen(["bash", "-c", f"exec {page} --listen 127.0.0.1:0"], env=self.environment, text=True,
-                                  stdout=subprocess.PIPE, stderr=subprocess.PIPE)
+        served = subprocess.Popen(["bash", "-c", f"exec {command} --listen 127.0.0.1:0"], env=self.environment,
+                                  text=True, stdout=subprocess.PIPE, stderr=subprocess.PIPE)
         self.addCleanup(self._end, served)
         self.assertRegex(served.stdout.readline(), r"^http://127\.0\.0\.1:\d+/[\w-]+/\n$")
         served.send_signal(signal.SIGINT)
         self.assertEqual((served.wait(PATIENCE_S), served.stderr.read()), (2, "ngc-page: stopped\n"))
+        self.wait_for("the player has ended", lambda: not os.path.exists("progress"))
 
     def test_motion(self) -> None:
         """docs/MOTION.md: each line behind its time, the first at once, and how long all of it takes: X goes 5 mm by

@@ -28,6 +28,9 @@ STILL, DEEP = "it cuts with the spindle stopped", "a traverse sideways at Z -"
 WARNED = {"bores": [(9, HOME)], "face": [(5, STILL)], "first": [(1, HOME)] * 2,
           "parameters": [(5, HOME), (5, HOME), (7, STILL)], "percent": [(3, HOME), (6, STILL)],
           "pocket": [(2, HOME), (6, STILL), (26, DEEP), (47, DEEP)], "ring": [(13, TURN), (15, TURN)]}
+# The first line that moves Z, of those that set no tool length: of that a session asks which wasn't told as it loaded.
+UNSET = {"bores": 7, "face": 3, "mill": 6, "parameters": 5, "percent": 4, "pocket": 3}
+ASKS = "begin all the same? yes begins: "
 # Known otherwise, of lengths and rates: 7.001 mm at 6,000 mm a minute, and what was once added up of two others.
 SECONDS = {"first": "0.070 s", "bolts": "2 min 10.6", "pocket": "53.3"}
 
@@ -92,7 +95,11 @@ class Examples(InFolder):
                 self.run_ngc(f"tool 1 50\ntool 2 62.5\ntool 3 0\nload {len(text)}\n{text}quit\n")
                 self.rehearsed(name)
                 x, y, z = moves(name)[-1].args[:3]
-                shown = self.operate(delete + "run\n" * 3 + "quit\n")
+                agreed = "yes\n" if name in UNSET else ""
+                shown = self.operate(delete + "run\n" + agreed + "run\n" * 2 + "quit\n")
+                self.assertEqual(shown.count(ASKS), int(name in UNSET), shown)
+                if name in UNSET:
+                    self.assertIn(f"line {UNSET[name]}: it moves Z before it sets G43 or G49, and no tool", shown)
                 ends = " ".join(f"{axis} {millimetres(nm)}" for axis, nm in zip("XYZ", (x, y, z), strict=True))
                 self.assertIn(f"idle; {ends}; next line ", shown)
                 status, said, error = played("--untimed", "--no-ask-tool", "--at", "0", "0", "0", "out", "coarse.toml",

@@ -47,7 +47,7 @@ class Moves(Core):
         self.assertEqual(self.status().at, tuple(at))
         self.do("Home x z")
         self.assertEqual(self.axes.words[-1], "home 2 XZ")
-        self.assertEqual([view.line for view in self.face.views if view], ["home"] * 4)
+        self.assertEqual([view.line for view in self.face.views if view], ["home Z"] * 2 + ["home XZ"] * 2)
 
     def test_jog_and_seek(self) -> None:
         """A length, and the probe: where the machine comes to rest isn't where the probe was touched."""
@@ -92,7 +92,8 @@ class Moves(Core):
         self.assertEqual(self.do("home")[:3], [f"home: {why}", "reference 0.000000 0.000000 0.000000", "done 1"])
         self.axes.fails = "the probe isn't touched within 1.000 mm"
         self.assertEqual(self.do("seek Z- 60 within 1")[0], "seek Z-: the probe isn't touched within 1.000 mm")
-        self.assertEqual(self.do("zero Z probe"), ["the probe wasn't touched since home: seek Z- RATE within MM"])
+        self.assertEqual(self.do("zero Z probe"), ["the probe wasn't touched since the machine moved last, or its place was"
+                                                   " used: seek Z- RATE within MM"])
         self.face.looks, self.face.holds_at = 0, 2
         self.assertEqual(self.do("jog X+ 600 for 10")[0], "jog X+: stopped")
         self.assertEqual(self.axes.words[-1], "stop")
@@ -145,22 +146,30 @@ class Moves(Core):
         self.assertEqual(self.axes.words, [])
 
     def test_waits(self) -> None:
-        """It is said what the motors wait for: the spindle's speed, and whoever holds them, as a door does."""
+        """It is said what the motors wait for: the spindle's speed, and what holds them: that speed, a door, or whoever
+        it is; `release` lets them go on amid it."""
         self.begin(self.link)
-        before = self.link.ask
+        before, released = self.link.ask, []
         spindle = "the player waits until the spindle has its speed"
-        held = ("the motors are held, and not from here: a door is open, or the spindle doesn't come to its speed; the"
-                " player says which. Enter holds here too, and then run lets them go on")
+        failed = "the spindle didn't come to its speed, and the motors are held: release waits for it again"
+        door = "the door is open, and the motors are held: once it is closed, release lets them go on"
+        other = "the motors are held, and not from here: release lets them go on"
+        self.link.release = lambda: released.append(True)
+        for said, on, x in ((failed, (), "0.3"), (door, ("door",), "0.4"), (other, (), "0.5")):
+            self.axes.stands = self.axes.machine = replace(self.axes.stands, on=on)
 
-        def ask():
-            said = [text for _, text in self.face.said]
-            self.link.lazy = bool(self.out()) and held not in said
-            waits = self.link.lazy and spindle not in said
-            return replace(before(), word="waits spindle" if waits else "works", is_held=self.link.lazy)
+            def ask(said=said, size=len(self.out())):
+                heard = [text for _, text in self.face.said]
+                self.link.lazy = len(self.out()) > size and not released
+                if said in heard and self.link.lazy:
+                    self.face.given = ["release"]
+                waits = self.link.lazy and said == failed and spindle not in heard
+                return replace(before(), word="waits spindle" if waits else "works", is_held=self.link.lazy and not waits)
 
-        self.link.ask = ask
-        self.assertEqual(self.do("G0 X0.3")[:2], [spindle, held])
-        self.assertEqual(self.status().at[0], "0.300000")
+            self.link.ask = ask
+            self.assertIn(said, self.do(f"G0 X{x}"))
+            self.assertEqual((self.status().at[0], released[:1]), (f"{x}00000", [True]))
+            released.clear()
 
     def test_half_done(self) -> None:
         """Over a half-done block too; `recover` is still for what the last session left."""
@@ -171,18 +180,6 @@ class Moves(Core):
         self.assertEqual(self.status().at[0], "2.000000")
         said = self.do("recover")
         self.assertNotIn("recover is for what the last session left, before anything else is done", said)
-
-    def test_probe(self) -> None:
-        """A zero and a length by where the probe was touched, also once the machine is elsewhere; not after home."""
-        self.begin(self.link)
-        self.do("seek Z- 60 within 10", "jog Z+ 600 for 4")
-        self.assertIn("G10 L2 P1 Z-7", self.do("zero Z 2 Probe"))
-        self.assertIn("G10 L2 P1 Z-1.02", self.do("zero Z"))  # 5.02 below, 4 up
-        self.assertEqual(self.do("touch tool 1 -60 probe")[:2],
-                         ["the probe was touched at machine Z -5, and the setter's top is at -60", "tool 1 55"])
-        self.do("home")
-        self.assertEqual(self.do("touch tool 1 -60 probe"),
-                         ["the probe wasn't touched since home: seek Z- RATE within MM"])
 
 
 class Alarms(Core):
@@ -221,11 +218,26 @@ class Alarms(Core):
         self.begin(self.link)
         self.axes.alarm("limits")
         self.assertEqual(self.do("G0 X1"), [
-            self.STOPPED.replace("EMERGENCY STOP", "LIMIT OF LIMIT X LOW"),
-            self.NOTHING.replace("EMERGENCY STOP", "LIMIT OF LIMIT X LOW")])
+            self.STOPPED.replace("EMERGENCY STOP", "LIMIT X LOW"),
+            self.NOTHING.replace("EMERGENCY STOP", "LIMIT X LOW")])
         self.axes.refuses = "the emergency stop is on"
         self.assertEqual(self.do("home"), ["home: the emergency stop is on"])
-        self.assertEqual(self.do("G0 X1"), [self.NOTHING.replace("EMERGENCY STOP", "LIMIT OF LIMIT X LOW")])
+        self.assertEqual(self.do("G0 X1"), [self.NOTHING.replace("EMERGENCY STOP", "LIMIT X LOW")])
+
+    def test_seen(self) -> None:
+        """Once it is said the session has it from the player: a page shows both at once."""
+        self.begin(self.link)
+        had, say = [], self.face.say
+
+        def see(text: str, *kind: str) -> None:
+            machine = self.operator.session.machine
+            had.append((text, machine and machine.alarm))
+            say(text, *kind)
+
+        self.face.say = see
+        self.axes.alarm("emergency_stop")
+        self.do("run")
+        self.assertEqual(had[0], (self.STOPPED, "emergency_stop"))
 
     def test_outputs(self) -> None:
         """An alarm turns spindle and coolant off, and so does a player that begins: a program that goes on with them is
@@ -254,7 +266,7 @@ class Alarms(Core):
         self.assertEqual(self.status().entries, 0)
 
     def test_with_lines_in_hand(self) -> None:
-        """No more line is handed out, and after home no more of the session is carried out."""
+        """No more line is handed out, and after home another session begins, in which the line is half-done."""
         self.begin(self.link)
         self.load("G21 G90\nG1 X3 F60\nM2\n")
         before = self.link.ask
@@ -273,18 +285,36 @@ class Alarms(Core):
         self.axes.home_at = [0, 0, 0]
         self.link.ask = before
         self.link.lazy = True
+        self.axes.drops_lines = True
         said = self.do("home")
-        self.assertEqual(said, ["homed: X Y Z", "ngc isn't told where the machine is, since segment 0 of line 2: G1 X3"
-                                " F60 is under way: quit, start the player and this again, and go on as after a loss"
-                                " of power"])
+        self.assertEqual(said[:4], [
+            "homed: X Y Z", "what the player had in hand in the alarm is never carried out: another session begins, and"
+            " goes on as after a loss of power", "stored: a program of 3 lines",
+            "power was lost, or the session ended, in line 2: G1 X3 F60\n  in segment 0 of 1, counted from 0. Nothing"
+            " moves by itself\n  where the machine is: reference player, or reference X Y Z; then rehearse, resume or"
+            " abandon"])
+        status = self.status()
+        self.assertEqual((status.does, status.half, status.known), ("idle", "program", False))
+        self.assertEqual(len(self.out()), count)
+        self.link.lazy = False
+        self.do("reference player", "abandon")
+        self.assertEqual((self.status().half, self.status().known), ("none", True))
+        self.do("G0 X1")
+        self.assertEqual(self.status().at[0], "1.000000")
+
+    def test_player_that_drops_lines(self) -> None:
+        """As long as the player carries no more line of the session out nothing is given to it; `stop` begins another
+        session."""
+        self.begin(self.link)
         self.axes.word = "broken"
         broken = ("nothing is done: what the player had in hand in the alarm is never carried out, and so nothing that"
-                  " comes after. quit, start the player and this again, and go on as after a loss of power")
+                  " comes after. stop begins another session, which goes on as after a loss of power")
         for typed in ("run", "G0 X1", "resume", "release"):
             self.assertEqual(self.do(typed), [broken], typed)
-        self.assertEqual(len(self.out()), count)
-        self.assertIn("stays half-done", self.do("quit", answers=("yes",))[0])
-        self.assertTrue(self.operator.over)
+        self.do("stop")
+        self.assertEqual(self.axes.word, "moved")
+        self.assertEqual(self.do("G0 X1")[-2:], ["idle; X 1.000000 Y 0.000000 Z 0.000000",
+                                                 MOTORS.format("1.000000", "0.000000", "0.000000")])
 
 
     def test_axis_without_home(self) -> None:
@@ -410,7 +440,7 @@ class ByKeys(InFolder):
         self.begin_jog()
         self.player.axes.alarm("limits")
         shown = " ".join(self.terminal.read_to(PROMPT).decode().split())
-        self.assertIn("LIMIT OF LIMIT X LOW: THE MOTORS STAND", shown)
+        self.assertIn("LIMIT X LOW: THE MOTORS STAND", shown)
         self.assertNotIn("reference", shown)
 
     def test_refused(self) -> None:

@@ -570,7 +570,7 @@ class AtTerminal(InFolder):
         terminal.send(b"reference 0 0 0\n")
         terminal.read_to(PROMPT)
         self.player.lazy = True
-        for typed, begun in ((b"resume\n", b"first.\r\n"), (b"continue\n", b"continue\r\n")):
+        for typed, begun in ((b"resume\n", b"as they were.\r\n"), (b"continue\n", b"continue\r\n")):
             enough = self.player.asked + 5
             terminal.send(typed)
             terminal.read_to(begun)
@@ -580,6 +580,8 @@ class AtTerminal(InFolder):
         self.assertIn("held; up to 100 lines that are handed out are still carried out\r\n", shown)
         self.player.lazy = False
         terminal.send(b"continue\n")
+        terminal.read_to(b"holds: ")
+        terminal.send(b"yes\n")
         self.assertIn("idle; X 1.000000 Y 0.000000 Z 0.000000\r\n", terminal.read_to(PROMPT).decode())
         self.player.lazy = True
         enough = self.player.asked + 5
@@ -858,6 +860,15 @@ class Lines(unittest.TestCase):
         every = (0, len(program.text))
         self.assertEqual(program.messages(*every, False), [(3, "last\\x01"), (4, "deleted")])
         self.assertEqual(program.messages(*every, True), [(3, "last\\x01")])
+
+    def test_remarks(self) -> None:
+        """The plain comment of a line, by the place behind it, or of comments right above; a message isn't one."""
+        for text, wanted in (("M0 (turn it)\n", (1, "turn it")), ("(a) (turn\x01it) \nM0\n", (1, "turn\\x01it")),
+                             ("M0(a)(b)", (1, "b")), ("(a)\nM0 (b)\n", (2, "b")), ("M0\n", None), ("", None),
+                             ("G0 X1 (a)\nM0\n", None), ("(a)\n\nM0\n", None), ("M0 (MSG, a)\n", None),
+                             ("(a)\nM0 (msg,b)\n", None), ("(MSG, a)\r\nM0\r\n", None), ("(a)\r\nM0\r\n", (1, "a"))):
+            self.assertEqual(Program(text.encode()).remark(len(text.encode())), wanted, text)
+        self.assertEqual(Program(b"G0 X1\nM0 (a)\nG0 X0 (b)\n").remark(13), (2, "a"))
 
     def test_percent(self) -> None:
         """Up to the first percent sign, by docs/LANGUAGE.md: blanks and tabs beside it, and no other sign, aside."""

@@ -18,7 +18,7 @@ from ngc_tools.operator.face import MESSAGE, REFUSED, SAID, WARNING, WHERE, Unde
 from ngc_tools.operator.meter import Meter  # noqa: E402
 from ngc_tools.operator.operator import Operator  # noqa: E402
 from ngc_tools.operator.ramp_times import RampTimes  # noqa: E402
-from ngc_tools.player.progress import NoAnswer, Report  # noqa: E402
+from ngc_tools.player.progress import MoveReport, NoAnswer, Report  # noqa: E402
 
 MODAL = ("feed_nm_per_min", "speed", "g92_nm", "origin_nm", "tool_length_nm", "motion", "plane", "distance",
          "feed_mode", "unit", "retract", "system", "path_mode", "spindle", "mist", "flood", "selected", "point_nm")
@@ -101,6 +101,10 @@ class FileLink:
             self.outputs = line if isinstance(line, Switch) else self.outputs
         self.carried = len(lines)
         return Report(self.carried, self.carried, False, str(self.position), "out", self.outputs)
+
+    def machine(self) -> MoveReport:
+        """It makes no moves without lines."""
+        raise NoAnswer("progress: the player doesn't answer")
 
     def at(self, place: str) -> None:
         """Takes where the machine stands."""
@@ -313,7 +317,7 @@ class Places(Core):
         self.assertIn("taken up", self.do("resume anyway")[0])
         self.assertEqual(self.do("continue"), [refused[0].replace("resume", "continue")])
         self.assertEqual((self.out(), self.status().does), ([], "held"))
-        self.do("continue anyway")
+        self.do("continue anyway", answers=("yes",))
         self.assertEqual(self.out(), ["S 0 0.000000 0 0 0 0"] + ["P -1 0 0 50"] * 43 + ["P 1 0 0 50"] * 5)
 
     def test_lines_and_programs(self) -> None:
@@ -592,7 +596,7 @@ class Causes(Core):
             said = (self.do(typed) if typed != "load" else
                     [self.operator.load("x", b"M2\n"), self.face.said[-1][1]])[-1]
             self.assertEqual(said, "refused K1 Busy: held in segment 0 of line 2: G1 X3 F60: run goes on; to give the"
-                             " block up: quit, start again, abandon. No other line is done before that", typed)
+                             " block up: stop. No other line is done before that", typed)
         self.do("run")
         self.assertEqual(self.status().at[0], "3.000000")
 
@@ -630,7 +634,7 @@ class Causes(Core):
             "refused U1 BadCommand: tool N LENGTH: a slot from 1 to 128 and its length in millimetres, 0 to 1000, as in"
             " `tool 1 62.5`",
             "refused U1 BadCommand: optional on or optional off",
-            "refused B14 BadSlot: slot 3 comes first: the table has slots 1 to 2, and takes one more at a time"])
+            "slots 3 to 4 have length 0 now, since the table has no gaps: measure before G43 takes that", "done 5"])
 
 
     def test_nothing_to_do(self) -> None:
@@ -743,6 +747,59 @@ class Loads(Core):
             said = f"part.ngc: {why}: ngc-adapt part.ngc --output NEW.ngc writes it as ngc reads it. Nothing is stored"
             self.assertEqual(self.face.said, [(REFUSED, said)])
         self.assertTrue(self.operator.load("part.ngc", "(Ü)\r\nM2\r\n".encode()))
+
+    def test_comment_of_stop(self) -> None:
+        """At a stop its plain comment is told as a message is, once; a line of one's own doesn't repeat it."""
+        self.begin()
+        self.load("G21 G90\n(take the clamp off)\nM0\nM0 (MSG, b)\nM0\nM2\n")
+        self.do("run")
+        self.assertIn(("message", "comment, line 2: take the clamp off"), self.face.said)
+        self.assertNotIn("take the clamp off", " ".join(self.do("G91 G90")))
+        self.assertIn("message, line 4: b", self.do("run"))
+        self.assertEqual([text for text in self.do("run") if text.startswith(("comment", "message"))], [])
+
+    def test_unset_length(self) -> None:
+        """A program that moves Z and sets no tool length: the one in force is told as it is loaded, and another one is
+        asked before it begins, as that of the job before."""
+        self.begin()
+        self.do("tool 1 0.5")
+        text = "G17 G21 G90 G94\nG0 Z0.02\nM2\n"
+        none = ("line 2: it moves Z before it sets G43 or G49, and no tool length is in force, as it was left before:"
+                " write G43 with the tool's H, or G49, before it")
+        self.load(text)
+        self.assertIn(("warning", none), self.face.said)
+        self.do("run")
+        self.assertEqual(self.face.asked, [])
+        self.do("G0 Z0", "G43 H1")
+        other = none.replace("no tool length", "a length of 0.500 mm")
+        before = self.out()
+        self.assertEqual(self.do("run", answers=("no",)), [other])
+        self.assertEqual((self.face.asked, self.out()), (["begin all the same? yes begins: "], before))
+        self.do("run", answers=("yes",))
+        self.assertEqual(self.status().at[2], "0.520000")
+        self.do("run")  # it was told
+        self.end()
+        self.begin()
+        self.do("G0 Z0")
+        self.do("run", answers=("no",))  # not in this session
+        self.do("run anyway", "G49")
+        self.load(f"G49\n{text}")
+        self.do("run")
+        self.assertEqual(self.face.asked, [])
+
+    def test_unset_length_again(self) -> None:
+        """Over the next part too, which begins where the one before ended: another line moves Z first, and the same
+        length counts."""
+        self.begin()
+        self.do("tool 1 0.5")
+        self.load("G17 G21 G90 G94\nG0 Z0.02\nG0 Z0.01\nG0 Z0.02\nM2\n")
+        for _ in range(2):
+            self.do("run")
+            self.assertEqual((self.face.asked, self.status().at[2]), ([], "0.020000"))
+        self.do("G43 H1", "G0 Z0.02")
+        said = self.do("run", answers=("no",))
+        self.assertEqual([text for text in said if text.startswith("line 3: it moves Z before it sets G43")], said)
+        self.assertEqual(self.face.asked, ["begin all the same? yes begins: "])
 
 
 class Shown(Core):
@@ -1006,9 +1063,44 @@ class Motors(Core):
         self.assertTrue(self.do("reference player")[-1].startswith("nothing is done: the motors are held with "))
         self.do("release", "reference player", "hold")
         self.assertTrue(link.is_held)
-        self.do("resume", answers=("yes",))
+        self.do("resume anyway", answers=("yes",))
         self.assertEqual((link.is_held, self.status().at[0], link.ask().at), (False, "1.000000", "1.000000 0.000000"
                                                                                                 " 0.000000"))
+
+    def test_given_back(self) -> None:
+        """Overrides and switches are given back to a job that goes on, and what the player doesn't take is named; to
+        one that begins they aren't. A file that is another's is left alone."""
+        self.begin_ramps()
+        self.load("G21 G90\nG1 X1 F600\nM2\n")
+        self.do("percent 50", "spindle percent 90", "delete on", "optional on", "single on")
+        self.hold_after(20)
+        self.do("run")
+        self.assertEqual(self.status().half, "program")
+        self.cut()
+        Path("out").write_text("")
+        link = RampLink()
+        self.begin(link)
+        chosen = "spindle 90 %, block delete, optional stop, single block"
+        self.assertIn(f"given back, as it was before the session ended: feed 50 %, {chosen}", self.begun)
+        session = self.operator.session
+        self.assertEqual((session.delete, session.optional, session.single, link.percent, link.spindle),
+                         (True, True, True, 50, 90))
+        self.do("percent 120")
+        self.cut()
+        link = RampLink()
+        link.override = lambda _: None
+        self.begin(link)
+        self.assertIn(f"given back, as it was before the session ended: {chosen}", self.begun)
+        self.assertIn("it isn't given back, since the player doesn't take it: feed 120 %", self.begun)
+        self.do("reference player", "abandon")
+        self.load("G0 X1\nM2\n")
+        self.cut()
+        self.begin(link)
+        self.assertEqual((self.operator.session.delete, Path("mill.dev.choices").exists()), (False, False))
+        for text in ("mine", "{}x", '{"percent": 500}', '{"delete": 1}', "[]"):
+            Path("mill.dev.choices").write_text(text)
+            self.assertIn("mill.dev.choices: it isn't what is kept there", "".join(self.do("delete on", "delete off")))
+            self.assertEqual(Path("mill.dev.choices").read_text(), text)
 
     def test_override(self) -> None:
         """By tens, to one percent at least, back to 100; typed, and while something runs. What isn't taken is refused
@@ -1140,9 +1232,14 @@ class Ends(Core):
         """After a no the spindle that came on is named, and how it goes off."""
         self.run_ngc("mdi S70 M3\ntick 9\nmdi G0 X1\ntick 4\n", "before")
         self.begin(FileLink("0.002 0 0"))
-        said = self.do("reference player", "resume", answers=("no",))
-        self.assertEqual(said[-2], "nothing has moved. continue goes on; after quit the block is still half-done")
+        said = self.do("reference player", "resume anyway", answers=("no",))
+        self.assertEqual(said[-2], "nothing has moved. continue asks again; after quit the block is still half-done")
         self.assertTrue(said[-1].startswith("on: the spindle, clockwise at 70. The player switches that off"), said)
+        before = self.out()
+        self.do("continue", answers=("no",))
+        self.assertEqual((self.out(), self.status().does), (before, "held"))
+        self.do("run", answers=("yes",))
+        self.assertEqual((self.status().does, self.status().at[0]), ("idle", "1.000000"))
 
     def test_player_answers_again(self) -> None:
         """A player that was silent and answers again: `run` goes on."""

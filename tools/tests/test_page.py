@@ -2,6 +2,7 @@
 import http.client
 import json
 import os
+import select
 import signal
 import socket
 import subprocess
@@ -22,7 +23,9 @@ from session_support import FIRST, PATIENCE_S, TOOLS, InFolder, ngc, told  # noq
 
 from ngc_tools.cli.page import main  # noqa: E402
 from ngc_tools.ngc.console import Console  # noqa: E402
+from ngc_tools.operator.face import REFUSED  # noqa: E402
 from ngc_tools.operator.sentences import SWITCHED  # noqa: E402
+from ngc_tools.operator.way_back import TYPE_GO  # noqa: E402
 from ngc_tools.page import server as server_module  # noqa: E402
 from ngc_tools.page.aside import Aside, NotDone  # noqa: E402
 from ngc_tools.page.drawing import SWITCH, DrawingRequest, draw, draw_exactly, job_of  # noqa: E402
@@ -432,13 +435,16 @@ class Moves(Served):
                          ("-290.000000", ["X+", "600", "for", "8"]))
         state = self.moved(page, "seek", {"axis": "Z", "sign": -1, "rate": "60", "within": "10"})
         self.assertEqual(state["touched"], ["-290.000000", "-198.000000", "-5.000000"])
-        state = self.moved(page, "zero", {"axes": {"X": "0", "Z": "10"}})
+        self.assertEqual(page.post("zero", {"axes": {"X": "0", "Z": "10"}}), (200, {}))
+        page.agree(page.asked())  # it is far from the zero before
+        state = page.until("it is over", lambda state: not state["busy"] and state["undo"])
         self.assertEqual((state["work"][0], state["work"][2], state["undo"]),
                          ("0.000000", "10.000000", "G10 L2 P1 X0 Y0 Z0"))
         state = self.moved(page, "undo", {})
         self.assertEqual((state["work"][0], state["undo"]), ("-290.000000", ""))
         self.moved(page, "touch", {"slot": 1, "height": "-9", "probe": True})
-        self.assertEqual(page.until("it is read", lambda state: state["tools"])["tools"], ["4.000000"])
+        state = page.until("it is read", lambda state: state["tools"])
+        self.assertEqual((state["tools"], state["touched"]), (["4.000000"], None))  # its place counts once
         for what, words in (("jog", {"axis": "A", "sign": 1, "rate": "1"}), ("jog", {"axis": "X", "sign": 2}),
                             ("home", {"axes": "ZX"}), ("zero", {"axes": {}}), ("zero", {"axes": {"X": "0 probe"}}),
                             ("seek", {"axis": "Z", "sign": -1, "rate": "60"}), ("touch", {"slot": "1 2"})):
@@ -500,11 +506,9 @@ class Moves(Served):
         self.assertEqual(page.post("restart")[0], 409)
         self.machine.axes.word = "broken"
         page.until("that is told", lambda state: state["broken"] and state["word"] == "Broken off")
-        session = page.next()["session"]
         self.assertEqual(page.post("restart"), (200, {}))
-        self.machine.axes.word = "works"
-        page.until("it is begun anew", lambda state: state["session"] != session and state["word"] == "Idle")
-
+        page.until("another session goes on with that player", lambda state: state["word"] == "Idle")
+        self.assertIn(b"anew", self.machine.others)
 
     def test_axis_without_home(self) -> None:
         """Of an axis that can't be homed a page tells where it stands; what the player counts isn't taken for it."""
@@ -551,15 +555,37 @@ class Power(Served):
         said = page.post("rehearse", {"at": ["0.5", "0", "2"]})[1]
         self.assertEqual((said["begins"][0], said["approach"]["down"], said["refused"]), ("2.000000", "2.000", ""))
         self.assertIn("DOWN 2.000 mm", said["approach"]["warnings"][0])
-        self.assertEqual(page.post("reference", {"at": ["0.5", "0", "2"], "anyway": True})[0], 200)
+        at = ["2.000000", "0.000000", "0.100000"]
+        self.assertEqual(page.post("reference", {"at": at, "anyway": True})[0], 200)
         state = page.until("it is known", lambda state: state["known"])
         self.assertEqual(page.post("resume")[0], 200)
         state = page.asked()
-        self.assertEqual((state["motors"][2], state["spindle"], state["moving"], state["question"]["purpose"]),
-                         ("2.000000", 1, False, "look"))
+        self.assertIn("How fast there, in mm a minute? It was cut off at 12;", state["question"]["text"])
+        page.agree(state, "12")
+        page.agree(page.asked())  # the spindle
+        state = page.asked()
+        self.looks(page, state, at)
+        page = self.page(OTHER)
+        self.assertEqual(page.post("takeover")[0], 200)
+        again = page.until("it is taken over", lambda state: state["yours"])
+        self.assertEqual(again["question"], state["question"])
+        self.looks(page, again, at)
+        page.agree(again)
+        state = page.until("it is there", lambda state: "with the cut" in (state["question"] or {"text": ""})["text"])
+        self.assertEqual((state["motors"], state["moving"]), (["2.000000", "0.000000", "0.000000"], False))
         page.agree(state)
         state = page.until("it goes on", lambda state: float(state["motors"][0]) < 2 and state["moving"])
         self.assertEqual((state["line"], state["word"]), (5, "Running"))
+
+
+    def looks(self, page: Page, state: dict, at: list[str]) -> None:
+        """The spindle turns, nothing has moved, and a yes isn't taken before all three things are looked at."""
+        question = state["question"]
+        self.assertEqual((state["motors"], state["spindle"], state["moving"], question["purpose"]),
+                         (at, 1, False, "look"))
+        self.assertEqual(question["looks"][0], "On, as it should be: the spindle, clockwise at 100")
+        for seen in ({}, {"seen": 2}, {"seen": True}, {"seen": [1, 1, 1]}):
+            self.assertEqual(page.post("answer", {"question": question["id"], "yes": True} | seen)[0], 422)
 
 
 class PowerOfFile(Served):
@@ -589,10 +615,31 @@ class PowerOfFile(Served):
         self.assertIn("Do they stand there?", state["question"]["text"])
         page.agree(state)
         state = self.look(page)
-        self.assertEqual((state["motors"], state["spindle"]), (["2.000000", "0.000000", "0.000000"], 1))
+        self.assertEqual((state["motors"], state["spindle"], state["question"]["purpose"]),
+                         (recover["stands"], 1, "look"))
+        page.agree(state)
+        state = page.until("it is there", lambda state: "with the cut" in (state["question"] or {"text": ""})["text"])
+        self.assertEqual(state["motors"], ["2.000000", "0.000000", "0.000000"])
         page.agree(state)
         state = page.until("it goes on", lambda state: float(state["motors"][0]) < 2 and state["moving"])
         self.assertEqual((state["line"], state["word"]), (5, "Running"))
+
+    def test_before_the_player(self) -> None:
+        """`ngc` is begun again before the player is back: it says why that can't be, at each try, and once the player
+        is back it begins."""
+        page = self.page()
+        state = page.next()
+        self.player.kill()
+        self.player.wait()
+        os.unlink("progress")
+        page.until("it is seen", lambda state: state["player_gone"])
+        for _ in range(3):
+            status, said = page.post("restart")
+            self.assertEqual((status, said["why"].partition(": ")[2]), (422, "no player listens there: No such file or"
+                                                                             " directory"))
+        self.begin_player()
+        self.assertEqual(page.post("restart"), (200, {}))
+        page.until("it begins", lambda now: now["session"] != state["session"] and not now["ended"])
 
     def look(self, page: Page) -> dict:
         """Agrees to all that is asked, up to the look at the machine; the state then, or where nothing more is asked.
@@ -692,6 +739,35 @@ class Jobs(InFolder):
             self.assertEqual((said["begins"], said["approach"]), ([], None))
 
 
+class PageWords(unittest.TestCase):
+    """What is refused and warned of names the page's buttons, and no word that is typed at a console."""
+
+    def test_words(self) -> None:
+        """Each of these is said by the core."""
+        for said, shown in (
+                ("held before line 5: G1: run goes on; a line of G-code, as M5, is done and ends the hold; then home",
+                 "held before line 5: G1: Continue goes on; a line of G-code, as M5, is done and ends the hold"),
+                ("line 5: G1 X1 runs: hold first", "line 5: G1 X1 runs: Hold first"),
+                ("held in segment 0 of line 5: G1 X1: run goes on; to give the block up: quit, start again, abandon. No"
+                 " other line is done before that", "held in segment 0 of line 5: G1 X1: Continue goes on, and Stop"
+                 " ends it. No other line is done before that"),
+                ("segment 0 of line 4: X2 is half-done. rehearse says what resume would do; reference player, or"
+                 " reference X Y Z, then resume or abandon, and home after that",
+                 "segment 0 of line 4: X2 is half-done. Recover takes it up, or gives it up"),
+                ("nothing is done: the motors are held with 5 lines in hand. release lets them carry those out, and run"
+                 " goes on", "nothing is done: the motors are held with 5 lines in hand. Go on carries those out"),
+                ("the player says that the motors are at X0 Y0 Z1, and ngc takes them to be at X0 Y0 Z0: 1.000 mm"
+                 " apart. Nothing is done.\n  reference player takes the player's point; run anyway goes on from ngc's",
+                 "The player counts X0 Y0 Z1, and the last line ended at X0 Y0 Z0: 1.000 mm apart. Nothing is done."
+                 " Where is it? asks which is so; home tells it anew"),
+                ("refused K3 PlaceUnknown: it isn't known where the machine stands: reference player, or reference X Y"
+                 " Z", "it isn't known where the machine stands: home, or tell where it is"),
+                ("refused X2 OutsideTravel: X leaves the travel", "refused X2 OutsideTravel: X leaves the travel")):
+            face = PageFace()
+            face.say(said, REFUSED)
+            self.assertEqual((face.log[-1].text, face.refusal), (shown, shown))
+
+
 class Faces(unittest.TestCase):
     """The face that pages see, without a session."""
 
@@ -712,6 +788,17 @@ class Faces(unittest.TestCase):
                          ("1.5", True, False))
         self.assertFalse(self.face.has_looked)
         self.assertEqual((self.face.agrees(SWITCHED), self.face.has_looked, self.face.question), (True, True, None))
+
+    def test_tool_on_the_way(self) -> None:
+        """A tool that comes on the way of recover is in once somebody says so by the button of tool changes too; no
+        other question is answered by it."""
+        session = PageSession.__new__(PageSession)
+        session.face, session._wake, session._next, session.under = self.face, threading.Condition(), None, "recover"
+        self.face.begin(0)
+        self.looks = [lambda _: session.tell("go")]
+        self.assertEqual(self.face.ask(f"tool 2 comes on the way: put it in{TYPE_GO}"), "go")
+        self.looks = [lambda _: session.tell("go"), lambda face: face.answer(face.question.id, "no")]
+        self.assertEqual((self.face.ask("Up to which Z? "), self.face.asides()), ("no", ["go"]))
 
     def test_holds(self) -> None:
         """A wish to hold is a no, and holds the command that was given before it, though that hadn't begun."""
@@ -758,7 +845,7 @@ class Given(unittest.TestCase):
         session.face, session.stand = PageFace(), SimpleNamespace(status=None)
         session.operator = SimpleNamespace(do=done.append, over=False)
         session.ended, session.over, session._wake = "", threading.Event(), threading.Condition()
-        session.under = session._next = None
+        session.under, session._next, session._stops = None, None, False
 
         def look() -> None:
             """Something is given, and then the next command."""
@@ -772,6 +859,17 @@ class Given(unittest.TestCase):
         session.give("reference", lambda: done.append("reference"))
         session._work()
         self.assertEqual(done, ["reference", "single on", "run"])
+
+    def test_finished(self) -> None:
+        """A program that ran to its end isn't finished any more once another run, a move or a load is given, though
+        that isn't begun yet; other commands leave it finished."""
+        for word, is_finished in (("run", False), ("home", False), ("load", False), ("zero", True), ("tool", True)):
+            session = PageSession.__new__(PageSession)
+            session.face, session._wake, session.over = PageFace(), threading.Condition(), threading.Event()
+            session.ended, session.under, session._next, session._stops = "", None, None, False
+            session.is_finished = True
+            session.give(word, lambda: None)
+            self.assertEqual((session.is_busy, session.is_finished), (True, is_finished), word)
 
 
 class HeldJogs(unittest.TestCase):
@@ -822,6 +920,21 @@ class Asides(InFolder):
         with self.assertRaises(NotDone):
             aside.call(divmod, 7, 2)
 
+    def test_cut_off(self) -> None:
+        """What is given up as its result is under way counts as not done: a part of that is none."""
+        child = Aside().begin(bytes, 1 << 20)
+        process, pipe = child._process, child._process.stdout
+
+        def cut_off(size: int) -> bytes:
+            """What came before it was given up."""
+            select.select([pipe], [], [])
+            child.give_up()
+            process.wait()
+            return pipe.read(size)
+
+        process.stdout = SimpleNamespace(read=cut_off, close=pipe.close)
+        with self.assertRaisesRegex(NotDone, "it was ended before it was done"):
+            child.result()
 
     def test_killed(self) -> None:
         """A kill of whoever asked leaves neither the work nor what that started behind."""

@@ -6,6 +6,7 @@ import sys
 import threading
 import time
 import unittest
+from dataclasses import replace
 from functools import cache
 from pathlib import Path
 from statistics import median
@@ -18,8 +19,12 @@ from machine_support import SocketMachine  # noqa: E402
 from page_support import OTHER, SHORT, SLOW, Page, Served  # noqa: E402
 from session_support import PATIENCE_S, TOOLS, ngc  # noqa: E402
 
+from ngc_tools.formats.device import Device  # noqa: E402
+from ngc_tools.formats.record import Record  # noqa: E402
+
 DOCS = TOOLS.parent / "docs"
 SIZES = ((1280, 800), (1024, 768), (1920, 1080))
+UPRIGHT = ((820, 1180), (390, 844), (360, 640))
 HOSTILE = "(<img src=x onerror=window.hacked=1>)\n(MSG, <script>window.hacked=1</script>)\nG17 G21 G90 G94\nM0\nM2\n"
 SIGHT = """(() => {
     const seen = [...document.querySelectorAll('button, input, summary')].filter(one => one.checkVisibility());
@@ -37,6 +42,34 @@ SIGHT = """(() => {
 CUT = """[...document.querySelectorAll('.axis output, .axis div, #word, #risk, #left, nav button, h1, h2, dt, dd')]
     .filter(one => one.checkVisibility() && one.scrollWidth > one.clientWidth + 1).map(one => one.textContent)"""
 """What a person reads from afar, and that is cut."""
+OVER = """(() => {
+    const out = [], far = document.getElementById('hold').getBoundingClientRect();
+    if (far.left < 0 || far.top < 0 || far.right > innerWidth || far.bottom > innerHeight) out.push('Hold is off');
+    if (document.documentElement.scrollWidth > innerWidth) out.push('too wide');
+    for (const one of document.querySelectorAll('button, input')) {
+        if (!one.checkVisibility() || !one.offsetWidth) continue;
+        one.scrollIntoView({ block: 'center' });
+        const box = one.getBoundingClientRect(), x = box.left + box.width / 2, y = box.top + box.height / 2;
+        const inert = one.closest('[inert]');
+        const found = document.elementFromPoint(x, y);
+        const isUnder = document.getElementById('over').checkVisibility() && one.closest('main');
+        if (!inert && !isUnder && found !== one && !one.contains(found)) {
+            const over = found && `${found.id || found.className || found.tagName}: ${found.textContent.slice(0, 99)}`;
+            out.push(`${one.id || one.textContent} under ${over}`);
+        }
+        if (!isUnder && (box.left < 0 || box.right > innerWidth + 0.5)) out.push(`${one.id || one.textContent} is out`);
+    }
+    const scale = document.getElementById('scale').getBoundingClientRect();
+    for (const one of document.querySelectorAll('.path .views button, #legend')) {
+        const box = one.getBoundingClientRect();
+        const isApart = box.right < scale.left || box.left > scale.right || box.bottom < scale.top
+            || box.top > scale.bottom;
+        if (!isApart) out.push(`the scale lies over ${one.id || one.textContent}`);
+    }
+    document.querySelector('main').scrollTop = 0;
+    return out;
+})()"""
+"""What lies over a button or an entry, or is out of the window to the side; whether Hold isn't on the screen."""
 LOW = """Math.max(...['.place', '#modes'].map(name => document.querySelector(name))
     .map(one => one.scrollHeight - one.clientHeight))"""
 """By how much what stands on the left, or its last line, goes below its edge."""
@@ -138,6 +171,7 @@ class InBrowser(Served):
         self.browser.size(*SIZES[0])
         self.browser.open(self.address)
         self.browser.wait("window.ngc?.state?.yours && ngc.jobId !== null")
+        self.browser.hurry()
 
     def choose(self, text: str, name: str = "part.ngc") -> None:
         """Chooses a program, and waits until it is looked at."""
@@ -154,13 +188,16 @@ class InBrowser(Served):
 
     def look(self, what: str) -> None:
         """In each size, dark and light, all is in the window, large enough, whole, and has contrast; no step after a
-        loss of power scrolls."""
+        loss of power scrolls. Upright, as tablets and phones are, nothing lies over anything, and Hold is in sight."""
         for width, height in SIZES:
             self.browser.size(width, height)
             self.assertEqual(self.browser.js(SIGHT), [], (what, width))
             self.assertEqual(self.browser.js(CUT), [], (what, width))
             self.assertLessEqual(self.browser.js(LOW), 0, (what, width))
             self.assertLessEqual(self.browser.js(LONG), 0, (what, width))
+        for width, height in UPRIGHT:
+            self.browser.size(width, height)
+            self.assertEqual(self.browser.js(OVER), [], (what, width))
         for _ in range(2):
             self.assertEqual(self.browser.js(CONTRAST), [], what)
             self.browser.js("document.getElementById('theme').click()")
@@ -213,8 +250,8 @@ class Looks(InBrowser):
         self.look("findings")
         count, says = browser.js("""[document.querySelectorAll('#over .finding').length,
             document.querySelector('#over .warn').textContent]""")
-        self.assertEqual((count, says.partition(".")[0]), (3, "2 lines refused"))  # its first line has two faults
-        browser.press("Load it all the same", "#over button")
+        self.assertEqual((count, says.partition(".")[0]), (2, "Adapted, still 1 line refused"))  # G41 is left out
+        browser.press("Adapt and load all the same", "#over button")
         browser.wait("ngc.state.question && document.querySelector('#over .asked')")
         self.look("a question")
         browser.press("No", "#over button")
@@ -234,6 +271,60 @@ class Looks(InBrowser):
         self.assertEqual(said, "<script>window.hacked=1</script>")
         self.assertIsNone(browser.js("window.hacked ?? document.querySelector('main img, main b b, main script')"))
         self.look("a stop")
+        self.no_complaints()
+
+    def test_adapt(self) -> None:
+        """What `ngc` refuses and `ngc-adapt` cures is shown line by line, once what it needs is said; it is loaded as
+        it is written then."""
+        browser = self.browser
+        self.choose("G21 G90 G17 G94 G91.1\nG0 X1 ; <b>\nG91 G28 Z0\nM30\n")
+        self.look("what a text needs")
+        self.assertTrue(browser.js("[...document.querySelectorAll('#over .foot button')].pop().disabled"))
+        browser.fill("#over .entry-row input", "-0.5")
+        browser.press("Adapt", "#over .foot button")
+        changes = browser.wait("[...document.querySelectorAll('#over .change pre')].map(one => one.textContent)"
+                               ".join('|')")
+        self.assertEqual(changes, "\u2212 G21 G90 G17 G94 G91.1\n+ G21 G90 G17 G94|\u2212 G0 X1 ; <b>\n+ G0 X1 (<b>)|"
+                         "\u2212 G91 G28 Z0\n+ G91 G53 G0 Z-0.5")
+        self.look("what is adapted")
+        browser.wait("ngc.preview?.count === 2")
+        browser.press("Adapt and load", "#over button")
+        browser.wait("ngc.state.program.lines === 4 && !ngc.state.busy")
+        self.assertIn("G53 G0 Z-0.5", Device.read("mill.dev").program.decode())
+        self.no_complaints()
+
+    def test_tools(self) -> None:
+        """A tool of any number gets a length; the slots below it have 0."""
+        browser = self.browser
+        browser.press("Tools", "nav button")
+        browser.fill("#tab-tools input[aria-label='Number of a new tool']", "0")
+        browser.fill("#tab-tools input[aria-label='Length of tool 1']", "62.5")
+        browser.press("Add", "#tab-tools button")
+        browser.wait("document.querySelector('#tab-tools input.wrong')")
+        self.assertEqual(browser.js("ngc.state.tools.length"), 0)
+        browser.fill("#tab-tools input[aria-label='Number of a new tool']", "T3")
+        browser.press("Add", "#tab-tools button")
+        browser.wait("String(ngc.state.tools) === '0.000000,0.000000,62.500000'")
+        self.look("tools")
+        self.no_complaints()
+
+    def test_cancel(self) -> None:
+        """A check tells how far it is, and is ended by its button; what is far too long is refused at once."""
+        browser = self.browser
+        Path("long.ngc").write_text("G17 G21 G90 G94\n" + "G1 X1 F600\nG1 X0\n" * 40_000 + "M2\n")
+        browser.choose_file(self.folder / "long.ngc")
+        browser.wait("parseFloat(document.querySelector('#over .track i')?.style.width) >= 0")
+        browser.press("Cancel", "#over button")
+        browser.wait("document.getElementById('over').hidden")
+        with open("huge.ngc", "wb") as file:
+            file.truncate(100_000_000)
+        browser.choose_file(self.folder / "huge.ngc")
+        said = browser.wait("document.querySelector('#over .warn')?.textContent")
+        self.assertEqual(said, "100,000,000 bytes: a program has at most 131,072, on a large device 1,048,576."
+                         " ngc-split parts it.")
+        browser.press("Back", "#over button")
+        self.choose("G0 X1\nM2\n")
+        self.assertEqual(browser.js("document.querySelectorAll('#over .track').length"), 0)
         self.no_complaints()
 
     @unittest.skipIf(IS_FIREFOX, "Firefox doesn't tell its processor time")
@@ -288,6 +379,19 @@ class Work(InBrowser):
         })()""")
         self.load(SLOW, 4)
         self.assertEqual(self.browser.js("window.failed"), 5)
+        self.no_complaints()
+
+    def test_drawn_anew(self) -> None:
+        """Once another program is loaded nothing is shown that was drawn of the one before."""
+        browser = self.browser
+        self.load(SLOW, 4)
+        browser.js("""void (window.fetched = window.fetch,
+            window.fetch = (what, ...more) => what === 'job' ? new Promise(() => {}) : fetched(what, ...more))""")
+        self.choose("M2\n", "other.ngc")
+        browser.press("Load", "#over button")
+        browser.wait("ngc.state.program.lines === 1 && !ngc.state.busy")
+        shown = browser.js("[ngc.job, ngc.picture.job, document.getElementById('share').textContent]")
+        self.assertEqual(shown, [None, None, "The path is being drawn\u2026"])
         self.no_complaints()
 
     def test_hold_at_once(self) -> None:
@@ -376,7 +480,9 @@ class Moves(InBrowser):
         browser.up(x, y)
         browser.wait("!ngc.state.busy && Number(ngc.state.at[0]) > -298")
         stopped = self.jogs()
+        self.assertIn("Takes machine X \u2212", browser.js("document.querySelector('#tab-setup').innerText"))
         browser.press("Set XY", "#tab-setup button")
+        browser.press("Yes: moves it", "#over button")
         browser.wait("ngc.state.work[0] === '0.000000' && ngc.state.work[1] === '0.000000'")
         browser.press("Undo: G10", "#tab-setup button")
         browser.wait("ngc.state.work[1] === ngc.state.at[1]")
@@ -385,6 +491,9 @@ class Moves(InBrowser):
         browser.wait("ngc.state.word === 'ALARM'")
         self.look("an alarm")
         browser.press("Home all", "#run")
+        self.assertTrue(browser.js("document.querySelector('#over .go').disabled"))
+        self.machine.axes.release()
+        browser.wait("!ngc.state.inputs.length && !document.querySelector('#over .go').disabled")
         self.assertEqual(browser.js("ngc.state.alarm"), "emergency_stop")
         browser.press("Home", "#over button")
         browser.wait("ngc.state.alarm === '' && ngc.state.word === 'Idle'")
@@ -433,7 +542,10 @@ class Power(InBrowser):
         self.not_rehearsed()
         self.press_amid_news("Next")
         self.assertTrue(browser.js("document.querySelector('#over .foot .go').disabled"))
-        self.assertIn("they make at most", browser.js("document.querySelector('#over .words').textContent"))
+        said = browser.js("document.querySelector('#over .words').textContent")
+        off = re.search(r"they make at most .* lines?(?: of OUT)?, ([0-9.]+) mm", said)[1]
+        shown = "[...document.querySelectorAll('#over .confirm button')].map(one => one.textContent).join()"
+        self.assertEqual(browser.js(shown), ",".join([f"Confirm, \u00b1 {off} mm"] * 3))
         for _ in range(3):
             browser.press("Confirm", "#over button")
         self.look("where it stands")
@@ -443,10 +555,42 @@ class Power(InBrowser):
         self.look("a rehearsal")
         self.press_amid_news("Next")
         self.look("the choice")
+        stands = browser.js("ngc.state.motors.join()")
         browser.press("Go along the path", "#over button")
-        self.agree_to_all()
+        self.agree_to_look()
+        self.assertEqual(browser.js("ngc.state.motors.join()"), stands)
+        browser.open(self.address)
+        browser.wait("window.ngc?.state?.question && document.querySelectorAll('#over .look button').length === 3")
+        self.assertTrue(browser.js("document.querySelector('#over .foot .go').disabled"))
+        self.assertEqual(browser.js("document.querySelectorAll('#over .look [aria-pressed=true]').length"), 0)
+        self.assertEqual(browser.js("ngc.state.motors.join()"), stands)
+        self.tick_all()
+        browser.press("Yes", "#over .go")
+        browser.wait("ngc.state.question?.text.includes('goes on with the cut')")
+        self.assertEqual(browser.js("ngc.state.motors.join()"), "0.000000,0.000000,0.000000")
+        browser.press("Yes: goes on with the cut", "#over .go")
         browser.wait("ngc.state.does === 'running' && ngc.state.motors[0] > 0.02 && ngc.state.spindle === 1")
         self.assertFalse(browser.js("document.getElementById('over').checkVisibility()"))
+        self.no_complaints()
+
+    def test_two_places(self) -> None:
+        """After a loss of power within a jog the large button asks where the machine stands, with how far the record
+        may be off, in place of a run that does nothing."""
+        browser = self.browser
+        self.load(SLOW, 4)
+        self.wait_for("the record is kept", lambda: Path("position").exists())
+        self.pull()
+        record = Record.of_text(Path("position").read_bytes(), "position")
+        Path("position").write_bytes(replace(record, at_nm=(3_000_000, 0, 4_000_000)).text())
+        self.begin_again()
+        browser.wait("document.getElementById('run').textContent === 'Where is it?'")
+        self.assertEqual(browser.js("[ngc.state.motors[0], ngc.state.at[0]].join()"), "3.000000,0.000000")
+        browser.press("Where is it?", "#run")
+        self.look("where the machine stands")
+        # in 20 ms 401 lines of 50 us at most: so many steps of each axis, 1.7321 um, rounded up
+        browser.press("Where the player counts, \u00b1 0.695 mm", "#over button")
+        browser.wait("ngc.state.at[0] === '3.000000' && ngc.state.at[2] === '4.000000'")
+        browser.wait("document.getElementById('run').textContent === 'Run' && !document.getElementById('run').disabled")
         self.no_complaints()
 
     def not_rehearsed(self) -> None:
@@ -476,8 +620,8 @@ class Power(InBrowser):
         self.browser.wait("ngc.job")
         self.browser.up(x, y)
 
-    def agree_to_all(self) -> None:
-        """Answers each question by a yes, up to the one before which one has to look."""
+    def agree_to_look(self) -> None:
+        """Answers each question by a yes, up to the one before which one has to look, and ticks what is seen."""
         browser, last = self.browser, 0
         while True:
             question = browser.wait(f"ngc.state.question?.id > {last} && ngc.state.question")
@@ -489,11 +633,16 @@ class Power(InBrowser):
         browser.wait("document.querySelectorAll('#over .look button').length === 3")
         self.assertTrue(browser.js("document.querySelector('#over .foot .go').disabled"))
         self.look("switched on")
+        self.tick_all()
+
+    def tick_all(self) -> None:
+        """Ticks what is seen: the ticks stay while news come."""
+        browser = self.browser
         browser.js("document.querySelectorAll('#over .look button').forEach(one => one.click())")
         seen = browser.js("ngc.state.now")
         browser.wait(f"ngc.state.now > {seen} + 1")
         self.assertEqual(browser.js("document.querySelectorAll('#over .look [aria-pressed=true]').length"), 3)
-        browser.press("Yes", "#over .go")
+        self.assertFalse(browser.js("document.querySelector('#over .foot .go').disabled"))
 
 
 class PowerOverPipe(InBrowser):
@@ -513,6 +662,9 @@ class PowerOverPipe(InBrowser):
         browser.wait(f"ngc.state?.session && ngc.state.session !== '{before}' && ngc.neverCut")
         browser.wait("document.querySelector('#over .bad')?.textContent.includes('NEVER CUT')")
         self.assertTrue(browser.js("ngc.picture.lost[0].length > 1 && !document.getElementById('never-cut').hidden"))
+        log = "document.querySelector('#log .uncut')"
+        browser.wait(f"{log}?.textContent.includes('NEVER CUT')")
+        self.assertTrue(browser.js("document.getElementById('toast').hidden"))  # the sheet shows it
         self.look("what was never cut")
         browser.press("Next", "#over button")
         for _ in range(3):

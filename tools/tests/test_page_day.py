@@ -74,6 +74,7 @@ class Walk(Served):
 
     OUT = "out"
     browser: Browser
+    mill = MILL  # the machine's file
 
     def setUp(self) -> None:
         """Opens the page; the setter is at machine Z 2, where the probe is touched."""
@@ -89,6 +90,7 @@ class Walk(Served):
         """Opens the address that the server printed."""
         self.browser.open(self.address)
         self.browser.wait("window.ngc?.state?.yours && ngc.jobId !== null")
+        self.browser.hurry()
 
     def begin_player(self) -> None:
         """Starts the player as PAGE.md does."""
@@ -96,7 +98,7 @@ class Walk(Served):
             self.world = World()
             self.addCleanup(self.world.close)
             self.world.switch(3, PROBE, 2, -1, -3_000)
-        Path("motion.toml").write_text(MILL)
+        Path("motion.toml").write_text(self.mill)
         self.player = subprocess.Popen([program(), "-f", "-s", "progress", "-m", "motion.toml", "out", "first.toml",
                                         "position"], stdin=subprocess.DEVNULL, stdout=subprocess.PIPE,
                                        stderr=subprocess.PIPE, text=True)
@@ -169,6 +171,7 @@ class Day(Walk):
     def jogs(self) -> None:
         """For as long as a finger is down, and then a number of millimetres."""
         before = self.browser.js("ngc.state.motors[0]")
+        self.press("Cont.", ".jog button")
         x, y = self.browser.place("X+", ".pad button")
         for _ in range(PRESSES):
             self.browser.down(x, y)
@@ -194,23 +197,33 @@ class Day(Walk):
         self.press("Tool 1 is in", "#run")
         self.rests("s.slot === 1")
         self.tab("Setup")
-        self.browser.press("Z\u2212", "#tab-setup .five button")
+        self.assertTrue(self.is_dead("Tool 1 stands on the setter"))  # it wasn't touched
+        self.press("Z\u2212", "#tab-setup .five button")
         self.rests("s.touched?.[2] === '2.000000'")
         self.browser.fill("input[aria-label='Machine Z of the setter, in mm']", "-48")
-        self.browser.press("Where the probe was touched", "#tab-setup button")
+        self.browser.wait("document.querySelector('#tab-setup').innerText.includes('Length 50.000 mm, 1.500 by now:"
+                          " touched at machine Z 2.000, setter at \u221248.000')")
         self.press("Tool 1 stands on the setter", "#tab-setup button")
-        self.rests("s.tools[0] === '50.000000'")
+        self.press("Yes: sets it", "#over button")
+        self.rests("s.tools[0] === '50.000000' && s.touched === null")  # its place counts once
+        self.assertTrue(self.is_dead("Tool 1 stands on the setter"))
         self.done.append("Tools")
+
+    def is_dead(self, says: str) -> bool:
+        """Whether a button of Setup is disabled; all of its text is in sight."""
+        button = f"[...document.querySelectorAll('#tab-setup button')].find(one => one.textContent === '{says}')"
+        self.assertEqual(self.browser.js(f"{button}.scrollWidth - {button}.clientWidth"), 0)
+        return bool(self.browser.wait(f"{button}.disabled ? 1 : 2") == 1)
 
     def zero(self) -> None:
         """This place is 0 in XY, and 2 in Z, which is taken back, and set."""
-        self.browser.press("Where the probe was touched", "#tab-setup button")
         self.press("Set XY", "#tab-setup button")
+        self.press("Yes: moves it", "#over button")
         self.rests("s.work[0] === '0.000000' && s.work[1] === '0.000000'")
         self.browser.fill("input[aria-label='Work coordinate of this place, in mm']", "2")
         for undoes in (True, False):
             self.press("Set Z", "#tab-setup button")
-            self.rests("s.work[2] === '2.000000'")
+            self.rests("s.work[2] === '2.000000'")  # by less than 5 mm
             if undoes:
                 self.press("Undo", "#tab-setup button")
                 self.rests("s.work[2] === s.at[2]")
@@ -224,6 +237,10 @@ class Day(Walk):
         self.assertIn("^^", said)
         self.assertIn("Mend: ", said)
         self.browser.press("Back", "#over button")
+        Path("part.ngc").write_text("G21 G90 G91.1\nM2\n")
+        self.browser.choose_file(self.folder / "part.ngc")
+        self.press("Adapt and load", "#over button")
+        self.wait("s.program.lines === 2 && !s.busy")
         self.load(DAY)
         self.done.append("Load")
         for kind, shown in (("3-D", "turn"), ("Top", "shift")):
@@ -259,6 +276,9 @@ class Day(Walk):
         stood = self.browser.js("ngc.state.motors.join()")
         self.browser.js("new Promise(done => setTimeout(done, 200))")
         self.assertEqual(self.browser.js("ngc.state.motors.join()"), stood)
+        enabled = "[...document.querySelectorAll('.pad button, #tab-setup .four button')].filter(one => !one.disabled)"
+        self.assertEqual(self.browser.js(f"{enabled}.length"), 0)  # they would be refused
+        self.assertIn("A line is held", self.browser.js("document.querySelector('#tab-setup .why').textContent"))
         self.press("Continue", "#run")
         self.wait("s.waits && s.waits_tool === 2 && s.spindle === 0")
         self.press("Tool 2 is in", "#run")
@@ -334,11 +354,11 @@ class Loss(Walk):
         self.stored()
 
     def later(self) -> None:
-        """It is put off, the machine is homed, and then the tool goes by legs."""
-        self.press("Later", "#over button")
-        self.tab("Setup")
-        self.home()
-        self.browser.press("Recover", "#run")
+        """The machine is homed first, as it is proposed, and then the tool goes by legs."""
+        self.browser.press("Next", "#over button")
+        self.press("Home first", "#over .go")
+        self.browser.press("Home", "#over button")
+        self.rests("s.homed === 'XYZ'")
         self.stored()
         self.confirmed()
         self.press("Go by legs", "#over button")
@@ -401,15 +421,16 @@ class Loss(Walk):
 
     def agrees(self) -> None:
         """Answers what is asked: a height where it is one; once the outputs are on what was seen is ticked. Nothing
-        moves before that."""
-        last, isLooked = 0, False
-        while not isLooked:
+        moves before that, and the cut goes on after another yes."""
+        last, text, stands = 0, "", self.browser.js("ngc.state.motors.join()")
+        while "goes on with the cut" not in text:
             question = self.wait(f"s.question?.id > {last} && s.question")
-            last, isLooked = question["id"], question["purpose"] == "look"
-            if question["kind"] == "text":
+            last, text = question["id"], question["text"]
+            if "Up to which Z" in text:
                 self.browser.fill("#over .entry input", "9.5")
-            if isLooked:
-                self.assertFalse(self.browser.js("ngc.state.moving"))
+            if question["purpose"] == "look":
+                self.assertEqual(self.browser.js("[ngc.state.moving, ngc.state.spindle, ngc.state.motors.join()]"),
+                                 [False, 1, stands])
                 self.browser.wait("document.querySelectorAll('#over .look button').length === 3")
                 self.browser.js("document.querySelectorAll('#over .look button').forEach(one => one.click())")
             self.browser.press("", "#over .go")

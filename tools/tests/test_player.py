@@ -422,7 +422,7 @@ class C(Playing, InC, PlayerTest):
     def test_its_own_words(self) -> None:
         """What it says of words that aren't its own."""
         usage = ("usage: player [-unrtfyc] [-a X Y Z] [-o SECONDS] [-b BYTES] [-s SOCKET] [-p PINS] [-m FILE]"
-                 " [-i FILE] [-g LINE] [-l Z] OUT SETTINGS POSITION")
+                 " [-i FILE] [-g LINE] [-l Z -e RATE] OUT SETTINGS POSITION")
         Path("out").write_text(LINES)
         for words in (("out", "first.toml"), ("out", "first.toml", "position", "more"), ("-x",), ("-a", "1", "2")):
             self.assertEqual(self.refused(*words), usage)

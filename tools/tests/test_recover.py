@@ -2,6 +2,7 @@
 import os
 import random
 import shutil
+import signal
 import subprocess
 import sys
 import time
@@ -20,16 +21,17 @@ from session_support import FIRST, InFolder, ngc, told  # noqa: E402
 
 from ngc_tools.cli.rehearse import main as rehearse  # noqa: E402
 from ngc_tools.formats.device import Device  # noqa: E402
-from ngc_tools.formats.out import OFF  # noqa: E402
+from ngc_tools.formats.out import OFF, read_line  # noqa: E402
 from ngc_tools.formats.record import Record  # noqa: E402
 from ngc_tools.formats.settings import Settings  # noqa: E402
 from ngc_tools.ngc.carried import CannotTell  # noqa: E402
 from ngc_tools.ngc.console import Console, Status  # noqa: E402
-from ngc_tools.ngc.handed_out import Finder, FileRecord  # noqa: E402
+from ngc_tools.ngc.handed_out import Finder, FileRecord, _only  # noqa: E402
 from ngc_tools.operator.meter import Meter  # noqa: E402
 from ngc_tools.operator.operator import Operator  # noqa: E402
 from ngc_tools.operator.past import along_out, by_rate  # noqa: E402
 from ngc_tools.operator.recovery import OutFound, Recovery  # noqa: E402
+from ngc_tools.operator.sentences import GO_ON, LOOK, LOOK_AGAIN, LOOK_SWITCHED, SWITCHED_THERE  # noqa: E402
 from ngc_tools.operator.synced import SyncedLink  # noqa: E402
 from ngc_tools.player.source import Source  # noqa: E402
 
@@ -103,7 +105,7 @@ class Going:
         Path("pins").unlink()
         back = ("--go-to-line", "1", "--yes")
         refused = "out: line 3 asks to put in tool 2, and lies on the way: --across-tools goes all the same\n"
-        for words in (back, (*back, "--lift", "1")):
+        for words in (back, (*back, "--lift", "1", "--feed", "600")):
             status, said = self.go(*words)
             self.assertEqual((status, said.partition(": ")[2], self.pins()), (2, refused, []))
         self.assertEqual(self.go("--go-to-line", "3", "--yes")[0], 0)
@@ -132,13 +134,14 @@ class Going:
             self.assertEqual((status, said in told, bool(self.pins())), (2, True, False) if said else (0, True, True))
 
     def test_legs(self) -> None:
-        """Up, over, and down, at the traverse rate, to where line 2 leads: from 3 1 -1 up to 1, to 1 0, down to 0."""
-        status, said = self.go("--go-to-line", "2", "--lift", "0.001", "--yes")
+        """Up, over, and down, at the traverse rate and the last leg at a feed, to where line 2 leads: from 3 1 -1 up to
+        1, to 1 0, down to 0."""
+        status, said = self.go("--go-to-line", "2", "--lift", "0.001", "--feed", "600", "--yes")
         self.assertEqual((status, said.splitlines()[0]), (0, "by legs over Z 0.001000 to X0.001000 Y0.000000 Z0.000000:"
                                                           " 0.005 mm in 0.000 s, lowest Z -0.001"))
         # over: 2 by 1 steps are 2.236 um, which the rate of 100 mm/s takes 22.36 us for: 11.18 a pulse, 50 at least
         self.assertEqual(self.pins(), ["S 1 900.000000 0 0 0 0", "P 0 0 1 50", "P 0 0 1 50", "P -1 0 0 50",
-                                       "P -1 -1 0 50", "P 0 0 -1 50", "off"])
+                                       "P -1 -1 0 50", "P 0 0 -1 100", "off"])
         self.assertEqual(record().splitlines()[0::3], ["lines 2", "reference 0.001000 0.000000 0.000000"])
 
     def test_off_the_path(self) -> None:
@@ -149,13 +152,24 @@ class Going:
         self.assertEqual((status, self.pins()), (2, []))
         self.assertIn("--at 0.001000 0.001000 0.002000: the motors left the way at X0.001000 Y0.000000 Z0.000000:"
                       " --lift Z leads back to it by legs", said)
-        words = ("--go-to-line", "6", "--at", "0.001", "0.001", "0.002", "--yes", "--lift")
+        words = ("--go-to-line", "6", "--at", "0.001", "0.001", "0.002", "--yes", "--feed", "9999", "--lift")
         self.assertIn("out: Z 0.001999 lies below Z 0.002000: legs go up first, and down last",
                       self.go(*words, "0.001999")[1])
         self.assertEqual(self.go(*words, "0.002")[0], 0)
         self.assertEqual(self.pins(), ["S 1 900.000000 0 0 0 0", "P 0 -1 0 50", "P 0 0 -1 50", "P 0 0 -1 50",
                                        *PATH.decode().splitlines()[2:], "off"])
         self.assertTrue(record().endswith(WHOLE_RECORD))
+
+    def test_half_of_legs(self) -> None:
+        """No leg goes down at a rate that nobody named, and no rate is named for nothing."""
+        before = record()
+        for words in (("--go-to-line", "2", "--yes", "--lift", "1"), ("--go-to-line", "2", "--yes", "--feed", "1"),
+                      ("--feed", "1")):
+            status, said = self.go(*words)
+            self.assertEqual((status, self.pins()), (2, []), words)
+            self.assertTrue(said.endswith(": --lift Z and --feed RATE go together: so fast the last leg goes, down into"
+                                          " the work\n"), said)
+        self.assertEqual(record(), before)
 
     def test_refused(self) -> None:
         """What doesn't belong together is named, and nothing moves."""
@@ -171,7 +185,9 @@ class Going:
                  " motors are on the way isn't known"),
                 (("--go-to-line", "2", "--yes", "axis", *words),
                  "axis: a pipe keeps no lines: --go-to-line is for a file"),
-                (("--go-to-line", "2", "--yes", "--lift", "1001", "out", *words),
+                (("--go-to-line", "2", "--yes", "--lift", "1", "--feed", "0", "out", *words),
+                 "not a rate in millimetres a minute with at most six decimals: 0"),
+                (("--go-to-line", "2", "--yes", "--lift", "1001", "--feed", "1", "out", *words),
                  "--lift 1001: it lies outside the travel of Z")):
             self.assertEqual(self.refused(*given), why)
         shutil.copy("copy", "new")
@@ -202,7 +218,7 @@ class Going:
         self.assertGreater(time.monotonic() - begun, 0.25)
         self.assertEqual(self.pins()[4000:], ["P -1 0 0 50"] * 4000)
         self.assertIn("lines 0\n", record())
-        words = ("--untimed", "--lift", "0.002", "--at", "0", "0.003", "0", "--yes", *words)
+        words = ("--untimed", "--lift", "0.002", "--feed", "9000", "--at", "0", "0.003", "0", "--yes", *words)
         self.assertEqual(self.run_player("--go-to-line", "7", *words).returncode, 0)
         self.assertEqual(self.pins()[8000:], ["P 0 0 1 50"] * 2 + ["P 0 -1 0 50"] * 3 + ["P 0 0 -1 50"] * 2
                          + ["P 1 0 0 50"] * 7)
@@ -305,6 +321,44 @@ class Followed:
         self.assertEqual(link.ask().at, "0.004000 0.000000 0.000000")
 
 
+    def test_switch_alone(self) -> None:
+        """Outputs are switched where the motors stand, but for the tool, and nothing moves; beside the path too, and
+        what isn't a switch isn't taken."""
+        Path("out").write_bytes(PATH)
+        self.assertEqual(self.play("--untimed").returncode, 0)
+        self.begin("--follow", "--untimed", "--pins", "pins2", "--at", "0.5", "0", "0", "--progress", "progress", "out",
+                   "first.toml", "position")
+        link = self.linked()
+        before = link.ask()
+        link.switch(read_line("S 2 500.000000 0 1 3 3", 1))
+        self.wait_for("it is switched", lambda: not link.ask().behind)
+        link._send(b"switch P 1 0 0 50")
+        after = link.ask()
+        self.assertEqual((str(after.outputs), after.at, after.carried), ("S 2 500.000000 0 1 3 0", before.at, 6))
+        self.assertEqual(Path("pins2").read_text(), "S 2 500.000000 0 1 3 0\n")
+
+    def test_feed(self) -> None:
+        """At a feed of 60 mm a minute a step of 1 um takes 1,000 us: of the last leg, of a straight line, and of a way
+        back, whose own pulses of 70 and 200 us are too fast; a diagonal of two steps, 1,414 nm, takes 1,414."""
+        Path("out").write_bytes(PATH)
+        self.assertEqual(self.play("--untimed").returncode, 0)
+        self.begin("--follow", "--untimed", "--pins", "pins2", "--progress", "progress", "out", "first.toml",
+                   "position")
+        link = self.linked()
+        for go, at in ((lambda: link.along(34, "60"), "0.001000 0.000000 0.000000"),
+                       (lambda: link.legs("0.001", "0 0 0", 34, "60"), "0.000000 0.000000 0.000000"),
+                       (lambda: link.straight("0.001 0 -0.001", 34, "60"), "0.001000 0.000000 -0.001000")):
+            go()
+            self.wait_for("it is there", lambda: not link.ask().behind)
+            self.assertEqual(link.ask().at, at)
+        for wrong in (b"along 34 feed 0", b"along 34 feed x", b"straight 1 1 34 feed 60", b"straight 1 1 1 34 60"):
+            link._send(wrong)
+            self.assertFalse(link.ask().behind)
+        self.assertEqual(Path("pins2").read_text().splitlines(), [
+            "P -1 0 1 1414", "P 0 -1 0 1000", "P -1 0 0 1000", "P 0 0 1 50", "P -1 0 0 50", "P 0 0 -1 1000",
+            "P 1 0 -1 1414"])
+
+
 class FollowedInPython(Followed, PlayerTest):
     """ngc-player."""
 
@@ -351,6 +405,19 @@ class Finding(InFolder):
                          (wanted, uncut.at(wanted), False))
         self.assertEqual(whole.splitlines(), uncut.lines[:whole.count(b"\n")])
         self.assertGreaterEqual(len(whole), found.size)
+
+    def test_short(self) -> None:
+        """Where less was handed out than the bytes by which a place is known, the search comes to its end: by hand, OUT
+        ends with both lines, with the first alone, and with neither."""
+        whole = b"P 1 0 0 50\nP 0 1 0 50\n"
+        before = signal.signal(signal.SIGALRM, lambda *_: self.fail("it doesn't come to an end"))
+        self.addCleanup(signal.signal, signal.SIGALRM, before)
+        self.addCleanup(signal.alarm, 0)
+        signal.alarm(20)
+        for text, count in ((b"D 9\n" + whole, 22), (whole + b"D 9\n" + whole, 22), (b"D 9\nP 1 0 0 50\n", 11),
+                            (b"D 9\n", None), (b"", None)):
+            self.assertEqual(_only(text, len(text), whole), count, text)
+        self.assertIsNone(_only(b"D 9\n", 4, b""))
 
     def test_what_doesnt_belong(self) -> None:
         """Another OUT than the device's, and a record that counts more than OUT has."""
@@ -450,10 +517,14 @@ class Typing(Yes):
         super().__init__()
         self.answers = list(answers)
         self.holds = 0
+        self.asked: list[tuple[str, list[str]]] = []
+        """The last line of each question, and what the pins had got then."""
 
     def ask(self, question: str) -> str:
         """The next answer."""
         self.said.append(question)
+        pins = Path("pins").read_text().splitlines() if Path("pins").exists() else []
+        self.asked.append((question.strip().splitlines()[-1], pins))
         return self.answers.pop(0) if self.answers else ""
 
     def agrees(self, question: str) -> bool:
@@ -541,6 +612,70 @@ class Recovering(PlayerTest):
         operator.do("recover")
         self.assertEqual(face.said, ["recover is for what the last session left, before anything else is done"])
 
+    def cut_off(self, out: str = "out") -> list[str]:
+        """A device of which G1 Z-0.010 at 60 mm a minute is open, under a spindle that turned, at X0.003."""
+        self.device()
+        text = "M3 S900\nG0 X0.003\nG1 Z-0.010 F60\nM2\n"
+        self.run_ngc(f"load {len(text)}\n{text}start\ntick 18\nquit\n", out)
+        return Path(out).read_text().splitlines() if out == "out" else []
+
+    def test_look_before_the_way_back(self) -> None:
+        """What was on is switched on first, and then it asks, before a pulse is made; a no switches that off again.
+        Back it goes no faster than the feed that was cut off."""
+        lines = self.cut_off()
+        back = sum(line == "P 0 0 -1 1000" for line in lines)
+        self.assertGreater(back, 3)
+        on, off = "S 1 900.000000 0 0 0 0", "S 0 0.000000 0 0 0 0"
+        size = len(Path("out").read_bytes())
+        source = Source("out")
+        mark = source.mark(size)
+        source.close()
+        at_nm = (3000, 0, -1000 * back)
+        Path("position").write_bytes(Record(f"{self.folder}/out", len(lines), size, OFF, at_nm, mark).text())
+        operator, face = self.operate("yes", "yes", "no", "yes", "yes", "yes", "no")
+        operator.do("recover")
+        self.assertEqual(face.asked[-1], (LOOK_SWITCHED.strip().splitlines()[-1], [on]))
+        self.assertEqual((self.pins(), operator.look()[0].known), ([on, off], False))
+        operator.do("recover")
+        look, last = face.asked[-2:]
+        self.assertEqual(look, (LOOK_SWITCHED.strip().splitlines()[-1], [on, off, on]))
+        went = ["P 0 0 1 1000"] * back
+        self.assertEqual(last, (GO_ON.strip().splitlines()[-1], [on, off, on, *went, on]))
+
+    def test_look_before_the_straight_way(self) -> None:
+        """Over a pipe `resume` goes straight, at the feed that was cut off or at a slower one, once somebody looked."""
+        os.mkfifo("axis")
+        reader = subprocess.Popen(["cat", "axis"], stdout=subprocess.DEVNULL)
+        self.cut_off("axis")
+        reader.wait()
+        Path("position").write_bytes(Record(f"{self.folder}/axis", at_nm=(5000, 0, 4000)).text())
+        operator, face = self.operate("61", "no", "", "yes", "no", "30", "no", "yes", "no", out="axis")
+        operator.do("reference player")
+        operator.do("resume")
+        self.assertIn("61 isn't above 0, and at most 60.", face.said)
+        self.assertEqual(self.pins(), [])
+        on, off = "S 1 900.000000 0 0 0 0", "S 0 0.000000 0 0 0 0"
+        operator.do("resume")
+        self.assertEqual(face.asked[-1], (LOOK_SWITCHED.strip().splitlines()[-1], [on]))
+        operator.do("resume")
+        self.assertEqual(face.asked[-2], (LOOK.strip().splitlines()[-1], [on, off]))
+        moved = face.asked[-1][1][2:]
+        self.assertEqual((face.asked[-1][0], moved[-1]), (SWITCHED_THERE.strip().splitlines()[-1], on))
+        # 2 by 4 steps are 4.472 um, which 30 mm a minute takes 8,944 us for: 2,236 a pulse
+        self.assertEqual((len(moved), {line.split()[4] for line in moved[:-1]}), (5, {"2236"}))
+        self.assertEqual(operator.look()[1].at, "0.003000 0.000000 0.000000")
+
+    def test_not_gone(self) -> None:
+        """Where the player doesn't go there, as in an alarm, `ngc` isn't told that it did."""
+        self.half_done()
+        os.mkfifo("axis")
+        Path("position").write_bytes(Record(f"{self.folder}/axis", at_nm=(5000, 0, 4000)).text())
+        operator, face = self.operate("yes", "0.006", "600", "yes", out="axis")
+        operator.session.meter.link.legs = lambda *_: None
+        operator.do("recover")
+        self.assertEqual((self.pins(), operator.look()[0].known), ([], False))
+        self.assertRegex(face.said[-1], "The player doesn't go there, and nothing is told to ngc")
+
     def test_drop(self) -> None:
         """Lines that are left are cut off OUT, and then commands are taken."""
         self.half_done()
@@ -561,7 +696,7 @@ class Recovering(PlayerTest):
         Path("first.toml").write_text(FIRST.replace("6000000000", "600000"))
         self.half_done()  # 0.6 mm a minute are 100,000 us a step
         self.record_of(9, (3000, 0, 6000), 15)
-        operator, face = self.operate("yes", "yes", "no", "no", "yes", words=())
+        operator, face = self.operate("yes", "yes", "no", "no", "no", "yes", words=())
         self.assertFalse(operator.recover.found.is_left())
         face.holds = 1
         operator.do("recover")
@@ -572,6 +707,9 @@ class Recovering(PlayerTest):
         operator.do("drop")
         self.assertIn("nothing is cut off: the motors are on their way", face.said[-1])
         self.wait_for("they are held", lambda: operator.look()[1].is_held)
+        before = self.pins()
+        operator.do("recover")
+        self.assertEqual((face.said[-1], self.pins()), (LOOK_AGAIN, before))
         operator.do("quit")
         self.assertRegex(face.said[-2], "once the session has ended that is for recover in the next session.")
         operator.do("release")
@@ -614,13 +752,19 @@ class Recovering(PlayerTest):
         """Where the motors were moved by hand, legs lead back over the height that is typed; a wrong one is refused."""
         self.half_done()
         self.record_of(5, (0, 0, 9000))
-        operator, face = self.operate("yes", "", "yes", "one", "yes", "0.010", "yes", "yes")
+        operator, face = self.operate("yes", "", "yes", "one", "1000.1", "0.0089", "0.010", "x", "0", "600", "yes",
+                                      "yes")
         operator.do("recover")
+        self.assertEqual(self.pins(), [])
         operator.do("recover")
-        self.assertEqual((self.pins(), face.said[-1]),
-                         ([], "not a number of millimetres with at most six decimals: one"))
-        operator.do("recover")
-        self.assertEqual(self.pins()[:14], ["P 0 0 1 50"] + ["P 1 0 0 50"] * 3 + ["P 0 0 -1 50"] * 10)
+        asked = "Up to which Z, in machine mm, from 0.009000 to 1000.000000? Nothing ends: "
+        refusals = [said.splitlines()[0] for said in face.said if said.endswith(asked) and said.count("\n")]
+        self.assertEqual(refusals, [
+            "not a number of millimetres with at most six decimals: one.", "Z 1000.1 lies outside the travel.",
+            "Z 0.0089 lies below Z 0.009000: legs go up first, and down last."])
+        self.assertEqual([said.splitlines()[0] for said in face.said if said.endswith("Nothing ends: ")][-2:],
+                         ["Not a number of mm a minute: x.", "0 isn't above 0."])
+        self.assertEqual(self.pins()[:14], ["P 0 0 1 50"] + ["P 1 0 0 50"] * 3 + ["P 0 0 -1 100"] * 10)
         self.assertEqual(self.pins()[14:35], ["S 0 0.000000 0 0 0 0"] + ["P 0 0 1 50"] * 20)
 
     def test_outputs_given_back(self) -> None:
@@ -647,11 +791,11 @@ class Recovering(PlayerTest):
         is carried out."""
         self.half_done()
         self.record_of(2, (2000, 1000, 0))
-        operator, face = self.operate("yes", "0.001", "yes", "yes")
+        operator, face = self.operate("yes", "0.001", "600", "yes", "yes")
         operator.do("recover")
         self.assertIn("by the record the motors aren't on the path of OUT: legs lead to it, and then on along 1 line of"
                       " OUT", face.said)
-        self.assertEqual(self.pins()[:25], ["P 0 0 1 50", "P 0 -1 0 50", "P 0 0 -1 50", "P 1 0 0 50",
+        self.assertEqual(self.pins()[:25], ["P 0 0 1 50", "P 0 -1 0 50", "P 0 0 -1 100", "P 1 0 0 50",
                                             "S 0 0.000000 0 0 0 0"] + ["P 0 0 1 50"] * 20)
 
     def test_lost_out(self) -> None:
@@ -659,13 +803,13 @@ class Recovering(PlayerTest):
         self.half_done()
         Path("out").write_text("P 0 1 0 50\n" * 3)
         self.record_of(2, (0, 0, 0))
-        operator, face = self.operate("no", "yes", "0.001", "yes", "yes")
+        operator, face = self.operate("no", "yes", "0.001", "600", "yes", "yes")
         operator.do("recover")
         self.assertIn("out doesn't end with lines of the half-done block: it isn't the OUT of this device, or the"
                       " record isn't that of this OUT", face.said)
         self.assertEqual(self.pins(), [])
         operator.do("recover")
-        self.assertEqual(self.pins()[:5], ["P 0 0 1 50"] + ["P 1 0 0 50"] * 3 + ["P 0 0 -1 50"])
+        self.assertEqual(self.pins()[:5], ["P 0 0 1 50"] + ["P 1 0 0 50"] * 3 + ["P 0 0 -1 100"])
         self.assertEqual(self.pins()[5:26], ["S 0 0.000000 0 0 0 0"] + ["P 0 0 1 50"] * 20)
 
     def test_pipe(self) -> None:
@@ -673,16 +817,16 @@ class Recovering(PlayerTest):
         self.half_done()
         os.mkfifo("axis")
         Path("position").write_bytes(Record(f"{self.folder}/axis", at_nm=(5000, 0, 4000)).text())
-        operator, face = self.operate("yes", "", "yes", "0.003", "yes", "0.006", "no", "yes", "0.006", "yes", "yes",
-                                      out="axis")
-        for said in (None, "Z 0.003000 lies below Z 0.004000: legs go up first, and down last",
-                     "up 0.002 mm, over 0.002 mm, and down 0.006 mm, at the traverse rate"):
+        operator, face = self.operate("yes", "", "yes", "0.003", "", "yes", "0.006", "600", "no", "yes", "0.006", "600",
+                                      "yes", "yes", out="axis")
+        for said in (None, "Z 0.003 lies below Z 0.004000: legs go up first, and down last.",
+                     "up 0.002 mm, and over 0.002 mm, at the traverse rate; down 0.006 mm at F600"):
             face.said.clear()
             operator.do("recover")
             self.assertEqual((self.pins(), operator.look()[0].known), ([], False))
             self.assertTrue(said is None or said in face.said)
         operator.do("recover")
-        self.assertEqual(self.pins()[:10], ["P 0 0 1 50"] * 2 + ["P -1 0 0 50"] * 2 + ["P 0 0 -1 50"] * 6)
+        self.assertEqual(self.pins()[:10], ["P 0 0 1 50"] * 2 + ["P -1 0 0 50"] * 2 + ["P 0 0 -1 100"] * 6)
         self.assertEqual(self.pins()[10:31], ["S 0 0.000000 0 0 0 0"] + ["P 0 0 1 50"] * 20)
 
     def test_part(self) -> None:

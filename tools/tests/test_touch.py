@@ -8,12 +8,14 @@ from pathlib import Path
 
 sys.path.insert(0, str(Path(__file__).resolve().parent))
 
+from machine_support import MachineLink  # noqa: E402
 from session_support import InFolder, told  # noqa: E402
 from test_operate import operate  # noqa: E402
 from test_operator import Core, FileLink  # noqa: E402
 
 from ngc_tools.cli.operate import main  # noqa: E402
 from ngc_tools.operator.numbers import length_of, nanometres_of  # noqa: E402
+from ngc_tools.operator.setter import Setter as TouchingOff  # noqa: E402
 from ngc_tools.operator.setter import read_setter  # noqa: E402
 
 WHICH = "zero X Y Z: which axes are 0 here? zero Z 10 for another coordinate than 0"
@@ -35,13 +37,13 @@ class Zero(Core):
         self.assertEqual(self.do("zero X Y"), [
             "G10 L2 P1 X1.25 Y2", at, "work X0.000 Y0.000 Z-3.000; G54 at X1.25 Y2 Z0",
             "G54: X1.25 Y2 Z0 (X0 Y0 Z0 before). undo puts it back"])
-        self.assertEqual(self.do("ZERO z10"), [
+        self.assertEqual(self.do("ZERO z10", answers=("yes",)), [
             LENGTH_0, "G10 L2 P1 Z-13", at, "work X0.000 Y0.000 Z10.000; G54 at X1.25 Y2 Z-13",
             "G54: X1.25 Y2 Z-13 (X1.25 Y2 Z0 before). undo puts it back"])
         for typed, origin in (("zero x -.5y 0.25mm", (1_750_000, 1_750_000, -13_000_000)),
                               ("zero y 1in", (1_750_000, -23_400_000, -13_000_000)),
                               ("zero yxz", (1_250_000, 2_000_000, -3_000_000))):
-            self.do(typed)
+            self.do(f"{typed} anyway")
             self.assertEqual(self.origin(), origin, typed)
         self.assertEqual(len(self.out()), 3000)  # of the move alone
 
@@ -50,6 +52,7 @@ class Zero(Core):
         self.begin()
         self.do("G10 L2 P1 X7", "G55", "G0 X3")
         self.assertIn("G10 L2 P2 X3", self.do("zero X"))
+        self.assertEqual(self.face.asked, [])  # of the system in force it is near the one before
         self.do("G54")
         self.assertEqual(self.origin(), (7_000_000, 0, 0))
         self.assertEqual(self.do("undo")[0], "G10 L2 P2 X0 Y0 Z0")
@@ -60,11 +63,11 @@ class Zero(Core):
         """The tool length and a G92 offset are allowed for, and told of where they move the zero point later."""
         self.begin()
         self.do("tool 1 50", "T1 M6", "G0 X2 Z-10")
-        self.assertEqual(self.do("zero Z 1")[:3], [
+        self.assertEqual(self.do("zero Z 1", answers=("yes",))[:3], [
             LENGTH_0, "tool 1, in the spindle, is 50 mm long: Z0 moves once G43 H1 takes that. G43 H1 first, then zero,"
             " does without it", "G10 L2 P1 Z-11"])
         self.do("G43 H1")
-        self.assertEqual(self.do("zero Z 1")[:3], [
+        self.assertEqual(self.do("zero Z 1", answers=("yes",))[:3], [
             "Z is that of the tool's tip, by the tool length in force, 50 mm", "G10 L2 P1 Z-61",
             "idle; X 2.000000 Y 0.000000 Z -10.000000"])
         self.do("G92 X5")  # by 3 less than X2, which X was before
@@ -86,7 +89,7 @@ class Zero(Core):
         self.assertEqual(self.origin()[0], 2_540_000)
         self.assertEqual(self.do("undo")[0], "#5221=1.27 #5222=-2 #5223=0 G10 L2 P1")
         self.assertEqual(self.origin(), (1_270_000, -2_000_000, 0))
-        self.do("G55", "zero Z 1in")
+        self.do("G55", "zero Z 1in anyway")
         self.assertEqual(self.origin(), (0, 0, -25_400_000))
 
     def test_modes(self) -> None:
@@ -97,6 +100,25 @@ class Zero(Core):
         self.assertIn("G10 L2 P1 X4", self.do("zero X"))
         now = self.operator.stored().state
         self.assertEqual((now.distance, now.feed_mode, now.motion), (91, 93, before.motion))
+
+    def test_far(self) -> None:
+        """A zero that would be more than 5 mm from the one before is asked, each axis by itself; `anyway` isn't."""
+        self.begin()
+        self.do("G10 L2 P1 X1 Y1", "reference 6 3.25 -4")
+        self.do("zero X Y", "zero Z")  # by 5, 2.25 and 4 mm
+        self.assertEqual((self.face.asked, self.origin()), ([], (6_000_000, 3_250_000, -4_000_000)))
+        self.do("reference 306.000001 3.25 -4")
+        self.assertEqual(self.do("zero X Y", answers=("no",)), ["nothing is set"])
+        self.assertEqual(self.face.asked, [
+            "the zero of G54 would move in X by 300.000 mm: to machine X306.000001 Y3.25 from X6 Y3.25\n"
+            "yes moves it: "])
+        self.assertEqual(self.origin(), (6_000_000, 3_250_000, -4_000_000))
+        self.do("zero X Y", answers=("yes",))
+        self.assertEqual(self.origin(), (306_000_001, 3_250_000, -4_000_000))
+        self.do("zero X 500 anyway")
+        self.assertEqual((self.face.asked, self.origin()[0]), ([], -193_999_999))
+        self.do("undo")
+        self.assertEqual((self.face.asked, self.origin()[0]), ([], 306_000_001))
 
     def test_undo(self) -> None:
         """It takes one step back, once, and not where something else was set since."""
@@ -131,7 +153,7 @@ class Zero(Core):
                               ("zero x--1", "not a number: --1"), ("zero x 1.1.1", "not a number: 1.1.1"),
                               ("zero x 1111111111111111111111111", "not a number: 1111111111111111111111111")):
             self.assertEqual(self.do(typed), [wanted], typed)
-        self.assertIn("refused E3 OutOfRange", self.do("zero x 99999999")[1])
+        self.assertIn("refused E3 OutOfRange", self.do("zero x 99999999 anyway")[1])
         self.assertEqual(self.origin(), (0, 0, 0))
         self.end()
         self.run_ngc("mdi G0 X0.005\ntick 3\nquit\n", "before")
@@ -166,20 +188,54 @@ class Tool(Core):
         self.begin()
         self.do("tool 1 50", "G43 H1", "G0 G53 Z-20.5")
         self.operator.touch.setter_nm = -81_250_000
-        self.assertEqual(self.do("touch tool 1"), [
+        self.assertEqual(self.do("touch tool 1", answers=("yes",)), [
             "machine Z is -20.5, and the setter's top is at -81.25", "tool 1 60.75", "done 4",
             "tool 1: 60.75 (50 before). undo puts it back",
             "G43 H1 takes it; a length that is in force stays until then"])
         self.assertEqual((self.lengths(), self.operator.stored().state.tool_length_nm), ([60_750_000], 50_000_000))
         self.assertEqual(self.do("undo"), ["tool 1 50", "done 5"])
         self.assertEqual(self.lengths(), [50_000_000])
-        self.assertEqual(self.do("touch tool 2 -1.5in")[:2], ["machine Z is -20.5, and the setter's top is at -38.1",
-                                                              "tool 2 17.6"])
+        self.assertEqual(self.do("touch tool 2 -1.5in", answers=("yes",))[:2], [
+            "machine Z is -20.5, and the setter's top is at -38.1", "tool 2 17.6"])
         self.assertIn("tool 2: 17.6 (no slot before). undo puts it back", [text for _, text in self.face.said])
         self.assertEqual(self.do("undo"), ["tool 2 0", "done 7"])  # a slot can't be taken away
 
+    def test_far(self) -> None:
+        """A length that is by more than 5 mm another one than before is asked, and so is a first one of which nothing
+        says that the setter was touched."""
+        self.begin()
+        self.do("tool 1 20", "reference 0 0 -150")
+        self.assertEqual(self.do("touch tool 1 -170.25"), [
+            "machine Z is -150, and the setter's top is at -170.25", "tool 1 20.25", "done 3",
+            "tool 1: 20.25 (20 before). undo puts it back",
+            "G43 H1 takes it; a length that is in force stays until then"])
+        self.do("reference 0 0 0")
+        self.assertEqual(self.do("touch tool 1 -170.25", answers=("no",))[1:], ["nothing is set"])
+        self.assertEqual(self.face.asked, ["tool 1 has 20.25 mm, and would get 170.25 mm, 150.000 mm longer\n"
+                                           "yes sets it: "])
+        self.do("touch tool 2 -6", answers=("no",))
+        self.assertEqual(self.face.asked, ["tool 2 has no length yet, and gets 6 mm if it stands on the setter now\n"
+                                           "yes sets it: "])
+        self.assertEqual(self.lengths(), [20_250_000])
+        self.do("touch tool 1 -10", answers=("yes",))
+        self.do("touch tool 2 -6 anyway")
+        self.assertEqual((self.face.asked, self.lengths()), ([], [10_000_000, 6_000_000]))
+
+    def test_no_gaps(self) -> None:
+        """The slots below one that gets a length have 0 then, which is told; not where that isn't taken."""
+        self.begin()
+        self.do("tool 1 20", "tool 5 -1", "tool 5 x", "tool 129 1", "touch tool 4 5 anyway")
+        self.assertEqual(self.lengths(), [20_000_000])
+        self.assertEqual(self.do("TOOL 4 7.5"), [
+            "slots 2 to 3 have length 0 now, since the table has no gaps: measure before G43 takes that", "done 4"])
+        self.assertIn("slot 5 has length 0 now, since the table has no gaps: measure before G43 takes that",
+                      self.do("touch tool 6 -1 anyway"))
+        self.assertEqual(self.lengths(), [20_000_000, 0, 0, 7_500_000, 0, 1_000_000])
+        self.do("tool 3 8", "tool 8 9")
+        self.assertEqual(self.lengths(), [20_000_000, 0, 8_000_000, 7_500_000, 0, 1_000_000, 0, 9_000_000])
+
     def test_refused(self) -> None:
-        """A slot and a length that `ngc` refuses, a height that nobody knows, and a slot that was set since."""
+        """A length that `ngc` refuses, a height that nobody knows, and a slot that was set since."""
         self.begin()
         self.assertEqual(self.do("touch tool 1"), [
             "at which machine Z does the bare spindle reach the setter's top? touch tool 1 HEIGHT, or height_um of"
@@ -188,17 +244,16 @@ class Tool(Core):
         for typed in ("touch", "touch 1", "touch tool", "touch tool x -1", "touch tool 1 2 3"):
             self.assertEqual(self.do(typed), [which], typed)
         self.assertEqual(self.do("touch tool 1 up"), ["not a number: up"])
-        self.assertIn("refused B14 BadSlot: slot 1 comes first", self.do("touch tool 2 -1")[2])
-        self.assertIn("refused E3 OutOfRange", self.do("touch tool 1 5")[2])
+        self.assertIn("refused E3 OutOfRange", self.do("touch tool 1 5 anyway")[2])
         self.assertEqual(self.lengths(), [])
-        self.do("touch tool 1 -5", "tool 1 6")
+        self.do("touch tool 1 -5 anyway", "tool 1 6")
         self.assertEqual(self.do("undo"), [
             "tool 1 isn't any more what was set: nothing is done. tool 1 0 puts back what was before"])
 
     def test_other_tool(self) -> None:
         """Where another tool is in the spindle, by `ngc`, a person is asked; none is no question."""
         self.begin()
-        self.do("touch tool 1 -5", "T1 M6", "tool 2 3")
+        self.do("touch tool 1 -5 anyway", "T1 M6", "tool 2 3")
         self.do("touch tool 2 -4", answers=("no",))
         self.assertEqual(self.face.asked, ["tool 1 is in the spindle, by its last M6. yes gives slot 2 the length: "])
         self.assertEqual(self.lengths(), [5_000_000, 3_000_000])
@@ -218,25 +273,71 @@ class Tool(Core):
 
 
 class ByProbe(Core):
-    """What is set by the point at which the probe was touched."""
+    """What is set by the point at which the probe was touched: once, and as long as nothing moved since."""
+
+    NOT = "the probe wasn't touched since the machine moved last, or its place was used: seek Z- RATE within MM"
+
+    def setUp(self) -> None:
+        """A player that makes moves, with a probe at Z -5 and 0.02 mm of way after it."""
+        super().setUp()
+        self.begin(MachineLink())
+
+    def seek(self) -> None:
+        """The probe is touched, from above."""
+        self.do("jog Z+ 600 for 1", "seek Z- 60 within 10")
+
+    def test_once(self) -> None:
+        """The place where it was touched counts once."""
+        self.seek()
+        self.assertEqual(self.do("zero Z -.5 Probe")[:2], [LENGTH_0, "G10 L2 P1 Z-4.5"])
+        self.assertEqual((self.face.asked, self.do("zero Z probe")), ([], [self.NOT]))
+        self.seek()
+        self.assertIn("the probe was touched at machine Z -5, and the setter's top is at -60",
+                      self.do("touch tool 1 -60 probe"))
+        self.assertEqual(self.face.asked, [])  # it was touched, and there is no length before
+        self.assertEqual(self.do("touch tool 1 -60 probe"), [self.NOT])
+        self.assertEqual(self.operator.stored().tools_nm, [55_000_000])
+
+    def test_refused_first(self) -> None:
+        """What isn't set doesn't use it up."""
+        self.seek()
+        self.do("zero Z 20 probe", answers=("no",))
+        self.assertIn("G10 L2 P1 Z-4.5", self.do("zero Z -0.5 probe"))
+
+    def test_moved(self) -> None:
+        """After any motion it is gone: a jog away and back, a line, also one that ends where it began, home."""
+        for moves in (("jog X+ 600 for 1",), ("jog X+ 600 for 1", "jog X- 600 for 1"), ("G91 G0 X.01",),
+                      ("G91 G0 X.01", "G0 X-.01"), ("home",), ("reference 0 0 0 anyway",)):
+            self.seek()
+            self.do("G90", "G54")  # lines that move nothing
+            self.assertIsNotNone(self.operator.moves.touched_now(), moves)
+            self.do(*moves)
+            self.assertEqual(self.do("zero Z probe"), [self.NOT], moves)
+            self.assertEqual(self.do("touch tool 1 -60 probe"), [self.NOT], moves)
+        self.assertEqual((self.operator.stored().tools_nm, self.operator.stored().state.origin_nm), ([], (0, 0, 0)))
 
     def test_tool_changed(self) -> None:
-        """A point that was touched with another tool than that in the spindle isn't taken, until the probe is touched
-        again."""
-        self.begin()
-        self.do("tool 1 0", "T1 M6")
-        self.operator.moves.touched_nm, self.operator.moves.touched_by = (0, 0, -5_000_000), 1
-        self.assertIn("the probe was touched at machine Z -5, and the setter's top is at -9",
-                      self.do("touch tool 1 -9 probe"))
-        self.do("tool 2 0", "T2 M6")
+        """A point that was touched with another tool than that in the spindle isn't taken."""
+        self.do("tool 1 0", "tool 2 0", "T1 M6")
+        self.seek()
+        self.do("T2 M6")
         refused = ("the probe was touched with tool 1 in the spindle, and there is tool 2 now: seek Z- RATE within MM"
                    " again, or without the word probe from where the machine stands")
         self.assertEqual(self.do("touch tool 2 -9 probe"), [refused])
-        self.assertEqual(self.do("zero Z probe"), [refused])
-        self.assertEqual(self.operator.stored().tools_nm, [4_000_000, 0])
-        self.operator.moves.touched_by = 2
-        self.do("touch tool 2 -9 probe")
-        self.assertEqual(self.operator.stored().tools_nm, [4_000_000, 4_000_000])
+        self.assertEqual(self.operator.stored().tools_nm, [0, 0])
+
+    def test_setter(self) -> None:
+        """Where the machine has a probe, a setter that wasn't touched is none; one that was needs no word."""
+        self.operator.touch.know(TouchingOff(-9_000_000, True))
+        refused = ("the setter wasn't touched since the machine moved last, or its place was used: seek Z- RATE within"
+                   " MM, and then touch tool 1; touch tool 1 anyway takes the machine's Z as it is")
+        self.assertEqual(self.do("touch tool 1"), [refused])
+        self.seek()
+        self.assertIn("tool 1 4", self.do("touch tool 1"))
+        self.assertEqual(self.do("touch tool 1"), [refused])
+        self.assertEqual(self.do("touch tool 1 probe"), [refused])
+        self.do("jog Z+ 600 for 2.02", "touch tool 1 anyway")
+        self.assertEqual(self.operator.stored().tools_nm, [6_000_000])
 
 
 class Setter(InFolder):
@@ -248,6 +349,9 @@ class Setter(InFolder):
         self.assertIsNone(read_setter("motion.toml"))
         Path("motion.toml").write_text("[motion]\n[setter]\nheight_um = -81_250  # by a ring gauge\n")
         self.assertEqual(read_setter("motion.toml"), -81_250_000)
+        self.assertEqual(TouchingOff.read("motion.toml"), TouchingOff(-81_250_000, False))
+        Path("motion.toml").write_text("[inputs]\nprobe = 6\n[setter]\nheight_um = 5\n")
+        self.assertEqual(TouchingOff.read("motion.toml"), TouchingOff(5000, True))
 
     def test_wrong(self) -> None:
         """What can't be used is named, before anything is started."""
@@ -267,7 +371,7 @@ class Setter(InFolder):
         self.device()
         Path("m.toml").write_text("[setter]\nheight_um = -7_000\n")
         done = self.tool("ngc-operate", *operate("mill.dev", "first.toml", "out", "--machine", "m.toml"),
-                         text="touch tool 1\nquit\n")
+                         text="touch tool 1 anyway\nquit\n")
         self.assertIn("machine Z is 0, and the setter's top is at -7\ntool 1 7\ndone 1\n", done.stdout)
 
 

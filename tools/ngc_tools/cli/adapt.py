@@ -11,14 +11,11 @@ from ngc_tools.failure import BadNumber, Failure, WrongWords, speaking_of
 from ngc_tools.formats.device import SLOTS
 from ngc_tools.formats.position import nanometres
 from ngc_tools.formats.program_text import NotText, ProgramText
-from ngc_tools.formats.settings import DEFAULT, Settings
 from ngc_tools.formats.text import shown
-from ngc_tools.job.cam import rewritten, whole_text
+from ngc_tools.job.adapted import Change, Rewritten, adapted, rewritten_of
 from ngc_tools.job.cam_homes import HomeAnswers, Missing
 from ngc_tools.job.cam_line import CamLine
 from ngc_tools.job.cam_program import SharedSlot
-from ngc_tools.job.outside import widest
-from ngc_tools.job.radius_arcs import centred
 from ngc_tools.job.refused import Lines, find_all
 from ngc_tools.ngc import cures
 from ngc_tools.ngc.beginning import Beginning
@@ -76,23 +73,14 @@ def adapt(args: argparse.Namespace) -> int:
         files.look_before_write(args.output, inputs, args.force)
     begin, text = chosen_beginning(args), _read(args.program)
     lines, warnings = _rewritten(args.program, text, answers)
-    _centre(ngc, args, begin, lines)
-    new, said = whole_text(lines, text)
-    refused = list(told(new.encode(), args.output, lambda asked: refusal(*begin.dry(ngc, asked, args.settings))))
-    _write(args, new.encode(), inputs)
-    changed = [*said, *changes(text.lines, lines)] or ["no line is changed"]
+    found = adapted(text, Rewritten(lines, [], []), begin, ngc, args.settings)
+    new = found.text
+    refused = list(told(new, args.output, lambda asked: refusal(*begin.dry(ngc, asked, args.settings))))
+    _write(args, new, inputs)
+    changed = [*found.whole, *shown_changes(found.changes)] or ["no line is changed"]
     print("\n".join([*warnings, *changed]), file=sys.stdout if args.output else sys.stderr)
     print("\n".join(refused), file=sys.stderr, end="\n" if refused else "")
     return 1 if refused else 0
-
-
-def _centre(ngc: str, args: argparse.Namespace, begin: Beginning, lines: list[CamLine]) -> None:
-    """Writes arcs by radius by their centres. What is asked is where they lie, not whether they fit: so with the widest
-    travel, and all slots. Raises OSError, CannotSetUp."""
-    known = Settings.read(args.settings) if args.settings else DEFAULT
-    tools = (*known.tools_nm, *(0,) * (SLOTS - len(known.tools_nm)))
-    with scratch_file(replace(widest(known), tools_nm=tools).text(), "settings", ".toml") as path:
-        centred(lines, lambda asked: begin.dry(ngc, asked, path))
 
 
 def _read(program: str) -> ProgramText:
@@ -137,26 +125,14 @@ def _is_count(word: str) -> bool:
 def _rewritten(program: str, text: ProgramText, answers: HomeAnswers) -> tuple[list[CamLine], list[str]]:
     """The lines as they are to be written, and warnings. A person at a terminal is asked for what is missing; else all
     of it is told. Raises Failures."""
-    missing: list[str] = []
-    while True:
-        warnings: list[str] = []
-
-        def warn(number: int, why: str) -> None:
-            warnings.append(f"line {number}: WARNING: {why}")
-
-        try:
-            with speaking_of(program, SharedSlot):
-                lines = rewritten(text.lines, answers, warn)
-            break
-        except Missing as error:
-            if program != "-" and sys.stdin.isatty():
-                answers = _ask(program, error, answers)
-                continue
-            missing.append(_needed(program, error))
-            answers = _answered(error, answers, "0 0" if error.what == "park" else "0")  # to find what else is missing
-    if missing:
-        raise Failure("\n".join(missing))
-    return lines, warnings
+    with speaking_of(program, SharedSlot):
+        found = rewritten_of(text.lines, answers)
+        while found.missing and program != "-" and sys.stdin.isatty():
+            answers = _ask(program, found.missing[0], answers)
+            found = rewritten_of(text.lines, answers)
+    if found.missing:
+        raise Failure("\n".join(_needed(program, missing) for missing in found.missing))
+    return found.lines, [f"line {number}: WARNING: {why}" for number, why in found.warnings]
 
 
 def _needed(program: str, missing: Missing) -> str:
@@ -195,14 +171,10 @@ def _answered(missing: Missing, answers: HomeAnswers, said: str) -> HomeAnswers:
     return replace(answers, park_nm=(nanometres(words[0]), nanometres(words[1])))
 
 
-def changes(texts: Sequence[str], lines: list[CamLine]) -> list[str]:
+def shown_changes(found: list[Change]) -> list[str]:
     """Each changed line: its number, why, what it was, what it is."""
-    said = []
-    for number, (text, line) in enumerate(zip(texts, lines, strict=True), 1):
-        if line.text != text:
-            reasons = "; ".join(dict.fromkeys(line.reasons))
-            said += [shown(row) for row in (f"line {number}: {reasons}", f"  - {text}", f"  + {line.text}")]
-    return said
+    return [shown(row) for change in found
+            for row in (f"line {change.line}: {change.why}", f"  - {change.before}", f"  + {change.after}")]
 
 
 def told(new: bytes, output: str | None, ask: Callable[[bytes], Refusal | None]) -> Iterator[str]:

@@ -21,7 +21,7 @@ from ngc_tools.operator.meter import LIMIT, LIMITS, Meter, check_limit
 from ngc_tools.operator.operator import Operator
 from ngc_tools.operator.recovery import OutFound
 from ngc_tools.operator.sentences import explained
-from ngc_tools.operator.setter import read_setter
+from ngc_tools.operator.setter import Setter
 from ngc_tools.operator.synced import SYNCED_AT_ONCE, SYNCED_PARTS, SyncedLink
 from ngc_tools.player.machine import read_limits
 from ngc_tools.player.progress import Link, Report
@@ -79,13 +79,13 @@ def work(args: argparse.Namespace) -> int:
     BadSetter, ValueError, OSError."""
     check_ahead(args)
     ngc = find_ngc(args.ngc)
-    setter_nm = read_setter(args.machine) if args.machine else None
+    setter = Setter.read(args.machine) if args.machine else Setter()
     meter = metered(args)
     pipe = look(args.device, args.settings, args.out)
     look_at_settings(ngc, args.settings)
     args.machine = with_motion(ngc, args)
     try:
-        return session(ngc, args, meter, pipe, setter_nm)
+        return session(ngc, args, meter, pipe, setter)
     except Ended as ended:
         raise Failure(told(ended)) from None
 
@@ -150,7 +150,7 @@ def metered_by(meter: Meter, report: Report) -> str:
             f" {meter.limit(report):,} and never more than {meter.most or LIMITS[-1]:,}, {costs}")
 
 
-def session(ngc: str, args: argparse.Namespace, meter: Meter | None, pipe: int | None, setter_nm: int | None) -> int:
+def session(ngc: str, args: argparse.Namespace, meter: Meter | None, pipe: int | None, setter: Setter) -> int:
     """From the start of `ngc` to its end. Raises Ended if it ends by itself."""
     found = as_found(args.device)
     link = meter.link if meter else None
@@ -166,7 +166,7 @@ def session(ngc: str, args: argparse.Namespace, meter: Meter | None, pipe: int |
                 operator.recover.most_percent = limits.most_percent
                 operator.loading.times_command = line_times.command(ngc, args.settings, args.machine)
             stack.callback(operator.loading.close)
-            operator.touch.setter_nm = setter_nm
+            operator.touch.know(setter)
             operator.keys = screen.keys if screen.is_terminal else None
             said = bound(args, meter, pipe)
             if pipe is not None:
@@ -219,6 +219,8 @@ def converse(operator: Operator, screen: Screen) -> None:
             screen.say("\nnothing runs; quit ends the session")
             continue
         operator.do(line)
+        if screen.stops():
+            operator.do("stop")
 
 
 class Patience:

@@ -19,11 +19,12 @@ from ngc_tools.ngc.usable_settings import look_at_settings
 from ngc_tools.operator.meter import LIMIT, Meter
 from ngc_tools.operator.operator import Operator
 from ngc_tools.operator.recovery import OutFound
-from ngc_tools.operator.setter import read_setter
+from ngc_tools.operator.setter import Setter
 from ngc_tools.operator.synced import SyncedLink
 from ngc_tools.page.face import PageFace
 from ngc_tools.page.server import Server
 from ngc_tools.page.session import Opened, PageSession
+from ngc_tools.page.start_player import PlayerStarter
 from ngc_tools.player.machine import read_limits
 from ngc_tools.player.progress import Link, NoAnswer
 
@@ -60,6 +61,9 @@ def make_parser() -> argparse.ArgumentParser:
     parser.add_argument("--ahead", type=int, metavar="N",
                         help="how many lines OUT may be ahead of the player at most (without it as many as the player"
                         f" wants, {LIMIT} of one that doesn't say it)")
+    parser.add_argument("--start-player", metavar="COMMAND", help="starts a player where none listens at --player, and"
+                        " once the last one is gone and `Start ngc again` is touched: one word, as"
+                        " 'player -f -s progress -m player.toml out mill.toml position'")
     parser.add_argument("--listen", default="127.0.0.1:8585", metavar="HOST:PORT", help="where pages come from"
                         " (without it 127.0.0.1:8585); another HOST lets in whoever hears the network, which the key"
                         " crosses in clear: docs/PAGE.md has a safer way for a tablet")
@@ -81,13 +85,16 @@ def work(args: argparse.Namespace) -> int:
     host, port = address(args.listen)
     if wrong := next((url for url in args.address if not _ADDRESS.fullmatch(url)), None):
         raise WrongWords(f"{wrong}: --address takes https://NAME, or http://NAME:PORT")
+    if args.start_player is not None and args.player is None:
+        raise WrongWords("--start-player COMMAND goes with --player SOCKET")
+    starter = PlayerStarter(args.start_player, args.player) if args.start_player is not None else None
     ngc = find_ngc(args.ngc)
     if args.machine:
         look_at_settings(ngc, args.settings)
         Motion.read(ngc, args.machine, args.settings)
     sys.setswitchinterval(_SWITCH_S)
     with listening(host, port) as file:
-        session = PageSession(Opener(ngc, args), PageFace(), args.machine or "")
+        session = PageSession(Opener(ngc, args, starter), PageFace(), args.machine or "")
         try:
             session.start()
             serve(session, host, file, args.address)
@@ -123,11 +130,22 @@ class Opener:
 
     ngc: str
     args: argparse.Namespace
+    starter: PlayerStarter | None = None
 
     def __call__(self, face: PageFace) -> Opened:
         """Begins one. Raises CannotBegin, NoAnswer, BadSettings, ValueError, Ended, OSError."""
+        if self.starter:
+            self.starter.start()
+        meter = metered(self.args)
+        try:
+            return self._begun(face, meter)
+        except BaseException:
+            if meter:
+                meter.link.close()
+            raise
+
+    def _begun(self, face: PageFace, meter: Meter | None) -> Opened:
         args = self.args
-        meter = metered(args)
         pipe = look(args.device, args.settings, args.out)
         look_at_settings(self.ngc, args.settings)
         found, left_at = as_found(args.device), os.stat(args.device).st_mtime
@@ -147,7 +165,7 @@ class Opener:
         operator = Operator(console, face, meter)
         operator.recover.found = out
         if self.args.machine:
-            operator.touch.setter_nm = read_setter(self.args.machine)
+            operator.touch.know(Setter.read(self.args.machine))
             limits = read_limits(self.args.machine, operator.session.settings.step_nm)
             operator.recover.most_percent = limits.most_percent
         said = bound(self.args, meter, pipe)

@@ -88,6 +88,8 @@ def make_parser() -> argparse.ArgumentParser:
     parser.add_argument("--go-to-line", type=line_number, metavar="B", help="first go to where the first B lines of"
                         " OUT, a file, lead: on along its lines, or back; without --follow it ends there")
     parser.add_argument("--lift", metavar="Z", help="go there by legs: up to this machine coordinate, over, and down")
+    parser.add_argument("--feed", metavar="RATE", help="with --lift: the rate of the last leg, down into the work, in"
+                        " mm a minute")
     parser.add_argument("--across-tools", action="store_true", help="go there even where a tool change lies on the way;"
                         " back no tool is changed")
     parser.add_argument("--yes", action="store_true", help="go without a question")
@@ -126,6 +128,8 @@ def prepared(args: argparse.Namespace, voice: Voice, stack: ExitStack) -> Player
     """The player, with its record and its socket, which `stack` lets go. Raises Failure or OSError."""
     if args.go_to_line is None and (args.lift or args.yes or args.across_tools):
         raise WrongWords("--lift, --across-tools and --yes go with --go-to-line B")
+    if (args.lift is None) != (args.feed is None):
+        raise WrongWords("--lift Z and --feed RATE go together: so fast the last leg goes, down into the work")
     at_nm = tuple(map(machine_nm, args.at)) if args.at else None
     settings = Settings.read(args.settings)
     machine = read_machine(args.machine, settings.step_nm) if args.machine else None

@@ -38,6 +38,7 @@ class Screen:
         self._shown = 0.0
         self._said: set[str] = set()
         self._asides: list[str] = []
+        self._stops = False  # `stop` was typed while something ran
         heeded = {signal.SIGINT: self._note, **dict.fromkeys(_ENDING, self._end)}
         self._before = {number: signal.signal(number, handler) for number, handler in heeded.items()
                         if signal.getsignal(number) != signal.SIG_IGN}  # as under nohup
@@ -139,6 +140,7 @@ class Screen:
                 self._asides.append(text)
             else:
                 self.asked_to_hold += 1
+                self._stops = self._stops or text.strip().lower() == "stop"
         return self.asked_to_hold > 0 or self.ending != ""
 
     def keys(self) -> AbstractContextManager[TerminalKeys]:
@@ -153,6 +155,11 @@ class Screen:
         """The asides that were typed since."""
         found, self._asides = self._asides, []
         return found
+
+    def stops(self) -> bool:
+        """Whether `stop` was typed while something ran, once: that held it."""
+        stops, self._stops = self._stops, False
+        return stops
 
     def _typed(self) -> str:
         """A line that is typed while something runs."""

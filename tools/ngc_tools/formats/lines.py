@@ -39,6 +39,20 @@ class Program:
         return found
 
 
+    def remark(self, place: int) -> tuple[int, str] | None:
+        """The plain comment of the line that ends at a place, or of one of comments alone right above it, with its
+        line's number; None where there is none, or a message, which is told as that."""
+        *_, above, line = [b"", b"", *self.text[:place].removesuffix(b"\n").split(b"\n")]
+        number = self.number(place) - (self.text[:place].endswith(b"\n"))
+        for back, text in enumerate((line, above)):
+            comments = _COMMENT.findall(text)
+            if back and _COMMENT.sub(b"", text).strip():
+                return None
+            if comments:
+                return None if _MESSAGE.fullmatch(comments[-1]) else (number - back, shown(comments[-1]).strip())
+        return None
+
+
 def program_lines(text: bytes) -> list[bytes]:
     """The lines of a program, each with its end."""
     lines = [line + b"\n" for line in text.split(b"\n")]

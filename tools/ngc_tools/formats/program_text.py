@@ -7,10 +7,13 @@ _UTF_8_MARK = b"\xef\xbb\xbf"
 _UTF_16_MARKS = {b"\xff\xfe": "utf-16-le", b"\xfe\xff": "utf-16-be"}
 _WINDOWS = {code: bytes([code]).decode("cp1252", "ignore") or chr(code) for code in range(0x80, 0xa0)}
 _DOS_END = "\x1a"
+_LOOKED_AT = 4096  # bytes, by which a text is told from what is none
+_CONTROLS = bytes({*range(32), 127} - set(b"\t\n\v\f\r\x1a"))
+_MOST_CONTROLS = 0.02
 
 
 class NotText(Failure, ValueError):
-    """The bytes begin as UTF-16 and aren't UTF-16."""
+    """The bytes begin as UTF-16 and aren't UTF-16, or they are no text."""
 
 
 @dataclass(frozen=True, slots=True)
@@ -53,6 +56,10 @@ class ProgramText:
 
 def _decoded(data: bytes) -> tuple[str, str, list[str]]:
     """The text, the encoding, and what is changed by writing it in UTF-8. Raises NotText."""
+    first = data[:_LOOKED_AT]
+    controls = len(first) - len(first.translate(None, _CONTROLS))
+    if controls > max(8, _MOST_CONTROLS * len(first)) and data[:2] not in _UTF_16_MARKS:
+        raise NotText(f"it isn't a text: {controls:,} of its first {len(first):,} bytes are control characters")
     if codec := _UTF_16_MARKS.get(data[:2]):
         try:
             return data[2:].decode(codec), "UTF-16", ["it is UTF-16, and is written in UTF-8"]

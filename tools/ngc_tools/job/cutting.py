@@ -6,7 +6,7 @@ from math import isqrt
 from ngc_tools.formats.settings import Settings
 from ngc_tools.job.danger import Danger
 from ngc_tools.job.figures import millimetres
-from ngc_tools.job.heights import shallowest
+from ngc_tools.job.heights import TO_MACHINE, shallowest
 from ngc_tools.job.moves import PLANES
 from ngc_tools.job.printed import Act
 from ngc_tools.job.refused import Lines
@@ -103,6 +103,34 @@ def lengths(lines: Lines, acts: list[Act], tools_nm: Sequence[int]) -> Iterator[
         elif slot is None and length and tool <= len(tools_nm) and length != tools_nm[tool - 1]:
             yield Danger(act.line, "length", f"tool {tool} cuts with a length of {millimetres(length)} mm, and slot"
                          f" {tool} has {millimetres(tools_nm[tool - 1])}: it cuts too deep, or in the air")
+
+
+def unset(lines: Lines, acts: list[Act], tools_nm: Sequence[int]) -> Iterator[Danger]:
+    """The first move of Z before a G43 or G49, on a device where some length may be in force: it has one, or its slots
+    have. To machine coordinates no length counts."""
+    for act in acts:
+        if act.command.name == "USE_TOOL_LENGTH_OFFSET":
+            return
+        goes = act.is_motion and act.at[2] != act.command.point[2]
+        if not goes or TO_MACHINE.search(lines.code(act.line)):
+            continue
+        length = act.in_force.length
+        if length or any(tools_nm):
+            counts = f"a length of {millimetres(length)} mm is in force" if length else "no tool length is in force"
+            yield Danger(act.line, "unset", f"it moves Z before it sets G43 or G49, and {counts}, as it was left"
+                         " before: write G43 with the tool's H, or G49, before it")
+        return
+
+
+def unmeasured(lines: Lines, acts: list[Act], tools_nm: Sequence[int]) -> Iterator[Danger]:
+    """The first G43 with the H of each slot that has length 0, where others have one."""
+    said: set[int] = set()
+    for act in acts:
+        slot = slot_of(lines, act.line) if act.command.name == "USE_TOOL_LENGTH_OFFSET" else None
+        if slot and slot not in said and slot <= len(tools_nm) and not tools_nm[slot - 1] and any(tools_nm):
+            said.add(slot)
+            yield Danger(act.line, "unmeasured", f"H{slot} takes the length of slot {slot}, which is 0, as of a tool"
+                         " that wasn't measured: it goes too deep by its length, unless the others are measured by it")
 
 
 def slot_of(lines: Lines, line: int) -> int | None:

@@ -22,14 +22,15 @@ LONG_DWELL_US = 30_000_000
 NEARLY_NM = 10_000  # an arc whose ends are as near as that is taken as rounded
 
 _ROUNDED = "Is it meant? A short arc whose end was rounded goes round so too"
-_HOME = re.compile(rb"G0*(28|30)(?:\.0*)?(?![0-9.])", re.IGNORECASE)
+HOME = re.compile(rb"G0*(28|30)(?:\.0*)?(?![0-9.])", re.IGNORECASE)
+"""G28 and G30 in a line without comments and blanks."""
 
 
 @dataclass(frozen=True, slots=True)
 class Conditions:
     """What a program is checked under: where it begins, what is in force there, the settings, None for the default
-    ones, whether the device is large, whether it is known where the work zero is, and what the motors allow, if that is
-    known."""
+    ones, whether the device is large, whether it is known where the work zero is, what the motors allow, if that is
+    known, and whether the reader of OUT asks for tools itself."""
 
     beginning: Beginning
     begun: InForce
@@ -37,6 +38,7 @@ class Conditions:
     is_large: bool = False
     is_placed: bool = False
     motion: Motion | None = None
+    asks_tools: bool = False
 
     @property
     def tools_nm(self) -> tuple[int, ...]:
@@ -54,7 +56,8 @@ def dangers(lines: Lines, run: Run, under: Conditions) -> list[Danger]:
     found = [*(Danger(0, "device", note) for note in notes), *_too_long(lines, under.is_large),
              *_homes(lines, printed), *_dwells(printed), *_full_turns(acts),
              *heights.heights(lines, acts, under.is_placed), *heights.first_descent(lines, acts),
-             *cutting.spindle(acts), *cutting.lengths(lines, acts, under.tools_nm), *cutting.tool_changes(acts),
+             *cutting.spindle(acts), *cutting.lengths(lines, acts, under.tools_nm), *_by_slots(lines, acts, under),
+             *(() if under.asks_tools else cutting.tool_changes(acts)),
              *_other_lengths(lines, acts, under),
              *(cutting.capped(acts, under.settings) if under.settings else ()),
              *(cutting.too_fast_to_stop(acts, under.motion) if under.motion else ()),
@@ -85,11 +88,18 @@ def _other_lengths(lines: Lines, acts: list[Act], under: Conditions) -> list[Dan
             for slot, on, other in both if on != other]
 
 
+def _by_slots(lines: Lines, acts: list[Act], under: Conditions) -> Iterator[Danger]:
+    """Which lengths count that the program doesn't set, or that weren't measured: a device alone has them."""
+    if under.beginning.image is not None:
+        yield from cutting.unset(lines, acts, under.tools_nm)
+        yield from cutting.unmeasured(lines, acts, under.tools_nm)
+
+
 def _homes(lines: Lines, printed: Printed) -> list[Danger]:
     """G28 and G30 by their text, if the line then prints a traverse."""
     found = []
     for line in range(1, len(lines.all) + 1):
-        code = _HOME.search(lines.code(line))
+        code = HOME.search(lines.code(line))
         moves = [command for command in printed.get(line, []) if command.name == "STRAIGHT_TRAVERSE"]
         if code and moves:
             x, y, z = map(millimetres, moves[-1].point)

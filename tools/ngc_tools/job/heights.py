@@ -9,7 +9,8 @@ from ngc_tools.job.figures import millimetres
 from ngc_tools.job.printed import Act
 from ngc_tools.job.refused import Lines
 
-_MACHINE = re.compile(rb"G0*(?:28|30|53)(?:\.0*)?(?![0-9.])", re.IGNORECASE)  # to machine coordinates
+TO_MACHINE = re.compile(rb"G0*(?:28|30|53)(?:\.0*)?(?![0-9.])", re.IGNORECASE)
+"""What moves to machine coordinates, in a line without comments and blanks."""
 
 
 class _Cuts:
@@ -55,7 +56,7 @@ def heights(lines: Lines, acts: list[Act], is_placed: bool) -> Iterator[Danger]:
     cuts = _Cuts()
     is_known = True
     for act in (act for act in acts if act.is_motion):
-        to_machine = bool(_MACHINE.search(lines.code(act.line)))
+        to_machine = bool(TO_MACHINE.search(lines.code(act.line)))
         is_known = is_placed or not to_machine and (is_known or act.command.point[2] != act.at[2])
         if act.is_cut:
             cuts.cut(act)
@@ -91,7 +92,7 @@ def first_descent(lines: Lines, acts: list[Act]) -> Iterator[Danger]:
     first = next((act for act in motions if act.command.point[2] != act.at[2]), None)
     for act in motions[:begin]:
         end = act.in_force.to_program(act.command.point)[2]
-        if end >= min(0, act.in_force.to_program(act.at)[2]) or _MACHINE.search(lines.code(act.line)):
+        if end >= min(0, act.in_force.to_program(act.at)[2]) or TO_MACHINE.search(lines.code(act.line)):
             continue
         if act is first:
             yield Danger(act.line, "first", f"the first move in Z is a traverse down to Z {millimetres(end)}, below the"

@@ -29,6 +29,8 @@ _ASIDE = re.compile(rb"\([^()]*\)|[ \t]")
 _RANKS = {fault.code: rank for rank, fault in enumerate(FAULTS, 1)} | {"E2": 0}
 _MOST_PAIRED = 12  # pieces of a line that are tried two at a time
 _LONGEST = 512  # bytes of a line whose pieces are looked at; a line has 256 at most
+_MOST_PIECES = 60  # of a line that are looked at: what has more is no line of words
+_UNREADABLE = 10  # lines, so many of the first twice as many, that make a text none of G-code
 
 
 @dataclass(frozen=True, slots=True)
@@ -123,6 +125,19 @@ def find_all(lines: Lines, ask: Ask, most: int = 0) -> Iterator[Finding]:
         refusal = ask(b"".join(lines.all))
 
 
+def is_no_program(lines: Lines, ask: Ask) -> bool:
+    """Whether a text is none of G-code: so many of its first lines can't be read at all. `lines` stay as they are."""
+    whole, unread = list(lines.all), 0
+    written = [number for number, line in enumerate(whole, 1) if line.strip()][:2 * _UNREADABLE]
+    if not written:
+        return False
+    rest = Lines(b"".join(whole[:written[-1]]))
+    while (refusal := ask(b"".join(rest.all))) and refusal.line <= len(rest.all) and unread < _UNREADABLE:
+        unread += refusal.code in ("E1", "E2")
+        rest.put(refusal.line, b"")
+    return unread >= min(_UNREADABLE, len(written))
+
+
 def _looked_at(lines: Lines, refusal: Refusal, ask: Ask) -> tuple[Finding, bytes]:
     """What is found of a refused line, and what goes on in its place."""
     number, code = refusal.line, refusal.code
@@ -136,6 +151,8 @@ def _looked_at(lines: Lines, refusal: Refusal, ask: Ask) -> tuple[Finding, bytes
     if len(body) > _LONGEST:
         return Finding(refusal, body[:_LONGEST // 4] + b" .."), b""
     all_pieces = pieces(body)
+    if len(all_pieces) > _MOST_PIECES:
+        return Finding(refusal, body), b""
     with ThreadPoolExecutor(os.cpu_count()) as pool:
         each = dict(zip(all_pieces, pool.map(lambda piece: asked((piece,)), all_pieces), strict=True))
     marks = tuple(piece for piece, found in each.items() if goes(code, found))

@@ -61,10 +61,14 @@ class Console:
         """Starts it, in a process group of its own, so that Ctrl-C at the terminal doesn't end it. Raises OSError if
         `ngc` can't be started."""
         self.ngc, self.device, self.settings = str(ngc), str(device), str(settings)
-        words = [self.ngc, "run", self.device, self.settings, str(out)]
-        self.child = subprocess.Popen(words, stdin=subprocess.PIPE, stdout=subprocess.PIPE, process_group=0)
+        self._words = [self.ngc, "run", self.device, self.settings, str(out)]
         self.waiting = waiting
+        self.start()
+
+    def start(self) -> None:
+        """Starts it once more, after it has ended. Raises OSError."""
         self._rest = b""
+        self.child = subprocess.Popen(self._words, stdin=subprocess.PIPE, stdout=subprocess.PIPE, process_group=0)
 
     def ask(self, command: str | bytes) -> list[str]:
         """Gives a command (without its newline) and returns its replies: those of `tick N` up to `ticks K` or to a

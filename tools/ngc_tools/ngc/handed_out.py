@@ -345,8 +345,8 @@ def _only(text: "bytes | mmap.mmap", size: int, whole: bytes) -> int | None:
     """The beginning of the lines with which OUT ends, wherever the motors are, if there is but one: by where they begin
     in OUT, or where that room was given back, by how OUT ends."""
     counts = {at + 1 for at in range(min(len(whole), 2 * _HEAD)) if whole[at] == 10}
-    begin = size
-    while len(counts) < 2 * _HEAD and (begin := text.rfind(whole[:_HEAD], 0, begin + _HEAD - 1)) >= 0:
+    begin, head = size, whole[:_HEAD]
+    while head and len(counts) < 2 * _HEAD and (begin := text.rfind(head, 0, begin + len(head) - 1)) >= 0:
         counts.add(size - begin)
     tail = text[max(0, size - _HEAD):size].partition(b"\n")[2]
     at = whole.find(tail) if tail and text[:1] == b"\0" else -1

@@ -5,12 +5,12 @@ from ngc_tools.operator.session import ALARM, BROKEN, Session
 from ngc_tools.player.progress import MoveReport, NoAnswer
 
 _TAKEN = ("home", "where", "status", "help", "?", "quit", "exit", "reference")
-_TAKEN_BROKEN = ("jog", "seek", "reference", "hold")
+_TAKEN_BROKEN = ("jog", "seek", "reference", "hold", "stop", "off")
 _CAUSES = {"emergency_stop": "emergency stop", "limits": "limit", "sink": "step sink lost"}
 _CAME = "{cause}: the motors stand, spindle and coolant are off, and where the machine is isn't known. home comes first"
 _FORBIDS = "nothing is done: {cause}. home comes first; until then where and quit alone are taken"
 _BROKEN = ("nothing is done: what the player had in hand in the alarm is never carried out, and so nothing that comes"
-           " after. quit, start the player and this again, and go on as after a loss of power")
+           " after. stop begins another session, which goes on as after a loss of power")
 _LEFT = ("the alarm stands: {left} isn't homed. home {left} does it, where the machine's file says how; else measure"
          " it, and type reference X Y Z with what you measured: the player counts {at}")
 _NUMBERS = ("reference X Y Z, in mm: the player counts {at}; player stands for the number of an axis that is homed"
@@ -20,10 +20,10 @@ _NOT_TAKEN = ("the player doesn't take that: all axes have to be homed that can 
 
 
 class Alarm:
-    """What is said of one, and what isn't taken until it is over."""
+    """What is said of one, and what isn't taken until it is over. `came_by` is what the last one came by, in words."""
 
     def __init__(self, session: Session) -> None:
-        self.session = session
+        self.session, self.came_by = session, ""
         session.on_alarm = self.say
 
     def forbids(self, word: str) -> bool:
@@ -44,7 +44,8 @@ class Alarm:
 
     def say(self) -> None:
         """Says that it came."""
-        self.session.face.say(_CAME.format(cause=self._cause()).upper(), WARNING)
+        self.came_by = self._cause()
+        self.session.face.say(_CAME.format(cause=self.came_by).upper(), WARNING)
 
     def say_left(self) -> None:
         """Where axes were homed, and the alarm stands all the same: says which one isn't, and asks for it."""
@@ -105,13 +106,20 @@ class Alarm:
             pass
 
     def _cause(self) -> str:
-        """What it came by, with the switches that are on."""
+        """What it came by, with the switches that are on; the session sees it before anything is said of it."""
         try:
             machine = self.session.meter.link.machine()
         except NoAnswer:
             return "alarm"
-        on = [name.replace("_", " ") for name in machine.on if name.startswith("limit")]
-        return " of ".join([_CAUSES.get(machine.alarm, "alarm"), *([", ".join(on)] if on else [])])
+        self.session.see_machine(machine)
+        on = [_limit(name) for name in machine.on if name.startswith("limit_")]
+        return " and ".join(on) if machine.alarm == "limits" and on else _CAUSES.get(machine.alarm, "alarm")
+
+
+def _limit(name: str) -> str:
+    """An input as `limit_x_low`, as `limit X low`."""
+    limit, axis, end = name.split("_")
+    return f"{limit} {axis.upper()} {end}"
 
 
 def left_of(machine: MoveReport) -> str:

@@ -84,7 +84,7 @@ def _within(session: Session, status: Status, word: str) -> str:
     """Of a block that is under way or half-done."""
     half = session.half(status)
     if status.does in ("held", "running"):
-        return (f"{status.does} in {half}: run goes on; to give the block up: quit, start again, abandon. No other line"
+        return (f"{status.does} in {half}: run goes on; to give the block up: stop. No other line"
                 " is done before that")
     place = "" if status.known else f"{reference_words(session)}, "
     then = f", and {'a line of yours' if word == 'mdi' else word} after that" if word not in _GO_ON else ""

@@ -26,7 +26,8 @@ def is_override(text: str) -> bool:
 
 def is_aside(text: str) -> bool:
     """Whether a line is a command that is taken while something runs, besides the wish to hold."""
-    return is_override(text) or text.lower().split()[:1] in (["go"], ["optional"], ["delete"], ["single"])
+    return is_override(text) or text.lower().split()[:1] in (["go"], ["release"], ["optional"], ["delete"], ["single"],
+                                                             ["off"])
 
 
 def axes(at: list[str] | tuple[str, ...]) -> str:

@@ -35,6 +35,7 @@ class Loading:
         self.session = session
         self.times_command: list[str] = []
         self._tried: _Tried | None = None
+        self._told: tuple[bytes, str] = (b"", "")  # which tool length counts in which text, as it was said without line
 
     def close(self) -> None:
         """Ends what is still worked out."""
@@ -55,6 +56,9 @@ class Loading:
             return self._wanted()
         for note in found.notes:
             face.say(note, WARNING)
+        if found.unset:
+            face.say(found.unset, WARNING)
+        self._told = text, _without_line(found.unset)
         said = figures(found, self.session.settings)
         face.say("\n    ".join(["by a dry run from here, in machine millimetres:", *said]))
         if found.refused is None:
@@ -68,6 +72,20 @@ class Loading:
         if not wanted:
             self.session.face.say("nothing is stored")
         return wanted
+
+    def begins_as_told(self, found: Timeline | None) -> bool:
+        """Whether the tool length that counts, in a program that sets none, is the one that was told as it was loaded,
+        or a person wants to begin with this one."""
+        if found is None or not found.unset:
+            return True
+        told = (self.session.program.text, _without_line(found.unset))
+        if told == self._told:
+            return True
+        self.session.face.say(found.unset, WARNING)
+        if not self.session.agrees("begin all the same? yes begins: "):
+            return False
+        self._told = told
+        return True
 
     def timeline(self, begins: bool) -> Timeline | None:
         """What the stored program does line by line, as it would from here; None if that can't be said. Where it
@@ -103,6 +121,11 @@ class Loading:
         if not self.times_command or found.refused:
             return found
         return replace(found, ramps=RampTimes(self.times_command, text, device.image, self.session.delete))
+
+
+def _without_line(unset: str) -> str:
+    """Which tool length counts, whichever line moves Z first: that is another one where Z is there already."""
+    return unset.partition(": ")[2]
 
 
 def unreadable(name: str, text: bytes) -> str:

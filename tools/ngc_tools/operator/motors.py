@@ -115,7 +115,7 @@ class Motors:
 
     def say_rest(self) -> None:
         """Waits until they stand, and says what is in hand."""
-        report = self._rested()
+        report = self.rested()
         if report is None:
             return
         stand = "the motors stand" if report.is_held or report.waits else "the motors come to rest"
@@ -123,7 +123,7 @@ class Motors:
                 " or release lets them carry out" if report.behind else "with nothing in hand")
         self.session.face.say(f"{stand}, {hand}", WHERE)
 
-    def _rested(self) -> Report | None:
+    def rested(self) -> Report | None:
         """The report once they stand, or after some time; None where the player doesn't answer."""
         carried, since = -1, time.monotonic()
         until = since + _REST_S

@@ -2,6 +2,7 @@
 import re
 import time
 from collections.abc import Callable
+from dataclasses import dataclass
 
 from ngc_tools.formats.device import Device
 from ngc_tools.formats.position import nanometres
@@ -13,10 +14,10 @@ from ngc_tools.operator.left import Left
 from ngc_tools.operator.look import Look
 from ngc_tools.operator.modes import trimmed
 from ngc_tools.operator.motors import Motors
+from ngc_tools.operator.next_session import NextSession
 from ngc_tools.operator.numbers import length_of, nanometres_of
-from ngc_tools.operator.recover import Recover
 from ngc_tools.operator.session import ALARM, BROKEN, Session
-from ngc_tools.player.progress import Link, MoveReport, NoAnswer
+from ngc_tools.player.progress import Link, MoveReport, NoAnswer, Report
 
 ASKED_S = 0.05
 """Between two questions: without one for a second the player brings a move to rest."""
@@ -34,23 +35,38 @@ _FORMS = {
     "seek": "seek Z- RATE within MM: until the probe is on, as seek Z- 60 within 10",
 }
 _NOT_KNOWN = "home, jog and seek are of tools/player with -m"
-_LATER = ("ngc isn't told where the machine is, since {half} is under way: quit, start the player and this again, and"
-          " go on as after a loss of power")
+_ANEW = ("what the player had in hand in the alarm is never carried out: another session begins, and goes on as after a"
+         " loss of power")
+_LATER = "ngc isn't told where the machine is, since {half} is under way: stop ends it"
 
 MoveAnswer = tuple[int, str]
 """The number of a move, and why it is refused; nothing where it is taken."""
 
 
-class Moves:
-    """What they do. `do` does a command that is given meanwhile. `touched_nm` is where the probe was touched last, and
-    `touched_by` the slot of the tool that was in the spindle, as `ngc` knows it."""
+@dataclass(frozen=True, slots=True)
+class Touched:
+    """Where the probe was touched, in nm, the slot of the tool that was in the spindle, as `ngc` knows it, and how the
+    motors came to rest behind it: where, and behind how many lines of OUT."""
 
-    def __init__(self, session: Session, motors: Motors, left: Left, recover: Recover,
+    point_nm: tuple[int, int, int]
+    slot: int | None
+    at: str
+    lines: int
+
+    def is_last(self, report: Report) -> bool:
+        """Whether the motors didn't move since, by what their player says now."""
+        return (report.at, report.received) == (self.at, self.lines)
+
+
+class Moves:
+    """What they do. `do` does a command that is given meanwhile. `touched` is where the probe was touched, until
+    something else moves or its place was used."""
+
+    def __init__(self, session: Session, motors: Motors, left: Left, following: NextSession,
                  alarm: Alarm, do: Callable[[str], None]) -> None:
-        self.session, self.motors, self.left, self.recover, self.do = session, motors, left, recover, do
-        self.alarm = alarm
-        self.touched_nm: tuple[int, int, int] | None = None
-        self.touched_by: int | None = None
+        self.session, self.motors, self.left, self.following, self.do = session, motors, left, following, do
+        self.recover, self.alarm = following.recover, alarm
+        self.touched: Touched | None = None
 
     def home(self, rest: str) -> None:
         """Homes all axes, or those that are named."""
@@ -58,7 +74,6 @@ class Moves:
             self._refuse(_FORMS["home"])
         elif self.begins("home"):
             names = "".join(sorted(set("".join(rest.upper().split()))))
-            self.touched_nm = None
             self._go("home", lambda link: link.home(names))
 
     def jog(self, rest: str) -> None:
@@ -79,7 +94,6 @@ class Moves:
         """Goes along an axis until the probe is on."""
         words = self._read("seek", _SEEK, re.sub(r"\s+until\s+probe\b", "", rest, flags=re.IGNORECASE))
         if words and self.begins("seek"):
-            self.touched_nm = None
             self._go(f"seek {words[0]}", lambda link: link.seek(*words))
 
     def begins(self, word: str) -> bool:
@@ -110,6 +124,7 @@ class Moves:
 
     def _go(self, name: str, begin: Callable[[Link], MoveAnswer], keep: Callable[[int], None] | None = None) -> None:
         """Makes a move, and says how it ended. `keep` is called with its number as long as it goes."""
+        self.touched = None
         try:
             number, why = begin(self.session.meter.link)
             if why:
@@ -135,7 +150,8 @@ class Moves:
         session, is_told = self.session, False
         status = session.console.status()
         while (machine := session.meter.link.machine()).ended != number or machine.does != "stands":
-            self.show(name, status)
+            session.see_machine(machine)
+            self.show(machine.does if machine.does.startswith(name) else name, status)
             if keep:
                 keep(number)
             if not is_told and session.face.interrupted():
@@ -144,6 +160,7 @@ class Moves:
             for command in session.face.asides():
                 self.do(command)
             time.sleep(ASKED_S)
+        session.see_machine(machine)
         return machine
 
     def show(self, name: str, status: Status) -> None:
@@ -159,10 +176,31 @@ class Moves:
         elif name == "home":
             self.session.face.say(f"homed: {' '.join(machine.homed)}")
         if name.startswith("seek") and machine.how == DONE and machine.touched:
-            x, y, z = map(nanometres, machine.touched.split())
-            device = self.session.stored()
-            self.touched_nm, self.touched_by = (x, y, z), device.slot if isinstance(device, Device) else None
+            self._keep_touched(machine.touched)
             self.session.face.say(f"the probe was touched at {axes(machine.touched.split())}", SAID)
+
+    def _keep_touched(self, at: str) -> None:
+        """Keeps where the probe was touched."""
+        device, report = self.session.stored(), self.session.report()
+        if report:
+            x, y, z = map(nanometres, at.split())
+            slot = device.slot if isinstance(device, Device) else None
+            self.touched = Touched((x, y, z), slot, report.at, report.received)
+
+    def touched_now(self) -> Touched | None:
+        """Where the probe was touched, if nothing moved since; None else."""
+        report = self.session.report() if self.touched else None
+        if report is None or not self.touched.is_last(report):
+            self.touched = None
+        return self.touched
+
+    def _begin_anew(self) -> None:
+        """Where the machine is is known again, and lines were dropped in the alarm: this session comes to nothing."""
+        self.session.face.say(_ANEW, WARNING)
+        try:
+            self.following.begin()
+        except NoAnswer as error:
+            self.session.face.say(str(error), WARNING)
 
     def tell(self) -> None:
         """Tells `ngc` where the machine is now."""
@@ -172,6 +210,9 @@ class Moves:
             return
         if report.word == ALARM:
             self.alarm.say_left()
+            return
+        if report.word == BROKEN:
+            self._begin_anew()
             return
         if status.does not in ("idle", "stopped"):
             session.face.say(_LATER.format(half=session.half(status)), WARNING)

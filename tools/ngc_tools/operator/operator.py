@@ -5,6 +5,7 @@ import difflib
 import os
 from collections.abc import Callable
 from contextlib import AbstractContextManager
+from dataclasses import dataclass
 
 from ngc_tools.files import read_regular
 from ngc_tools.formats.device import Device
@@ -13,8 +14,11 @@ from ngc_tools.formats.settings import Settings
 from ngc_tools.ngc.console import Console, Status
 from ngc_tools.operator.alarm import Alarm
 from ngc_tools.operator.causes import refused, taken
+from ngc_tools.operator.choices import Choices
+from ngc_tools.operator.display import on_words
 from ngc_tools.operator.ending import Ending
-from ngc_tools.operator.face import REFUSED, WARNING, WHERE, Face, are_keys
+from ngc_tools.operator.face import MESSAGE, REFUSED, WARNING, WHERE, Face, are_keys
+from ngc_tools.operator.homes import asked_of_home
 from ngc_tools.operator.jog_keys import Keys, jog_by_keys
 from ngc_tools.operator.left import Left, dropped_g92
 from ngc_tools.operator.loading import Loading
@@ -22,19 +26,34 @@ from ngc_tools.operator.look import Look
 from ngc_tools.operator.meter import Meter
 from ngc_tools.operator.motors import Motors
 from ngc_tools.operator.moves import Moves
+from ngc_tools.operator.numbers import nanometres_of
 from ngc_tools.operator.opening import say_opening
-from ngc_tools.operator.outputs import outputs_agree
+from ngc_tools.operator.next_session import NextSession
+from ngc_tools.operator.outputs import comes_on_agreed, outputs_agree
 from ngc_tools.operator.places import Places, stops_outputs
 from ngc_tools.operator.recover import Recover
 from ngc_tools.operator.rehearsing import rehearse
-from ngc_tools.operator.sentences import HELP, NOT_MOVED, SWITCHED, SWITCHED_THERE, TAKEN_UP, TAKEN_UP_THERE
+from ngc_tools.operator.sentences import (GO_ON, HELP, NOT_MOVED, SWITCHED, SWITCHED_THERE, TAKEN_UP,
+                                          TAKEN_UP_THERE)
 from ngc_tools.operator.session import ALARM, BROKEN, Nothing, Session, place
-from ngc_tools.operator.touch import Touch
+from ngc_tools.operator.stopping import Stopping
+from ngc_tools.operator.slots import fill_below
+from ngc_tools.operator.touch import Touch, is_slot
 from ngc_tools.operator.typed import ANYWAY, Typed
 from ngc_tools.operator.work import SINGLE, Work
 from ngc_tools.player.progress import NoAnswer, Report
 
+CHOSEN = ("percent", "spindle", "single", "optional", "delete")
 PLAIN = ("abandon", "tool", "optional", "delete")
+
+
+@dataclass(slots=True)
+class TakenUp:
+    """A block that is taken up, of which nobody has agreed yet that it goes on. `is_there`: nothing has to move before
+    it. `is_switched`: its switch is handed out, and that alone."""
+
+    is_there: bool
+    is_switched: bool = False
 
 
 class Operator:
@@ -52,34 +71,45 @@ class Operator:
         self.loading = Loading(self.session)
         self.ending = Ending(self.session)
         self.recover = Recover(self.session)
+        self.choices = Choices(self.session)
         self.alarm = Alarm(self.session)
-        self.moves = Moves(self.session, self.motors, self.left, self.recover, self.alarm,
-                           self.do)
+        self.following = NextSession(self.session, self.motors, self.left, self.recover, self._open)
+        self.moves = Moves(self.session, self.motors, self.left, self.following, self.alarm, self.do)
+        self.stopping = Stopping(self.session, self.motors, self.ending, self.following,
+                                 lambda line: self._line_done(line, True))
         self.touch = Touch(self.session, self.places, self.moves, self._line_done)
         self.keys: Callable[[], AbstractContextManager[Keys]] | None = None
         self.over = False
+        self.taken_up: TakenUp | None = None
         self._doings: dict[str, Callable[[Typed], None]] = {
             "load": self._load, "run": self._run, "start": self._start, "continue": self._continue,
             "where": self._where, "status": self._status, "reference": self._reference, "resume": self._resume,
             "rehearse": self._rehearse, "restore": self._restore, "go": self._go, "help": self._help, "?": self._help,
             "recover": self._recover, "drop": self._drop, "quit": self._quit, "exit": self._quit, "tick": self._tick,
             "hold": self._hold_all, "release": self._release, "percent": self._percent, "single": self._single,
-            "spindle": lambda typed: self.motors.spindle(typed.rest),
+            "spindle": lambda typed: self.motors.spindle(typed.rest), "rewind": self._rewind,
+            "stop": lambda _: self.stopping.stop(), "off": lambda _: self.stopping.off(),
             "home": lambda typed: self.moves.home(typed.rest), "jog": self._jog,
             "seek": lambda typed: self.moves.seek(typed.rest),
             "zero": lambda typed: self.touch.zero(typed.rest, typed.anyway),
             "touch": lambda typed: self.touch.tool(typed.rest, typed.anyway),
             "undo": lambda _: self.touch.undo(),
             "mdi": lambda typed: self._mdi(typed.rest, typed.anyway),
-            **dict.fromkeys(PLAIN, self._plain),
+            **dict.fromkeys(PLAIN, self._plain), "tool": self._tool,
         }
 
     def begin(self, bound: str, found: Device | None = None) -> None:
         """Says what the session begins with. `found` is the device as it stood before `ngc` was started."""
-        self.session.program = Program(self.stored().program)
         self.face.say(bound)
+        self._open(found)
+        self.choices.give_back(self.console.status())
+
+    def _open(self, found: Device | None) -> None:
+        """Says what a session of `ngc` begins with, and sees how it stands."""
+        self.session.program = Program(self.stored().program)
         say_opening(self.session, self.places, self.left, found)
         status = self.console.status()
+        self.taken_up = None
         self.recover.begin(status)
         self.session.told = status.place
 
@@ -95,6 +125,8 @@ class Operator:
             self.motors.override(typed.line, "")
         elif typed.word:
             self._mdi(typed.line, typed.anyway)
+        if typed.word in CHOSEN or are_keys(typed.line):
+            self.choices.keep()
 
     def load(self, name: str, text: bytes) -> bool:
         """Stores a program that people call `name`, once a dry run tried it; whether it is stored. Raises Ended."""
@@ -151,12 +183,21 @@ class Operator:
     def _go_on(self, command: str, typed: Typed) -> None:
         """Starts the program, or goes on with what waits."""
         status = self.console.status()
+        if self.taken_up and status.half != "none" and status.does == "held":
+            if typed.anyway or self.places.agree(status, f"{typed.word} {ANYWAY}"):
+                self._look_again()
+            return
+        if not typed.anyway and not comes_on_agreed(self.session):
+            return
         if self.motors.are_held and self._let_go(command, status):
             return
         if not typed.anyway and not (self.places.agree(status, f"{typed.word} {ANYWAY}")
                                      and outputs_agree(self.session, status) and self.left.agreed(status)):
             return
-        timeline = self.loading.timeline(command == "start" and not status.place)
+        begins = command == "start" and not status.place
+        timeline = self.loading.timeline(begins)
+        if begins and status.half == "none" and not typed.anyway and not self.loading.begins_as_told(timeline):
+            return
         if refused(self.session, self.console.ask(command)[0], command):
             return
         if status.half == "none" and (said := dropped_g92(self.session)):
@@ -179,12 +220,19 @@ class Operator:
         status = self.console.status()
         if status.half == "none" and not self.motors.are_free():
             return None
-        compared = status.half == "none" and not anyway and not stops_outputs(line)
+        is_asked = not anyway and not stops_outputs(line)
+        if status.half == "none" and is_asked and not comes_on_agreed(self.session):
+            return None
+        compared = status.half == "none" and is_asked
         if compared and not self.places.agree(status, f"{ANYWAY} {line}"):
+            return None
+        text = line.encode("utf-8", "surrogateescape")
+        if compared and (question := asked_of_home(self.session, text)) and not self.session.agrees(question):
+            self.face.say("nothing is done")
             return None
         if status.half == "none":
             self.left.keep()
-        reply = self.console.ask(b"mdi " + line.encode("utf-8", "surrogateescape"))[0]
+        reply = self.console.ask(b"mdi " + text)[0]
         if refused(self.session, reply, f"mdi {line}"):
             self._near(line)
             return None
@@ -212,12 +260,26 @@ class Operator:
         if found.left:
             self.face.say("it can't put back " + "; nor ".join(found.left), WARNING)
 
+    def _tool(self, typed: Typed) -> None:
+        """Gives a slot a length."""
+        slot, _, length = typed.rest.partition(" ")
+        if is_slot(slot):
+            fill_below(self.session, int(slot), nanometres_of(length.strip()))
+        self._plain(typed)
+
     def _plain(self, typed: Typed) -> None:
         if typed.word == "abandon" and self.console.status().does == "idle":
             self.left.keep()
         reply = self.console.ask(" ".join([typed.word, *typed.rest.lower().split()]))[0]
         if taken(self.session, reply, f"{typed.word} {typed.rest}".strip()) and typed.word in ("delete", "optional"):
             setattr(self.session, typed.word, typed.rest.lower() == "on")
+
+    def _rewind(self, _: Typed) -> None:
+        """The program that is stored begins with its first line again, as if it were loaded."""
+        if self.session.program.text:
+            self.load("from line 1", self.session.program.text)
+        else:
+            self.face.say("no program is stored: load FILE", REFUSED)
 
     def _single(self, typed: Typed) -> None:
         if typed.rest.lower() not in ("on", "off"):
@@ -233,10 +295,15 @@ class Operator:
             self.motors.say_rest()
 
     def _release(self, _: Typed) -> None:
-        """Lets the motors carry out what is in hand; `ngc` stays as it is."""
+        """Lets the motors carry out what is in hand; `ngc` stays as it is. While something runs that is all."""
+        if self.work.is_amid:
+            self.motors.release()
+            return
         report = self.session.report()
         if not self.motors.are_held and not (report and report.behind):
             self.face.say("the motors aren't held")
+            return
+        if not comes_on_agreed(self.session):
             return
         self.motors.release()
         if self.work.await_motors():
@@ -274,7 +341,7 @@ class Operator:
             self.left.keep()
         self.places.reference(typed.rest.lower().split(), typed.anyway)
         if typed.rest.lower() != "player":
-            self.moves.touched_nm = None
+            self.moves.touched = None
 
     def _recover(self, _: Typed) -> None:
         """Brings the motors to where a half-done segment begins, and takes it up."""
@@ -285,7 +352,7 @@ class Operator:
             self.face.say(str(error), WARNING)
             return
         if is_there and status.half != "none":
-            self._resume(Typed.read("resume"), TAKEN_UP_THERE, SWITCHED_THERE)
+            self._take_up(status, True)
 
     def _drop(self, _: Typed) -> None:
         try:
@@ -293,23 +360,59 @@ class Operator:
         except (NoAnswer, OSError) as error:
             self.face.say(str(error), WARNING)
 
-    def _resume(self, typed: Typed, said: str = TAKEN_UP, question: str = SWITCHED) -> None:
-        """Takes a half-done block up: stops after the switch, and asks."""
+    def _resume(self, typed: Typed) -> None:
+        """Takes a half-done block up. A player brings the motors there first, at a feed: `ngc` would go at the traverse
+        rate, down into the work too."""
         status = self.console.status()
-        if status.half != "none" and status.known and self.motors.are_held:
-            self.motors.release()
-        if status.half != "none" and not typed.anyway and not self.places.agree(status, f"resume {ANYWAY}"):
+        is_half = status.half != "none"
+        self.recover.way.looked = None
+        if is_half and status.known and self.motors.are_held and not self._let_way_end():
             return
+        if is_half and not typed.anyway and not self.places.agree(status, f"resume {ANYWAY}"):
+            return
+        is_there = is_half and status.known and status.does == "idle" and not typed.anyway and self.session.meter
+        try:
+            if is_there and not self.recover.straight():
+                return
+        except (NoAnswer, OSError) as error:
+            self.face.say(str(error), WARNING)
+            return
+        self._take_up(self.console.status(), bool(is_there))
+
+    def _let_way_end(self) -> bool:
+        """Lets motors that are held before a block is taken up go on, once somebody has looked; whether they stand."""
+        try:
+            return self.recover.way.ends()
+        except NoAnswer as error:
+            self.face.say(str(error), WARNING)
+            return False
+
+    def _take_up(self, status: Status, is_there: bool) -> None:
+        """Takes a half-done block up: stops after the switch, and asks. `is_there`: nothing has to move before it."""
         reply = self.console.ask("resume")[0]
         if refused(self.session, reply, "resume"):
             if reply.startswith("refused K3"):
                 self.places.offer()
             return
         self.left.forget()
+        said = TAKEN_UP_THERE if is_there else TAKEN_UP
         self.face.say(said.format(half=self.session.half(status), place=place(status)), WARNING)
-        if not self._switched():
+        self.taken_up = TakenUp(is_there)
+        self._look_and_go(self.taken_up)
+
+    def _look_again(self) -> None:
+        """Nobody has agreed yet since a block was taken up, and nothing but its switch was handed out: asks again."""
+        if self.motors.are_held:
+            self.motors.release()
+        if self.taken_up and not refused(self.session, self.console.ask("continue")[0], "continue"):
+            self._look_and_go(self.taken_up)
+
+    def _look_and_go(self, taken_up: TakenUp) -> None:
+        """Makes the switch of a block that is taken up, and goes on once somebody has looked."""
+        if not self._switched(taken_up):
             self._hold()
-        elif self.session.agrees(question):
+        elif self.session.agrees(self._last_look(taken_up.is_there)):
+            self.taken_up = None
             self._run_on()
         else:
             self._hold()
@@ -317,11 +420,23 @@ class Operator:
             if left_on := self.ending.left_on():
                 self.face.say(f"on: {left_on}. {self.ending.how_off()}", WARNING)
 
-    def _switched(self) -> bool:
-        """Makes the switch of an approach; whether the motors' side has done it too."""
-        if not self.work.await_motors() or not self.work.room():
-            return False
-        return not any(map(self.session.is_refusal, self.console.ask("tick 2"))) and self.work.await_motors()
+    def _last_look(self, is_there: bool) -> str:
+        """What is asked before the block goes on: once somebody looked at what is on, and it is the same, nothing is to
+        be looked at again."""
+        seen, looked = self.session.seen, self.recover.way.looked
+        if looked is not None and seen is not None and on_words(seen.outputs) == looked:
+            return GO_ON
+        return SWITCHED_THERE if is_there else SWITCHED
+
+    def _switched(self, taken_up: TakenUp) -> bool:
+        """Makes the switch of an approach, once; whether the motors' side has done it too."""
+        if not taken_up.is_switched:
+            if not self.work.await_motors() or not self.work.room():
+                return False
+            if any(map(self.session.is_refusal, self.console.ask("tick 2"))):
+                return False
+            taken_up.is_switched = True
+        return self.work.await_motors()
 
     def _rehearse(self, typed: Typed) -> None:
         rehearse(self.session, typed.rest.split())
@@ -361,9 +476,18 @@ class Operator:
     def _run_on(self) -> str | None:
         """The same as `_work`, and says how all stands then."""
         ended = self._work()
+        if ended == "stopped":
+            self._say_remark()
         if ended is not None:
             self._say_stand(ended)
         return ended
+
+    def _say_remark(self) -> None:
+        """Says the plain comment of the line at which the program stopped."""
+        status = self.console.status()
+        found = self.session.program.remark(status.place) if status.half == "none" and status.place else None
+        if found and found[1]:
+            self.face.say(f"comment, line {found[0]}: {found[1]}", MESSAGE)
 
     def _work(self) -> str | None:
         """Gives ticks until there is nothing to do, or somebody holds. Returns what ended them, None for a hold."""

@@ -22,6 +22,17 @@ def outputs_agree(session: Session, status: Status) -> bool:
     return session.agrees("go on all the same? yes goes on: ")
 
 
+def comes_on_agreed(session: Session) -> bool:
+    """Whether a person wants on again what was switched off by hand amid lines, and comes on before the next one."""
+    if session.seen is None or session.seen.again is None:
+        return True
+    report = session.report()
+    if report is None or report.again is None:
+        return True
+    return session.agrees(f"switched off by hand: {on_words(report.again)}.\nyes switches it on again and goes on,"
+                          " anything else leaves it off: ")
+
+
 def _line(state: State) -> str:
     """A line that hands all outputs out as they are."""
     if state.spindle:

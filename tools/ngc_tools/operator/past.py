@@ -25,10 +25,15 @@ class Past:
     of_out: bool
     age_ms: int
 
+    @property
+    def at_most_mm(self) -> str:
+        """How far that is, in mm, rounded up."""
+        return rounded(self.nm + 499)
+
     def words(self) -> str:
         """All of it, for people."""
         lines = f"{self.lines:,} line{'s' if self.lines > 1 else ''}{' of OUT' if self.of_out else ''}"
-        made = f"{lines}, {rounded(self.nm + 499)} mm"
+        made = f"{lines}, {self.at_most_mm} mm"
         if self.age_ms:
             return f"It was up to {self.age_ms:,} ms old while they moved: they make at most {made}, in that time"
         return f"It may be {KEEPS_MS} ms and a sync old: they make at most {made}, in {KEEPS_MS} ms"

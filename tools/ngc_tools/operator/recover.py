@@ -3,27 +3,24 @@
 The player moves them, since it has the machine's words, its pins and its record, and a second one couldn't have them
 too. It is sent by a datagram that names bytes of OUT, and takes that only at rest with nothing in hand; where they lead
 it reads itself. So no word of a console can make it leave the lines that were handed out, but for legs, which go up
-first."""
-import time
-
-from ngc_tools.failure import BadNumber
-from ngc_tools.formats.out import Switch
+first, and the straight line of `resume`, which goes at a feed."""
+from ngc_tools.formats.device import Device
 from ngc_tools.formats.position import Position, millimetres, nanometres
-from ngc_tools.formats.record import machine_nm
 from ngc_tools.job.figures import millimetres as rounded
 from ngc_tools.job.moves import distance
 from ngc_tools.ngc.console import Status
 from ngc_tools.operator.causes import taken
-from ngc_tools.operator.display import on_words
 from ngc_tools.operator.face import REFUSED, WARNING, axes
+from ngc_tools.operator.feeds import cut_feed
+from ngc_tools.operator.modes import trimmed
 from ngc_tools.operator.past import Past, along_out, by_rate
 from ngc_tools.operator.recovery import OutFound, Recovery
 from ngc_tools.operator.rehearsing import segment_begins
-from ngc_tools.operator.session import ALARM, BROKEN, Session
+from ngc_tools.operator.session import Session
+from ngc_tools.operator.way_back import WayBack
 from ngc_tools.player.machine import MOST_PERCENTS
 from ngc_tools.player.progress import Report
-from ngc_tools.player.retrace import legs_to
-from ngc_tools.player.way import NoWay, count_lines
+from ngc_tools.player.way import count_lines
 
 _MOVING = ("run", "start", "continue", "resume", "mdi", "restore", "zero", "undo")
 LEFT = """\
@@ -43,23 +40,22 @@ By the record the motors stand at {at}, behind line {line} of OUT.
 and a motor that turned went on for a while. Where steps may be lost, answer no: home the machine, and start
 the player anew with --at X Y Z.
 Do they stand there? yes goes on, anything else ends: """
-GOES = "yes goes there, Enter holds; anything else ends: "
 NO_LINES = """\
 Without lines of OUT legs alone lead on, from {at}, where the motors stand by the record.
 What was handed out and not carried out is never cut then, and is cut off OUT. yes goes on, anything else ends: """
-HEIGHT = """\
-by legs then: straight up, over, and down to {at}. Up to which Z, in machine mm? Nothing ends: """
 
 
 class Recover:
-    """What `recover` and `drop` do. `found` is what the session found of OUT, a file; None where OUT is none.
-    `most_percent` is the most that an override may be, by the machine's file; without one what any file may say.
+    """What `recover` and `drop` do, and `resume` before its block. `found` is what the session found of OUT, a file;
+    None where OUT is none. `way` brings the motors. `most_percent` is the most that an override may be, by the
+    machine's file; without one what any file may say.
     `confirmed_nm` is where a person, who was told of `past`, has confirmed that the motors stand: by the record at that
     very place they aren't asked about again, once."""
 
     def __init__(self, session: Session) -> None:
         self.session = session
         self.found: OutFound | None = None
+        self.way = WayBack(session)
         self.most_percent = MOST_PERCENTS[-1]
         self.confirmed_nm: tuple[int, ...] | None = None
         self._entries: int | None = None  # as the session began
@@ -111,6 +107,7 @@ class Recover:
         if self.session.meter is None:
             self.session.face.say("no player is known: --player SOCKET", REFUSED)
             return False
+        self.way.looked = None
         is_on_way = self.found is not None and self.found.is_sent
         if status.does != "idle" or not is_on_way and status.entries != (self._entries or status.entries):
             self.session.face.say("recover is for what the last session left, before anything else is done", REFUSED)
@@ -120,6 +117,8 @@ class Recover:
         elif self.found is None or not self.found.is_left() and self.found.recovery.is_there():
             self.session.face.say("nothing is half-done, and nothing is left in OUT: run goes on")
             return False
+        if not self.way.ends():
+            return False
         if self.found is not None and not self._is_brought(self.found):
             return False
         if self.found is None and not self._stands():
@@ -127,36 +126,80 @@ class Recover:
         if status.half == "none":
             self.session.face.say(THERE if self.found.recovery.beginning else NOT_THERE)
             return True
-        return self._is_over(status)
+        return self._is_over()
 
-    def _is_over(self, status: Status) -> bool:
-        """By legs to where the half-done segment begins, if the motors aren't there; whether they are, and `ngc` is
-        told so."""
-        session = self.session
-        begins = segment_begins(session)
-        report = session.report()
+    def straight(self) -> bool:
+        """In one straight line to where the half-done segment begins, at a feed, and tells `ngc`; whether the motors
+        are there. Raises NoAnswer, OSError, Ended."""
+        self.way.looked = None
+        report, begins = self.session.report(), segment_begins(self.session)
         if report is None or begins is None:
             return False
-        at, wanted = (" ".join(millimetres(nm) for nm in Position(session.settings.step_nm, map(nanometres, point)).nm)
-                      for point in (report.at.split(), begins))
+        at, wanted = self._from_and_to(report, begins[0])
+        if at == wanted:
+            return True
+        (*_, z), point = (tuple(map(nanometres, place.split())) for place in (at, wanted))
+        length = distance(tuple(map(nanometres, at.split())), point)
+        self.session.face.say(f"one straight line of {rounded(length)} mm to {axes(wanted.split())}"
+                              + (f", {rounded(z - point[2])} mm DOWN" if z > point[2] else "")
+                              + ". Z isn't lifted first", WARNING)
+        feed = self.way.feed(self._cut_feed(), "there")
+        link = self.session.meter.link
+        return feed is not None and self.way.goes(
+            begins[1], lambda: link.straight(wanted, self._size(), feed), wanted) and self._tells(wanted)
+
+    def _is_over(self) -> bool:
+        """By legs to where the half-done segment begins, if the motors aren't there; whether they are, and `ngc` is
+        told so."""
+        session, report = self.session, self.session.report()
+        begins = segment_begins(session)
+        if report is None or begins is None:
+            return False
+        at, wanted = self._from_and_to(report, begins[0])
         if at != wanted:
             session.face.say(f"the motors are at {axes(at.split())} by the record, and no lines of OUT lead from there"
                              f" to {axes(wanted.split())}, where the segment begins")
-            lift = self._height(at, wanted)
-            if lift is None or not session.agrees(GOES):
+            chosen = self._legs(at, wanted)
+            if chosen is None or not self.way.goes(
+                    begins[1], lambda: session.meter.link.legs(chosen[0], wanted, self._size(), chosen[1]), wanted):
                 return False
-            self.session.meter.link.legs(lift, wanted, 0 if self.found is None else self.found.link.size())
-            if not self._waits(report.carried):
-                return False
-        return taken(session, session.console.ask(f"reference {wanted}")[0], f"reference {wanted}")
+        return self._tells(wanted)
+
+    def _tells(self, at: str) -> bool:
+        """Tells `ngc` where the motors are; whether it takes that."""
+        return taken(self.session, self.session.console.ask(f"reference {at}")[0], f"reference {at}")
+
+    def _size(self) -> int:
+        """The bytes of OUT, a file."""
+        return 0 if self.found is None else self.found.link.size()
+
+    def _from_and_to(self, report: Report, begins: tuple[str, ...]) -> tuple[str, str]:
+        """Where the motors are and have to be, in whole steps."""
+        step_nm = self.session.settings.step_nm
+        at, wanted = (" ".join(millimetres(nm) for nm in Position(step_nm, map(nanometres, point)).nm)
+                      for point in (report.at.split(), begins))
+        return at, wanted
+
+    def _legs(self, start: str, end: str) -> tuple[str, str] | None:
+        """The height of legs, and the feed of the last one, as a person types them; None for none."""
+        lift = self.way.height(start, end)
+        if lift is None:
+            return None
+        is_down = nanometres(lift) > nanometres(end.split()[2])
+        feed = self.way.feed(self._cut_feed(), "down, on the last leg") if is_down else "1"
+        if feed is None:
+            return None
+        self.way.say_legs(start, end, lift, feed)
+        return lift, feed
+
+    def _cut_feed(self) -> int:
+        """The feed of what was cut off, in nm a minute; 0 where none is known."""
+        device, console = self.session.stored(), self.session.console
+        return cut_feed(console.ngc, console.settings, device) if isinstance(device, Device) else 0
 
     def _is_brought(self, found: OutFound) -> bool:
         """Along OUT, or by legs to it; whether the motors are there."""
         face, report = self.session.face, found.link.ask()
-        if report.behind:  # it was held on its way
-            if not self._waits(None):
-                return False
-            report = found.link.ask()
         found.look_again(report)
         recovery = found.recovery
         if recovery.beginning and recovery.beginning.is_new and not self._puts_back(found):
@@ -192,20 +235,20 @@ class Recover:
     def _sends(self, found: OutFound, recovery: Recovery, report: Report) -> bool:
         """Sends the player; whether it came there."""
         link, size = found.link, recovery.beginning.size
-        lift = None
-        if recovery.way is None:
-            lift = self._height(report.at, " ".join(map(millimetres, recovery.legs_nm)))
-            if lift is None:
-                return False
-        on = self._on(recovery.outputs, report)
-        if not self.session.agrees(GOES):
+        ends, legs = (" ".join(map(millimetres, nm)) for nm in (recovery.at_nm, recovery.legs_nm))
+        chosen = self._legs(report.at, legs) if recovery.way is None else None
+        if recovery.way is None and chosen is None:
             return False
-        found.sends()
-        if lift is None:
-            link.along(size, on)
-        else:
-            link.legs(lift, " ".join(map(millimetres, recovery.legs_nm)), size, on)
-        return self._waits(recovery.line)
+
+        def send() -> None:
+            """From here on OUT's end isn't where it was."""
+            found.sends()
+            if chosen:
+                link.legs(chosen[0], legs, size, chosen[1])
+            else:
+                link.along(size, trimmed(recovery.most_nm) if recovery.most_nm else "")
+
+        return self.way.goes(recovery.outputs, send, ends, recovery.line)
 
     def _stands(self) -> bool:
         """Whether a person says that the motors are where the record has them, once it is said how far they may be past
@@ -229,60 +272,3 @@ class Recover:
         if recovery.way is None:  # beside OUT's path, as within legs
             return by_rate(settings, age_ms, percent)
         return along_out(self.found.link.file, recovery.lines, recovery.size, settings, age_ms, percent)
-
-    def _height(self, start: str, end: str) -> str | None:
-        """The height of legs from a point to another, as a person types it, whose lengths are said; None for none."""
-        typed = self.session.face.ask(HEIGHT.format(at=axes(end.split()))).strip()
-        try:
-            if not typed:
-                return None
-            (x, y, z), point = (tuple(map(nanometres, at.split())) for at in (start, end))
-            lift_nm = machine_nm(typed)
-            _, over, _ = legs_to((x, y, z), point, lift_nm)
-            settings = self.session.settings
-            if not settings.low_nm[2] <= lift_nm <= settings.high_nm[2]:
-                raise NoWay(f"Z {typed} lies outside the travel")
-            across = rounded(distance((x, y, lift_nm), over))
-            self.session.face.say(f"up {rounded(lift_nm - z)} mm, over {across} mm, and down"
-                                  f" {rounded(lift_nm - point[2])} mm, at the traverse rate")
-            return millimetres(lift_nm)
-        except (BadNumber, NoWay) as error:
-            self.session.face.say(str(error), REFUSED)
-            return None
-
-    def _on(self, outputs: Switch, report: Report) -> Switch | None:
-        """What is switched on before, if a person wants that."""
-        words = on_words(outputs)
-        if not words or on_words(report.outputs) == words:
-            return None
-        wants = self.session.agrees(f"on was, there: {words}. yes switches it on first, anything else leaves it off: ")
-        return outputs if wants else None
-
-    def _waits(self, line: int | None) -> bool:
-        """Waits until the player stands; whether it came to be behind a line, if one is named. Somebody who holds is
-        asked."""
-        link, face = self.session.meter.link, self.session.face
-        link.release()
-        while (report := link.ask()).behind:
-            self.session.take(report)
-            if self.session.is_in(ALARM, BROKEN):
-                return False
-            if report.waits and not self._has_tool(report.tool):
-                return False
-            if face.interrupted():
-                link.hold()
-                if not self.session.agrees("held. yes goes on; anything else stays, and recover goes on later: "):
-                    return False
-                link.release()
-            time.sleep(0.02)
-        if line is not None and report.carried != line:
-            face.say("the player doesn't go there: it says why at its own terminal", WARNING)
-        return line is None or report.carried == line
-
-    def _has_tool(self, slot: int) -> bool:
-        """Asks for a tool that comes on the way; whether it is in."""
-        what = f"tool {slot} comes on the way: put it in" if slot else "take the tool out"
-        is_in = self.session.face.ask(f"{what}, and type go; anything else leaves it: ").strip().lower() == "go"
-        if is_in:
-            self.session.meter.link.go()
-        return is_in

@@ -3,6 +3,7 @@
 Mended is what moves nothing: a part of a line at the end is cut off, and lines that were handed out before the open
 segment and are lost with the power are put behind it again."""
 from dataclasses import dataclass
+from functools import cached_property
 
 from ngc_tools.failure import Failure
 from ngc_tools.formats.device import Device
@@ -16,8 +17,10 @@ from ngc_tools.ngc.carried import CannotTell
 from ngc_tools.ngc.copies import CommandRefused
 from ngc_tools.ngc.handed_out import SegmentBeginning, Finder, FileRecord
 from ngc_tools.operator.display import outputs_on
+from ngc_tools.operator.feeds import cut_feed
 from ngc_tools.operator.synced import SyncedLink
 from ngc_tools.player.progress import Report
+from ngc_tools.player.retrace import slowed
 from ngc_tools.player.way import Way, count_lines, is_switch_between, look, moves, switched_at
 
 Point = tuple[int, int, int]
@@ -29,7 +32,8 @@ class Recovery:
     """The motors are where the first `lines` lines of OUT lead, its first `size` bytes, by the record, at `stands_nm`;
     `outputs` are those of that place. They have to be where those of `beginning` lead, of which `line` is the number;
     it is at `at_nm`. `way` leads there along OUT; None where the motors aren't on it: then legs end at `legs_nm`, and
-    lead on along OUT, if they ended before. `problem` says why none of it is known."""
+    lead on along OUT, if they ended before. `problem` says why none of it is known. Back it goes at most at `most_nm` a
+    minute, the feed that was cut off; 0 where none is known."""
 
     lines: int = 0
     size: int = 0
@@ -41,6 +45,7 @@ class Recovery:
     legs_nm: Point = (0, 0, 0)
     way: Way | None = None
     problem: str = ""
+    most_nm: int = 0
 
     def is_there(self) -> bool:
         """Whether nothing has to move."""
@@ -75,7 +80,7 @@ class Looking:
 
     def __init__(self, ngc: str, settings: str, image: bytes) -> None:
         """Raises NoDevice, BadSettings, OSError."""
-        self.settings = Settings.read(settings)
+        self.settings, self.path = Settings.read(settings), settings
         self.finder = Finder(ngc, settings, image)
         self.device = Device(image)
 
@@ -116,11 +121,17 @@ class Looking:
         at_nm = Position(self.settings.step_nm)
         at_nm.steps = list(found.steps)
         at, legs, way, least = at_nm.nm, at_nm.nm, None, self.settings.period_us
+        most = self._cut_feed if found.size < size else 0
         if not found.is_off and not missing:
-            way = look(moves(file, lines, size, found.size, least), position)
+            on = moves(file, lines, size, found.size, least)
+            way = look(slowed(on, self.settings.step_nm, most) if most else on, position)
         elif not missing and found.size > size:  # where the motors left the path
             legs = look(moves(file, line, found.size, size, least), at_nm).end_nm
-        return Recovery(lines, size, recovery.stands_nm, recovery.outputs, line, found, at, legs, way)
+        return Recovery(lines, size, recovery.stands_nm, recovery.outputs, line, found, at, legs, way, most_nm=most)
+
+    @cached_property
+    def _cut_feed(self) -> int:
+        return cut_feed(self.finder.ngc, self.path, self.device)
 
 
 @dataclass(slots=True)

@@ -1,5 +1,6 @@
 """A rehearsal within a session: what `resume` or `start` would do, by `ngc run` over a copy of the device."""
 from ngc_tools.formats.device import Device
+from ngc_tools.formats.out import Switch
 from ngc_tools.formats.settings import BadSettings
 from ngc_tools.ngc.console import Ended
 from ngc_tools.ngc.copies import CommandRefused, Interrupted
@@ -54,14 +55,15 @@ def count_segments(session: Session) -> tuple[int, str]:
         return 0, ""
 
 
-def segment_begins(session: Session) -> tuple[str, ...] | None:
-    """Where the half-done segment begins, in machine millimetres; None, which is said, if that can't be told."""
+def segment_begins(session: Session) -> tuple[tuple[str, ...], Switch] | None:
+    """Where the half-done segment begins, in machine millimetres, and what was on there; None, which is said, if that
+    can't be told."""
     device = session.stored()
     if not isinstance(device, Device):
         session.face.say("the device can't be read meanwhile", WARNING)
         return None
     try:
-        return Finder(session.console.ngc, session.console.settings, device.image).segment(device.image)[0]
+        return Finder(session.console.ngc, session.console.settings, device.image).segment(device.image)
     except CommandRefused as error:
         session.face.say(f"{error.asked}: {explained(error.reply)}", REFUSED)
     except (Ended, OSError, BadSettings) as error:

@@ -15,6 +15,10 @@ touch tool N       slot N has the length of the tool on the setter
 probe              behind zero and touch: where it was touched
 undo               put back what zero or touch set last
 hold               Enter or Ctrl-C while something runs
+stop               end the job: spindle and coolant off, then lines, jog
+                   and home are taken
+off                spindle and coolant off, while the motors stand
+rewind             the stored program from its first line
 release            lets held motors carry out what is in hand
 percent N          go at N % of the rates; - and + are 10 %
                    less and more, 0 is 100 %
@@ -44,6 +48,15 @@ TAKEN_UP = """\
 {half} is taken up. Its outputs are switched on as they were; then the tool goes
 in one straight line at the traverse rate from {place} to where that segment begins.
 Z isn't lifted first."""
+LOOK_SWITCHED = """\
+The outputs are switched, and nothing has moved. Look: are spindle, tool and way as they should be?
+yes goes there, Enter holds; anything else switches them back: """
+LOOK = """\
+Nothing is switched, and nothing has moved. Look: are spindle, tool and way as they should be?
+yes goes there, Enter holds; anything else ends: """
+LOOK_AGAIN = """\
+The motors are held on their way. Look: are spindle, tool and the rest of the way as they should be?
+yes goes on, Enter holds; anything else stays: """
 TAKEN_UP_THERE = """\
 {half} is taken up from its beginning.
 The motors are there: {place}. Its outputs are switched on as they were."""
@@ -53,7 +66,10 @@ yes goes on, anything else holds: """
 SWITCHED = """\
 The outputs are switched, and nothing has moved. Does the spindle turn, is the right tool in, is the straight way free?
 yes goes on, anything else holds: """
-NOT_MOVED = "nothing has moved. continue goes on; after quit the block is still half-done"
+GO_ON = """\
+The motors are where the segment begins, and nothing was switched on the way.
+yes goes on with the cut, anything else holds: """
+NOT_MOVED = "nothing has moved. continue asks again; after quit the block is still half-done"
 
 
 def explained(refusal: str, cause: str = "") -> str:

@@ -13,12 +13,15 @@ from ngc_tools.operator.meter import Meter
 from ngc_tools.operator.outside import breach_of_line
 from ngc_tools.operator.sentences import explained
 from ngc_tools.operator.synced import SyncedLink
-from ngc_tools.player.progress import NoAnswer, Report
+from ngc_tools.player.progress import MoveReport, NoAnswer, Report
 
-
-ALARM, BROKEN = "alarm", "broken"
-"""What a player's report says where the machine's place isn't to be trusted, and where it was homed after an alarm that
-came with lines in hand, so that no more line of the session is carried out."""
+ALARM, BROKEN, WAITS_SPINDLE = "alarm", "broken", "waits spindle"
+"""What a player's report says where the machine's place isn't to be trusted, where it was homed after an alarm that
+came with lines in hand, so that no more line of the session is carried out, and while the spindle isn't at its speed.
+"""
+DOOR, SPINDLE, OTHER = "door", "spindle", "other"
+"""What holds motors that nobody told to hold from here."""
+_MACHINE_S = 0.3  # a player that tells its inputs does so in that time; others are deaf for that question
 
 
 def place(status: Status) -> str:
@@ -37,7 +40,8 @@ class Nothing:
 class Session:
     """`own` is a line of the operator's that is under way. The messages of the lines before the place `told` are shown;
     `delete`, `optional` and `single` are the switches as they were set. `seen` is what the player said last; `gone`
-    says that it stopped to answer. `on_alarm` is called as an alarm comes."""
+    says that it stopped to answer. `on_alarm` is called as an alarm comes. `machine` is what it said last of moves
+    without lines, and of its inputs."""
 
     console: Console
     face: Face
@@ -52,6 +56,10 @@ class Session:
     seen: Report | None = None
     gone: bool = False
     on_alarm: Callable[[], None] = lambda: None
+    machine: MoveReport | None = None
+    is_deaf: bool = False  # the player doesn't tell its inputs
+    has_opened: bool = False  # the door was open since the motors are held
+    has_failed: bool = False  # they came to be held as they waited for the spindle's speed
 
     def stored(self) -> Device | Nothing:
         """What the device holds, which `ngc` has synced."""
@@ -82,11 +90,44 @@ class Session:
 
     def take(self, report: Report) -> None:
         """Takes what the player says."""
-        was_alarm = self.is_in(ALARM)
-        self.seen = report
+        was_alarm, before, self.seen = self.is_in(ALARM), self.seen, report
+        if not report.is_held:
+            self.has_opened = self.has_failed = False
+        elif before is not None and not before.is_held:
+            self.has_failed = before.word == WAITS_SPINDLE
         self.face.moved(report)
         if self.is_in(ALARM) and not was_alarm:
             self.on_alarm()
+
+    def see_machine(self, machine: MoveReport | None) -> None:
+        """Takes what it says of moves without lines, and of its inputs."""
+        self.machine = machine
+        self.has_opened = self.has_opened or self.is_door_open and self.seen is not None and self.seen.is_held
+
+    def ask_machine(self) -> None:
+        """Asks for that, where the player tells it."""
+        if not self.meter or self.is_deaf:
+            return
+        link = self.meter.link
+        patience_s, link.patience_s = getattr(link, "patience_s", _MACHINE_S), _MACHINE_S
+        try:
+            self.see_machine(link.machine())
+        except NoAnswer:
+            self.is_deaf = True
+        finally:
+            link.patience_s = patience_s
+
+    @property
+    def is_door_open(self) -> bool:
+        """Whether the door is open, as far as the player tells it."""
+        return self.machine is not None and DOOR in self.machine.on
+
+    @property
+    def held_by(self) -> str:
+        """What holds the motors, if nobody did so from here: DOOR, SPINDLE or OTHER; nothing where they aren't held."""
+        if self.seen is None or not self.seen.is_held:
+            return ""
+        return DOOR if self.has_opened else SPINDLE if self.has_failed else OTHER
 
     def is_in(self, *words: str) -> bool:
         """Whether the player said one of these of itself, as ALARM."""

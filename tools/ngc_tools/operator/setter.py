@@ -1,4 +1,5 @@
 """The tool setter of a machine, by the table `[setter]` of its file."""
+from dataclasses import dataclass
 from pathlib import Path
 
 from ngc_tools.failure import Failure
@@ -11,6 +12,21 @@ HEIGHTS = range(-10**7, 10**7 + 1)
 
 class BadSetter(Failure):
     """A table `[setter]` that can't be used; the text names the path and the key."""
+
+
+@dataclass(frozen=True, slots=True)
+class Setter:
+    """What a machine's file says of touching off: the machine Z in nm at which a tool of length 0 touches the setter,
+    None where it doesn't say, and whether an input is the probe's."""
+
+    height_nm: int | None = None
+    has_probe: bool = False
+
+    @staticmethod
+    def read(path: str | Path) -> "Setter":
+        """Reads it; what is wrong with the inputs the player says. Raises BadSetter, BadSettings, OSError."""
+        height_nm, inputs = read_setter(path), read_table(path).get("inputs")
+        return Setter(height_nm, isinstance(inputs, dict) and "probe" in inputs)
 
 
 def read_setter(path: str | Path) -> int | None:

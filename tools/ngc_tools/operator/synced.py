@@ -74,10 +74,18 @@ class SyncedLink(Link):
             self._tell()
         super().end()
 
+    def anew(self) -> None:
+        """Tells the player that another session follows: until `follow` nothing more is carried out. Raises NoAnswer.
+        """
+        self.is_following, self.told = False, -1
+        super().anew()
+
     def close(self) -> None:
-        """Asks nothing more."""
+        """Asks nothing more; once more it does nothing, since the number of the file may be another file's by then."""
         super().close()
-        os.close(self.file)
+        file, self.file = self.file, -1
+        if file >= 0:
+            os.close(file)
 
     def _tell(self) -> None:
         size = self.size()

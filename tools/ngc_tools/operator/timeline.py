@@ -4,6 +4,7 @@ from dataclasses import dataclass, field
 
 from ngc_tools.formats.device import Device
 from ngc_tools.formats.settings import Settings
+from ngc_tools.job import cutting
 from ngc_tools.job.figures import Box, box, by_length
 from ngc_tools.job.in_force import InForce
 from ngc_tools.job.moves import CUT, TRAVERSE, Move, Step, Wait, arc_of, arc_points
@@ -20,7 +21,8 @@ from ngc_tools.operator.ramp_times import RampTimes
 class Timeline:
     """`views` has what is in force on each line that prints something, and `ends_us` when it ends, by its number from
     1. `extents` are those of all moves; `refused` is the line at which `ngc` would stop, `breach` where it leaves the
-    travel, if that is why; `notes` are those of where it begins. `ramps` has the times with ramps, where these are
+    travel, if that is why; `notes` are those of where it begins; `unset` says which tool length counts, where the
+    program sets none before it moves Z. `ramps` has the times with ramps, where these are
     wanted."""
 
     views: dict[int, InForce]
@@ -30,6 +32,7 @@ class Timeline:
     refused: Refusal | None
     breach: str
     notes: tuple[str, ...]
+    unset: str
     ramps: RampTimes | None = field(default=None, compare=False)
 
     def view(self, number: int) -> InForce | None:
@@ -66,15 +69,19 @@ def timeline(console: Console, device: Device, text: bytes, settings: Settings, 
         """A dry run from there."""
         return beginning.dry(console.ngc, part, console.settings, block_delete)[1]
 
-    acts = acts_of(by_line(Lines(text), run), beginning.on_device, beginning.point_nm)
+    lines = Lines(text)
+    acts = list(acts_of(by_line(lines, run), beginning.on_device, beginning.point_nm))
     refused = refusal(*beginning.dry(console.ngc, text, console.settings, block_delete))
     breach = ""
     if refused and refused.code == "X2":
         breach = breach_of_line(console, device, settings, text, refused.line)
-    return _folded(acts, settings, (refused, breach, beginning.notes_under(settings)))
+    tools_nm = beginning.tools_nm or ()
+    unset = "".join(f"line {danger.line}: {danger.text}" for danger in cutting.unset(lines, acts, tools_nm))
+    return _folded(acts, settings, (refused, breach, beginning.notes_under(settings), unset))
 
 
-def _folded(acts: Iterable[Act], settings: Settings, said: tuple[Refusal | None, str, tuple[str, ...]]) -> Timeline:
+def _folded(acts: Iterable[Act], settings: Settings,
+            said: tuple[Refusal | None, str, tuple[str, ...], str]) -> Timeline:
     """Goes through what the lines do."""
     views: dict[int, InForce] = {}
     ends: dict[int, int] = {}

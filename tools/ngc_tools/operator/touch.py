@@ -7,6 +7,7 @@ from dataclasses import dataclass
 
 from ngc_tools.failure import Failure
 from ngc_tools.formats.device import Device, State
+from ngc_tools.job.figures import millimetres as rounded
 from ngc_tools.job.in_force import in_force_on
 from ngc_tools.ngc.console import Status
 from ngc_tools.operator.causes import busy, reference_words, taken
@@ -17,6 +18,8 @@ from ngc_tools.operator.moves import Moves
 from ngc_tools.operator.numbers import length_of, nanometres_of
 from ngc_tools.operator.places import Places
 from ngc_tools.operator.session import Session
+from ngc_tools.operator.setter import Setter
+from ngc_tools.operator.slots import fill_below
 from ngc_tools.operator.typed import ANYWAY
 
 Point = tuple[int, int, int]
@@ -27,7 +30,11 @@ _ZERO = "zero X Y Z: which axes are 0 here? zero Z 10 for another coordinate tha
 _TOUCH = "touch tool N: which slot's tool stands on the setter? touch tool 3, or touch tool 3 HEIGHT"
 _HEIGHT = ("at which machine Z does the bare spindle reach the setter's top? touch tool {slot} HEIGHT, or height_um of"
            " [setter] in the file of --machine")
-_NOT_TOUCHED = "the probe wasn't touched since home: seek Z- RATE within MM"
+_NOT_TOUCHED = "the probe wasn't touched since the machine moved last, or its place was used: seek Z- RATE within MM"
+_NO_SETTER = ("the setter wasn't touched since the machine moved last, or its place was used: seek Z- RATE within MM,"
+              " and then touch tool {slot}; touch tool {slot} anyway takes the machine's Z as it is")
+FAR_NM = 5_000_000
+"""By so much a zero or a length may be another one than before, unasked."""
 _OTHER_TOOL = ("the probe was touched with {then} in the spindle, and there is {now} now: seek Z- RATE within MM again,"
                " or without the word probe from where the machine stands")
 _INCHES = "inches are in force (G20): write {text}in, or {text}mm"
@@ -96,14 +103,20 @@ def length_in(device: Device, slot: int) -> tuple[int, ...]:
 
 class Touch:
     """What `zero`, `touch` and `undo` do. `setter_nm` is the machine Z at which a tool of length 0 would touch the
-    setter, None if nobody said it."""
+    setter, None if nobody said it. `has_probe` says that the machine has an input for it, so that a setter that wasn't
+    touched is none."""
 
     def __init__(self, session: Session, places: Places, moves: Moves,
                  line_done: Callable[[str, bool], str | None]) -> None:
         """`line_done` does a line of G-code; it returns None where that wasn't taken."""
         self.session, self.places, self.moves, self.line_done = session, places, moves, line_done
         self.setter_nm: int | None = None
+        self.has_probe = False
         self._back: Back | None = None
+
+    def know(self, setter: Setter) -> None:
+        """Takes what the machine's file says."""
+        self.setter_nm, self.has_probe = setter.height_nm, setter.has_probe
 
     @property
     def undoes(self) -> str:
@@ -142,8 +155,11 @@ class Touch:
             self.session.face.say(text, WARNING)
         here, system = in_force_on(device.state).to_program(at), device.state.system
         origin = {axis: device.state.origin_nm[axis] + here[axis] - nm for axis, nm in wanted.items()}
+        if not anyway and (question := _far_zero(device.state, origin)) and not self._agrees(question):
+            return
         if not self._line(origin_line(system, origin, device.state.unit)):
             return
+        self._use_up(by_probe)
         now, before = self._device(), dict(enumerate(device.state.origin_nm))
         self._back = Back(SYSTEMS[system - 1], lambda unit: origin_line(system, before, unit), origin_of(now, system),
                           lambda device: origin_of(device, system))
@@ -154,22 +170,36 @@ class Touch:
         """Raises CannotTouch."""
         named, by_probe = _parted(rest)
         words = named.lower().split()
-        if len(words) not in (2, 3) or words[0] != "tool" or not _is_slot(words[1]):
+        if len(words) not in (2, 3) or words[0] != "tool" or not is_slot(words[1]):
             raise CannotTouch(_TOUCH)
         slot, height = int(words[1]), self._height(words)
         status, device = self._found()
+        if status.does not in ("idle", "stopped"):
+            raise CannotTouch(busy(self.session, status, "touch"))
+        if self.has_probe and not anyway and self.moves.touched_now() is None:
+            raise CannotTouch(_NO_SETTER.format(slot=slot))
+        by_probe = by_probe or self.has_probe and not anyway
         _, _, z = self._at("touch", status, device, by_probe)
         if not anyway and not (self.places.agree(status, f"touch {rest} {ANYWAY}") and self._is_in(slot, device)):
             return
         what = "the probe was touched at machine Z" if by_probe else "machine Z is"
         self.session.face.say(f"{what} {trimmed(z)}, and the setter's top is at {trimmed(height)}", WHERE)
-        command, before = f"tool {slot} {trimmed(z - height)}", length_in(device, slot)
+        before = length_in(device, slot)
+        if not anyway and (question := _far_length(slot, z - height, before, by_probe)) and not self._agrees(question):
+            return
+        self._set_length(slot, z - height, before, by_probe)
+
+    def _set_length(self, slot: int, nm: int, before: tuple[int, ...], by_probe: bool) -> None:
+        """Gives a slot its length; it had that `before`, or none."""
+        command = f"tool {slot} {trimmed(nm)}"
+        fill_below(self.session, slot, nm)
         self.session.face.say(command)
         if not taken(self.session, self.session.console.ask(command)[0], command):
             return
+        self._use_up(by_probe)
         back = f"tool {slot} {trimmed(before[0] if before else 0)}"
-        self._back = Back(f"tool {slot}", lambda _: back, (z - height,), lambda device: length_in(device, slot))
-        self._say_back(trimmed(z - height), trimmed(before[0]) if before else "no slot")
+        self._back = Back(f"tool {slot}", lambda _: back, (nm,), lambda device: length_in(device, slot))
+        self._say_back(trimmed(nm), trimmed(before[0]) if before else "no slot")
         self.session.face.say(f"G43 H{slot} takes it; a length that is in force stays until then", WHERE)
 
     def _undo(self) -> None:
@@ -217,11 +247,24 @@ class Touch:
             raise CannotTouch(f"it isn't known where the machine stands: {reference_words(self.session)}")
         if not by_probe:
             return device.state.point_nm
-        if self.moves.touched_nm is None:
+        touched, now = self.moves.touched, self.moves.touched_now()
+        if touched and touched.slot != device.slot:
+            raise CannotTouch(_OTHER_TOOL.format(then=_tool(touched.slot), now=_tool(device.slot)))
+        if now is None:
             raise CannotTouch(_NOT_TOUCHED)
-        if self.moves.touched_by != device.slot:
-            raise CannotTouch(_OTHER_TOOL.format(then=_tool(self.moves.touched_by), now=_tool(device.slot)))
-        return self.moves.touched_nm
+        return now.point_nm
+
+    def _use_up(self, by_probe: bool) -> None:
+        """The place where the probe was touched is used once."""
+        if by_probe:
+            self.moves.touched = None
+
+    def _agrees(self, question: str) -> bool:
+        """Whether a person wants it; says that nothing is set where not."""
+        agrees = self.session.agrees(question)
+        if not agrees:
+            self.session.face.say("nothing is set")
+        return agrees
 
     def _height(self, words: list[str]) -> int:
         """The setter's height in nm. Raises CannotTouch."""
@@ -250,8 +293,33 @@ def _tool(slot: int | None) -> str:
     return f"tool {slot}" if slot else "no tool"
 
 
-def _is_slot(text: str) -> bool:
+def is_slot(text: str) -> bool:
+    """Whether a text is a number that a slot may have."""
     return text.isascii() and text.isdecimal() and len(text) < 4
+
+
+def _far_zero(state: State, origin_nm: dict[int, int]) -> str:
+    """What is asked where an axis's zero would be far from the one before; nothing where none is."""
+    ways = {axis: abs(nm - state.origin_nm[axis]) for axis, nm in sorted(origin_nm.items())}
+    far = {axis: nm for axis, nm in ways.items() if nm > FAR_NM}
+    if not far:
+        return ""
+    moves = " and ".join(f"{_AXES[axis]} by {rounded(nm)} mm" for axis, nm in far.items())
+    at = " ".join(f"{_AXES[axis]}{trimmed(nm)}" for axis, nm in sorted(origin_nm.items()))
+    was = " ".join(f"{_AXES[axis]}{trimmed(state.origin_nm[axis])}" for axis in sorted(origin_nm))
+    return f"the zero of {SYSTEMS[state.system - 1]} would move in {moves}: to machine {at} from {was}\nyes moves it: "
+
+
+def _far_length(slot: int, nm: int, before: tuple[int, ...], by_probe: bool) -> str:
+    """What is asked where a length would be far from the one before, or is the first one, of a setter that nothing says
+    was touched; nothing else."""
+    if not before:
+        return "" if by_probe else (f"tool {slot} has no length yet, and gets {trimmed(nm)} mm if it stands on the"
+                                    " setter now\nyes sets it: ")
+    if abs(nm - before[0]) <= FAR_NM:
+        return ""
+    differs = f"{rounded(abs(nm - before[0]))} mm {'longer' if nm > before[0] else 'shorter'}"
+    return f"tool {slot} has {trimmed(before[0])} mm, and would get {trimmed(nm)} mm, {differs}\nyes sets it: "
 
 
 def _tip(state: State) -> str:

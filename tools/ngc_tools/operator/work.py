@@ -10,7 +10,7 @@ from ngc_tools.operator.display import short_words, work_words
 from ngc_tools.operator.face import MESSAGE, WARNING, WHERE, UnderWay
 from ngc_tools.operator.meter import AT_ONCE
 from ngc_tools.operator.motors import Motors, live
-from ngc_tools.operator.session import ALARM, BROKEN, Session
+from ngc_tools.operator.session import ALARM, BROKEN, DOOR, OTHER, SPINDLE, WAITS_SPINDLE, Session
 from ngc_tools.operator.timeline import Timeline
 from ngc_tools.player.progress import NoAnswer, Report
 
@@ -19,8 +19,12 @@ SINGLE = "single"
 """What ended the work where it is to hold after each line."""
 FIRST_TICKS, MOST_TICKS = 20, 1000
 _HELD_S = 0.5  # of motors that are let go: so long after it they may still say that they are held
-_HELD = ("the motors are held, and not from here: a door is open, or the spindle doesn't come to its speed; the player"
-         " says which. Enter holds here too, and then run lets them go on")
+_ASKED_S = 0.1  # of what holds them it asks about so often
+_HELD = {
+    DOOR: "the door is open, and the motors are held: once it is closed, release lets them go on",
+    SPINDLE: "the spindle didn't come to its speed, and the motors are held: release waits for it again",
+    OTHER: "the motors are held, and not from here: release lets them go on",
+}
 _SPINDLE = "the player waits until the spindle has its speed"
 
 
@@ -74,6 +78,8 @@ class Work:
         self._is_unwanted = False  # somebody wants to hold
         self._is_within = False  # a line is under way that hands something out
         self._free_at = 0.0  # when the motors weren't held last, or were held from here
+        self._asked_at = 0.0  # when it was asked last what holds them
+        self.is_amid = False  # a command is done that was given while something runs
 
     def go(self) -> str | None:
         """Gives ticks until there is nothing to do, or somebody wants to hold.
@@ -120,8 +126,10 @@ class Work:
     def _wanted(self) -> bool:
         """Does what is given meanwhile; whether nobody wants to hold."""
         held = self.session.face.interrupted()
+        self.is_amid = True
         for command in self.session.face.asides():
             self.aside(command)
+        self.is_amid = False
         return not held
 
     def _ended(self, replies: list[str], status: Status) -> str | None:
@@ -181,13 +189,17 @@ class Work:
 
     def _tell_waits(self, report: Report) -> None:
         """Says what else the motors wait for."""
-        if report.word == "waits spindle":
+        if report.word == WAITS_SPINDLE:
             self.session.face.once(_SPINDLE, WHERE)
         now = time.monotonic()
         if not report.is_held or self.motors.is_told:
             self._free_at = now
-        elif now > self._free_at + _HELD_S:
-            self.session.face.once(_HELD)
+            return
+        if now > self._asked_at + _ASKED_S:
+            self._asked_at = now
+            self.session.ask_machine()
+        if now > self._free_at + _HELD_S:
+            self.session.face.once(_HELD[self.session.held_by])
 
     def _show_messages(self, status: Status, is_done: bool) -> None:
         """Shows the messages of the lines that the place has passed. `is_done`: a line of the program was carried out;

@@ -3,6 +3,7 @@
 A child keeps its standard input open. Where that ends, since whoever asked gave up or was killed, it ends itself with
 all that it started."""
 import gc
+import importlib
 import os
 import pickle
 import signal
@@ -18,6 +19,8 @@ from typing import Any, BinaryIO
 from ngc_tools.failure import Failure
 
 _HEAD = struct.Struct("<Q")
+_TOLD, _DONE = "told", "done"
+_says: list[int] = []  # of a child the descriptor by which it answers
 
 
 class NotDone(Failure):
@@ -34,23 +37,37 @@ class Child:
                                          stdout=subprocess.PIPE, stderr=subprocess.DEVNULL, process_group=0,
                                          env=os.environ | {"PYTHONPATH": paths})
         self._work = pickle.dumps((function, given))
+        self.told: Any = None  # what the function told of its progress last
 
     def result(self) -> Any:
         """Waits for what the function returns. Raises NotDone."""
-        said = b""
+        said = None
         with suppress(OSError, ValueError):
             self._process.stdin.write(_HEAD.pack(len(self._work)) + self._work)
             self._process.stdin.flush()
-            said = self._process.stdout.read()
+            said = self._read()
         self.give_up()
         self._process.wait()
         self._process.stdout.close()
-        if not said:
+        if said is None:
             raise NotDone("it was ended before it was done")
-        is_done, result = pickle.loads(said)  # noqa: S301  of a child of this process
+        is_done, result = said
         if not is_done:
             raise NotDone(result)
         return result
+
+    def _read(self) -> tuple[bool, Any] | None:
+        """Takes what is told meanwhile, and the result; None where none comes."""
+        stream = self._process.stdout
+        while len(head := stream.read(_HEAD.size)) == _HEAD.size:
+            (size,) = _HEAD.unpack(head)
+            if len(text := stream.read(size)) < size:
+                return None
+            kind, said = pickle.loads(text)  # noqa: S301  of a child of this process
+            if kind != _TOLD:
+                return said
+            self.told = said
+        return None
 
     def give_up(self) -> None:
         """Ends it."""
@@ -102,6 +119,7 @@ def main() -> None:
     gc.disable()  # it lives for one piece of work
     given, said = sys.stdin.buffer, os.dup(1)
     os.dup2(2, 1)  # what it starts writes nowhere
+    _aside()._says.append(said)
     (size,) = _HEAD.unpack(given.read(_HEAD.size))
     function, arguments = pickle.loads(given.read(size))  # noqa: S301  of its parent
     threading.Thread(target=_watch, args=[given], daemon=True).start()
@@ -109,8 +127,26 @@ def main() -> None:
         result = (True, function(*arguments))
     except Exception as error:  # whoever asked is told
         result = (False, error.said() if isinstance(error, Failure) else f"{type(error).__name__}: {error}")
-    with open(said, "wb") as file:
-        file.write(pickle.dumps(result))
+    _say(said, _DONE, result)
+
+
+def tell(progress: Any) -> None:
+    """A function at work tells how far it is; of one that isn't aside nobody hears it."""
+    if _says:
+        _say(_says[0], _TOLD, progress)
+
+
+def _say(to: int, kind: str, what: Any) -> None:
+    """One answer, whole."""
+    text = pickle.dumps((kind, what))
+    left = memoryview(_HEAD.pack(len(text)) + text)
+    while left:
+        left = left[os.write(to, left):]
+
+
+def _aside() -> Any:
+    """This module by its name, as a function at work imports it: the child runs it as `__main__`."""
+    return importlib.import_module("ngc_tools.page.aside")
 
 
 def _watch(given: BinaryIO) -> None:

@@ -1,15 +1,20 @@
 """What a page may ask for, by name, each with its words looked at. No word of a page reaches `ngc` but in these forms.
 """
+import json
 import re
 from collections.abc import Callable
 from dataclasses import dataclass
 from http import HTTPStatus
 
+from ngc_tools.formats.device import SLOTS
+from ngc_tools.formats.position import nanometres
+from ngc_tools.job.cam_homes import HomeAnswers
 from ngc_tools.operator.motors import PERCENTS, SPINDLE_PERCENTS
 from ngc_tools.page.http import RequestRefused
 from ngc_tools.page.pages import Pages
 from ngc_tools.page.rehearse import rehearse
 from ngc_tools.page.session import PageSession
+from ngc_tools.page.state import LOOKED_AT
 
 _NUMBER = re.compile(r"[-+]?(?:[0-9]{1,7}\.?[0-9]{0,6}|\.[0-9]{1,6})")
 _LONGEST_LINE = 256
@@ -80,6 +85,25 @@ def number_of(value: object) -> str:
     if not isinstance(value, str) or not _NUMBER.fullmatch(value):
         raise BadWords("a number in millimetres, with at most six decimals")
     return value
+
+
+def cam_answers(text: str) -> HomeAnswers:
+    """What a person says of a CAM system's text, in JSON, as `{"lift": "10", "park": ["0", "0"], "tools": {"201": 1}}`.
+    Raises BadWords."""
+    try:
+        said = json.loads(text)
+    except (ValueError, RecursionError):
+        said = None
+    if not isinstance(said, dict) or not isinstance(tools := said.get("tools", {}), dict):
+        raise BadWords("answers: an object")
+    lift, park = said.get("lift"), said.get("park")
+    if park is not None and not (isinstance(park, list) and len(park) == 2):
+        raise BadWords("park: two numbers in millimetres")
+    slots = {int(number): slot for number, slot in tools.items() if re.fullmatch("[1-9][0-9]{0,8}", number)}
+    if len(slots) < len(tools) or not all(type(slot) is int and 1 <= slot <= SLOTS for slot in slots.values()):
+        raise BadWords(f"tools: each has a slot from 1 to {SLOTS}")
+    x_y = None if park is None else (nanometres(number_of(park[0])), nanometres(number_of(park[1])))
+    return HomeAnswers(None if lift is None else nanometres(number_of(lift)), x_y, slots)
 
 
 def keep_checked(checked: dict[str, tuple[str, bytes]], name: str, text: bytes, ident: str) -> None:
@@ -167,10 +191,13 @@ def _by_probe(given: Given) -> str:
 
 
 def _answer(given: Given) -> dict:
-    text = "yes" if given.words.get("yes") is True else "no"
+    """Where somebody has to look at the machine, a yes is one that says that each thing was looked at."""
+    text, question = "yes" if given.words.get("yes") is True else "no", given.count("question", 10**9)
     if "text" in given.words:
         text = given.line("text", _LONGEST_ANSWER)
-    return {"taken": given.session.face.answer(given.count("question", 10**9), text)}
+    if text != "no" and given.session.face.is_look(question) and given.words.get("seen") != LOOKED_AT:
+        raise BadWords(f"seen: {LOOKED_AT}, once each is looked at")
+    return {"taken": given.session.face.answer(question, text)}
 
 
 def _recover(given: Given) -> None:
@@ -188,11 +215,14 @@ DEEDS: dict[str, Callable[[Given], dict | None]] = {
     "recover": _recover,
     "jogstop": lambda given: given.session.jogs.let_go(given.count("press", _MOST_PRESSES)),
     "undo": lambda given: given.session.type("undo"),
+    "stop": lambda given: given.session.stop(given.pages.commands),
+    "off": lambda given: given.session.off(given.pages.commands),
+    "rewind": lambda given: {"taken": given.session.rewind()},
     "run": lambda given: given.session.run("run" + given.anyway()),
     "resume": lambda given: given.session.type("resume" + given.anyway()),
     "drop": lambda given: given.session.type("drop"),
     "restore": lambda given: given.session.type("restore"),
-    "release": lambda given: given.session.type("release"),
+    "release": lambda given: given.session.release(),
     "abandon": lambda given: given.session.tell("abandon"),
     "go": lambda given: given.session.tell("go"),
     "percent": lambda given: given.session.tell(f"percent {given.count('percent', PERCENTS[-1])}"),
@@ -203,5 +233,5 @@ DEEDS: dict[str, Callable[[Given], dict | None]] = {
 }
 """What the page that commands may ask for."""
 WAITING = {"load", "rehearse", "reference", "stands", "tool", "switch", "abandon", "go", "percent", "spindle",
-           "restart"}
+           "restart", "off", "rewind"}
 """Those that wait for what they ask for; the others only give it to the session's thread."""

@@ -6,13 +6,18 @@ from collections.abc import Callable
 from dataclasses import dataclass
 
 from ngc_tools.operator.face import MESSAGE, REFUSED, SAID, WARNING, WHERE, UnderWay
-from ngc_tools.operator.sentences import SWITCHED, SWITCHED_THERE
+from ngc_tools.operator.sentences import GO_ON, LOOK, LOOK_AGAIN, LOOK_SWITCHED, SWITCHED, SWITCHED_THERE
+from ngc_tools.operator.way_back import TYPE_GO
+from ngc_tools.page.words import page_words
 from ngc_tools.player.progress import Report
 
+UNCUT = "uncut"
+"""The kind of a warning of what was never cut: pages show that by themselves, too."""
 ENTRIES = 400
 """So many entries of the log are kept."""
-LOOKS = (SWITCHED.strip(), SWITCHED_THERE.strip())
-"""The questions at which somebody has to look at the machine: its outputs are on, and nothing has moved."""
+LOOKS = tuple(text.strip() for text in (LOOK_SWITCHED, LOOK, LOOK_AGAIN, SWITCHED, SWITCHED_THERE))
+"""The questions at which somebody has to look at the machine: what was on is on, and nothing has moved."""
+_LAST = tuple(text.strip() for text in (SWITCHED, SWITCHED_THERE, GO_ON))
 _LOOK_S = 0.15
 _EVERY_S = 0.1  # what moves is shown about so often
 
@@ -50,13 +55,14 @@ class PageFace:
         self.log: deque[Entry] = deque(maxlen=ENTRIES)
         self.view: UnderWay | None = None
         self.report: Report | None = None
+        self.reported_at = 0.0  # when that came, in seconds since 1970
         self.message = ""  # of the program, since it was started or went on
         self.refusal = ""  # since the last command
         self.question: Question | None = None
         self.holds = 0  # how often somebody wanted to hold
         self.is_left = False  # nobody is there any more
         self.is_stuck = False  # nor does `ngc` answer, since nobody reads OUT
-        self.has_looked = False  # somebody agreed to go on at one of LOOKS, since the command began
+        self.has_looked = False  # somebody agreed to the last question before a cut, since the command began
         self._heeded = 0  # the wishes that the command under way began with
         self._asides: deque[str] = deque()
         self._lock = threading.Condition()
@@ -73,6 +79,8 @@ class PageFace:
             return
         if kind == MESSAGE:
             self.message = text.partition(": ")[2]
+        if kind in (REFUSED, WARNING):
+            text = page_words(text)
         if kind == REFUSED:
             self.refusal = text
         with self._lock:
@@ -93,7 +101,7 @@ class PageFace:
 
     def moved(self, report: Report) -> None:
         """Takes a report of the player."""
-        before, self.report = self.report, report
+        before, self.report, self.reported_at = self.report, report, time.time()
         self._publish_sometimes(before is None or _state(before) != _state(report))
 
     def ask(self, question: str) -> str:
@@ -103,7 +111,7 @@ class PageFace:
     def agrees(self, question: str) -> bool:
         """Whether somebody agrees at a page; a wish to hold is a no."""
         agrees = self._asked(question, "yes") == "yes"
-        self.has_looked = self.has_looked or agrees and question.strip() in LOOKS
+        self.has_looked = self.has_looked or agrees and question.strip() in _LAST
         return agrees
 
     def interrupted(self) -> bool:
@@ -153,6 +161,16 @@ class PageFace:
         """Nobody is there any more: what is under way is held, and questions aren't answered."""
         self.is_left = True
         self.hold()
+
+    def is_look(self, question: int) -> bool:
+        """Whether that is asked, and somebody has to look at the machine for it."""
+        asked = self.question
+        return asked is not None and asked.id == question and asked.text in LOOKS
+
+    def says_go(self) -> bool:
+        """Answers a question for a tool that comes on the way; whether one is asked."""
+        asked = self.question
+        return asked is not None and asked.text.endswith(TYPE_GO.strip()) and self.answer(asked.id, "go")
 
     def answer(self, question: int, text: str) -> bool:
         """Answers a question; False if it isn't asked any more."""

@@ -15,7 +15,7 @@ from ngc_tools.job.moves import Move, of_out
 from ngc_tools.ngc.handed_out import Finder
 from ngc_tools.operator.face import SAID, WARNING
 from ngc_tools.page.aside import Aside, NotDone
-from ngc_tools.page.face import PageFace
+from ngc_tools.page.face import UNCUT, PageFace
 from ngc_tools.page.losses import Loss, Losses
 
 _UNKNOWN = "What was handed out before the half-done segment and never cut can't be told: {why}"
@@ -90,7 +90,7 @@ class NeverCutSearch:
 
     def _tell(self, losses: list[Loss]) -> None:
         for loss in losses:
-            self._face.say(_said(loss), WARNING)
+            self._face.say(_said(loss), UNCUT)
 
     def awaited(self) -> dict | None:
         """What is found, once it is."""
@@ -113,7 +113,7 @@ class NeverCutSearch:
         if asked is self._asked:
             earlier = self._kept(asked, told) if told["lines"] else self._earlier
             self._take(told | {"earlier": _plain(earlier)})
-            self._face.say(told["words"], SAID if told["words"] == _KEPT else WARNING)
+            self._face.say(told["words"], UNCUT if told["lines"] else SAID if told["words"] == _KEPT else WARNING)
             self._tell(earlier)
 
     def _kept(self, asked: LossRequest, told: dict) -> list[Loss]:

@@ -2,7 +2,7 @@
 import asyncio
 
 from ngc_tools.operator.face import WARNING
-from ngc_tools.page.session import PageSession
+from ngc_tools.page.session import LOST, PageSession
 
 MOST = 4
 """Pages at once. A browser has six connections to a server, and each page keeps one of them for its stream: with more
@@ -43,8 +43,7 @@ class Pages:
         self._streams[page] -= 1
         if not self._streams[page]:
             del self._streams[page]
-            if page == self.commands:
-                asyncio.get_running_loop().call_later(LOST_S, self._lost, page)
+            asyncio.get_running_loop().call_later(LOST_S, self._lost, page)
         self.session.face.publish()
 
     def take_over(self, page: str) -> None:
@@ -60,7 +59,10 @@ class Pages:
 
     def _lost(self, page: str) -> None:
         """Looks whether it came back."""
-        if page not in self._streams and page == self.commands:
+        if page in self._streams:
+            return
+        self.session.end_check(page)
+        if page == self.commands:
             self._lose()
 
     def _lose(self) -> None:
@@ -68,4 +70,4 @@ class Pages:
         """
         if self.commands and self.on_loss == "hold" and self.session.is_busy:
             self.session.face.say("the page that commands is lost: hold", WARNING)
-            self.session.hold()
+            self.session.hold(LOST)

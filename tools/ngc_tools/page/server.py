@@ -22,10 +22,10 @@ from typing import Any
 from ngc_tools.failure import Failure
 from ngc_tools.files import cause
 from ngc_tools.formats.device import MOST_LARGE_PROGRAM
-from ngc_tools.page.deeds import DEEDS, WAITING, BadWords, Given, keep_checked
+from ngc_tools.page.deeds import DEEDS, WAITING, BadWords, Given, cam_answers, keep_checked
 from ngc_tools.page.http import MOST_HEAD, RequestRefused, Request, head_of, read_body, read_request
 from ngc_tools.page.pages import Pages
-from ngc_tools.page.session import Busy, PageSession
+from ngc_tools.page.session import Busy, PageSession, Unwanted
 from ngc_tools.page.state import state_of
 
 STATIC = Path(__file__).resolve().parent / "static"
@@ -182,8 +182,8 @@ class Server:
     def state(self, page: str, told: int) -> tuple[bytes, int]:
         """What a page shows, with the entries of the log behind the one that it was told last, and the last one now."""
         log = [asdict(entry) for entry in list(self.session.face.log) if entry.id > told]
-        said = state_of(self.session) | {"log": log, "yours": self.pages.commands == page, "pages": len(self.pages),
-                                         "on_loss": self.pages.on_loss, "now": time.time()}
+        pages = {"yours": self.pages.commands == page, "pages": len(self.pages), "on_loss": self.pages.on_loss}
+        said = state_of(self.session, page) | pages | {"log": log, "now": time.time()}
         return _json(said), log[-1]["id"] if log else told
 
     async def changed(self, seen: int) -> int:
@@ -198,10 +198,15 @@ class Server:
         """Does what a page asks for. Whoever sees that something is wrong may hold, a page that watches too. Raises
         Refused, Busy, BadWords, Failure, OSError."""
         if name == "hold":
-            self.session.hold()
+            self.session.hold(page)
             return {}
         if name == "takeover":
             self.pages.take_over(page)
+            return {}
+        if name == "checking":
+            return {"told": self.session.checking(page)}
+        if name == "uncheck":
+            self.session.end_check(page)
             return {}
         if page != self.pages.commands:
             raise RequestRefused(HTTPStatus.FORBIDDEN, "another page commands: take over first")
@@ -211,15 +216,26 @@ class Server:
         done = await asyncio.to_thread(DEEDS[name], given) if name in WAITING else DEEDS[name](given)
         return done or {}
 
-    async def draw(self, text: bytes) -> bytes:
-        """A program that isn't loaded, as it would be drawn. Raises Failure, OSError."""
+    async def draw(self, request: Request, text: bytes) -> bytes:
+        """A program that isn't loaded, as it would be drawn; one that was looked at by its `id`. Raises
+        RequestRefused, Failure, OSError."""
+        if ident := request.headers.get("x-checked"):
+            if ident not in self._checked:
+                raise RequestRefused(HTTPStatus.GONE, "check it again")
+            text = self._checked[ident][1]
         return await asyncio.to_thread(self.session.preview, text)
 
-    async def check(self, name: str, text: bytes) -> bytes:
-        """What is wrong with a program; it is loaded by the `id` that is answered. Raises Failure, OSError."""
-        found = await asyncio.to_thread(self.session.check, text)
+    async def check(self, page: str, request: Request, text: bytes) -> bytes:
+        """What is wrong with a program; it is loaded by the `id` that is answered, as it is written for `ngc`. One that
+        is ended by the page says so. Raises BadWords, Failure, OSError."""
+        answers = cam_answers(request.headers.get("x-answers", "{}"))
+        name = _name(request.headers.get("x-name", ""))
+        try:
+            found, meant = await asyncio.to_thread(self.session.check, page, text, answers)
+        except Unwanted:
+            return _json({"ended": True})
         ident = f"{time.monotonic_ns():x}"
-        keep_checked(self._checked, name, text, ident)
+        keep_checked(self._checked, name if meant == text else f"{name}, adapted", meant, ident)
         return _json(found | {"id": ident, "name": name, "bytes": len(text), "count": len(text.splitlines())})
 
     @property
@@ -284,8 +300,8 @@ class _Connection:
             raise RequestRefused(HTTPStatus.BAD_REQUEST, "no page")
         if path in _UPLOADS:
             async with self.server.uploads:
-                name = _name(request.headers.get("x-name", ""))
-                return await (self.server.check(name, body) if path == "check" else self.server.draw(body))
+                return await (self.server.check(page, request, body) if path == "check"
+                              else self.server.draw(request, body))
         if request.headers.get("content-type", "").partition(";")[0].strip() != _JSON:
             raise RequestRefused(HTTPStatus.UNSUPPORTED_MEDIA_TYPE)
         try:

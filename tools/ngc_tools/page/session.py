@@ -15,13 +15,15 @@ from typing import Any
 from ngc_tools.failure import Failure
 from ngc_tools.formats.device import Device
 from ngc_tools.formats.position import nanometres
-from ngc_tools.formats.settings import Settings
+from ngc_tools.formats.settings import Settings, read_table
+from ngc_tools.job.cam_homes import HomeAnswers
 from ngc_tools.ngc.console import Ended, Status
 from ngc_tools.operator.face import REFUSED, WARNING
 from ngc_tools.operator.motors import SPINDLE_PERCENTS, WHOLE
 from ngc_tools.operator.operator import Operator
 from ngc_tools.operator.sentences import explained
-from ngc_tools.page.aside import Aside
+from ngc_tools.operator.session import ALARM
+from ngc_tools.page.aside import Aside, Child, NotDone
 from ngc_tools.page.drawer import Drawer
 from ngc_tools.page.drawing import DrawingRequest, as_begun
 from ngc_tools.page.face import PageFace
@@ -36,13 +38,19 @@ from ngc_tools.player.progress import Link, NoAnswer
 WITHOUT_LINES = {"home", "jog", "seek"}
 MOVES = {"run", "mdi", "resume", "recover", "restore", "release", *WITHOUT_LINES}
 """The commands that move the machine, and those of them that the player makes without lines of OUT."""
+LOST = "lost"
+"""Stands for the page that held, where that was nobody: the one that commands was lost."""
 _LEAVE_S = 10.0
 _LOOK_S = 0.15  # how often it looks while nothing runs
-_ASIDES = {"percent", "spindle", "go", "optional", "delete", "single"}
+_ASIDES = {"percent", "spindle", "go", "optional", "delete", "single", "off"}
 
 
 class Busy(Failure):
     """Something runs, or the session is over: what was asked isn't done."""
+
+
+class Unwanted(Failure):
+    """A check that was ended, since nobody wants it any more."""
 
 
 @dataclass(frozen=True, slots=True)
@@ -99,14 +107,19 @@ class PageSession:
         `opens` raises."""
         self._opens, self.face, self.machine = opens, face, machine
         self.aside, self.jogs = Aside(), HeldJog()
+        self._checks: dict[str, Child] = {}  # by the page that asked
         self.over = threading.Event()
         self.name, self.program_id, self.ended = "", 1, "it isn't begun yet"
         self.drawer = Drawer(self.aside, face.publish)
         self.never_cut = NeverCutSearch(self.aside, face)
-        self.past, self.past_at = "", ""  # how far the motors may be past the player's record, which has them there
+        # how far the motors may be past the player's record, which has them there, in words and in mm
+        self.past, self.past_mm, self.past_at = "", "", ""
         self.started = 0.0  # when the program was started in this session, in seconds since 1970
         self.is_finished = False  # it ran to its end, and nothing was begun since
+        self._word = ""  # of the player's report at rest
+        self.held_from = ""  # the page that held last, or LOST, since something was begun
         self._next: SessionCommand | None = None
+        self._stops = False  # `stop` is done next
         self.under: SessionCommand | None = None
         self._wake = threading.Condition()
         self._restarts = threading.Lock()
@@ -132,8 +145,10 @@ class PageSession:
         console = operator.console
         self.settings = Settings.read(console.settings)
         self.most_percents = _most_percents(self.machine, self.settings)
+        self.homes = _homes(self.machine)
         self.face.begin(self.face.holds)
         self.face.asides()  # none of the last session counts
+        operator.following.opened = self._follow
         operator.begin(self.opened.bound, self.opened.found)
         self.operator, self.ident = operator, secrets.token_hex(8)  # a page that saw another one begins anew
         self.stand, self.kept = Stand(console.status()), Kept(console.device)
@@ -141,20 +156,32 @@ class PageSession:
         self.drawer.begin(self._source_of(begun or self.kept.device))
         self.face.look = self._look
         self._look()
-        self.past, self.past_at = self._found_past(), self.stand.report.at if self.stand.report else ""
+        self._see_past()
         self._find_never_cut()
 
-    def _found_past(self) -> str:
-        """How old the player's record was, and how far the motors may be past it, in words; nothing where nothing was
-        left by the last session, or that isn't known."""
-        recovery = self.stand.recovery
-        is_left = self.stand.status.half != "none" or recovery is not None and recovery["left"]
-        if not is_left or self.operator.session.report() is None:
-            return ""
+    def _follow(self, found: Device | None) -> None:
+        """Sees how all stands as another session of `ngc` begins, with the player that goes on."""
+        self.opened = replace(self.opened, found=found, left_at=time.time())
+        self.is_finished, self.face.message = False, ""
+        self.kept.read()
+        self._look()
+        self._see_past()
+        self._find_never_cut()
+
+    def _see_past(self) -> None:
+        self.past, self.past_mm = self._found_past()
+        self.past_at = self.stand.report.at if self.stand.report else ""
+
+    def _found_past(self) -> tuple[str, str]:
+        """How old the player's record was, and how far the motors may be past it, in words, and in mm; nothing where
+        that isn't known."""
+        if self.operator.session.report() is None:
+            return "", ""
         try:
-            return self.operator.recover.past().words()
+            past = self.operator.recover.past()
         except (NoAnswer, OSError):
-            return ""
+            return "", ""
+        return past.words(), past.at_most_mm
 
     def _find_never_cut(self) -> None:
         """Finds what the last session left uncut. Of a file that is followed no line is lost."""
@@ -170,7 +197,7 @@ class PageSession:
     @property
     def is_busy(self) -> bool:
         """Whether a command is under way."""
-        return self.under is not None or self._next is not None
+        return self.under is not None or self._next is not None or self._stops
 
     def give(self, word: str, does: Callable[[], Any]) -> SessionCommand:
         """Gives the session's thread something to do. Raises Busy."""
@@ -180,6 +207,8 @@ class PageSession:
             if self.is_busy:
                 raise Busy("something runs: hold first")
             command = self._next = self._command(word, does)
+            if word in MOVES | {"load"}:
+                self.is_finished = False  # at once: no page is told that what runs is finished
             self._wake.notify_all()
         return command
 
@@ -197,6 +226,8 @@ class PageSession:
     def tell(self, line: str) -> None:
         """Does a short command, and waits for it; one that may come while something runs is given then. Raises Busy."""
         word, command = line.split()[0], None
+        if word == "go" and self.face.says_go():
+            return
         with self._wake:
             if word in _ASIDES and self.is_busy:
                 self.face.give_aside(line)
@@ -207,15 +238,46 @@ class PageSession:
         if word == "delete":
             self.drawer.leave_out(line.endswith(" on"))
 
-    def hold(self) -> None:
+    def hold(self, page: str = LOST) -> None:
         """Holds at once, whatever is under way: the motors, and then `ngc`. It waits for nothing."""
+        self._hold_motors(page)
+        with suppress(Busy):
+            self.give("hold", lambda: self.operator.do("hold"))
+
+    def stop(self, page: str) -> None:
+        """Ends the job: holds at once, and once what is under way has ended does `stop`. It waits for nothing. Raises
+        Busy."""
+        if self.ended or self.over.is_set():
+            raise Busy(self.ended or "the session is over")
+        self._hold_motors(page)
+        with self._wake:
+            self._stops = True
+            self._wake.notify_all()
+
+    def off(self, page: str) -> None:
+        """Switches spindle and coolant off, where the motors stand; at a question that is a no to it. Raises Busy."""
+        if self.face.question is not None:
+            self._hold_motors(page)
+        self.tell("off")
+
+    def _hold_motors(self, page: str) -> None:
         self.jogs.end()
+        self.held_from = page
         self.face.hold()
         if self.opened.motors and self.stand.has_ramps:
             with suppress(NoAnswer):  # the session's thread says it
                 self.opened.motors.stop() if self._moves_without_lines() else self.opened.motors.hold()
-        with suppress(Busy):
-            self.give("hold", lambda: self.operator.do("hold"))
+
+    def release(self) -> None:
+        """Lets held motors go on; within a command at once, as one holds them."""
+        report = self.face.report
+        if self.is_busy and report and report.again:
+            self.face.give_aside("release")  # it asks
+        elif self.is_busy and self.opened.motors:
+            with suppress(NoAnswer):  # the session's thread says it
+                self.opened.motors.release()
+        else:
+            self.give("release", lambda: self.operator.do("release"))
 
     def _moves_without_lines(self) -> bool:
         command = self.under
@@ -257,18 +319,46 @@ class PageSession:
             """Whether it is stored; then it is drawn."""
             if not self.operator.load(name, text):
                 return False
-            self.name, self.program_id, self.started = name, self.program_id + 1, 0.0
             self.never_cut.forget()
             self.face.message = ""
+            self.name, self.program_id, self.started = name, self.program_id + 1, 0.0
             self._draw()
             return True
         return bool(self.ask("load", does, 600))
 
-    def check(self, text: bytes) -> dict:
-        """What `ngc-check` finds of a text, which begins as the device stands. Raises NotDone, OSError."""
-        console = self.operator.console
-        check = Check(console.ngc, console.settings, self.kept.device.image, self.operator.session.delete)
-        return self.aside.call(find, check, text)
+    def rewind(self) -> bool:
+        """Has the stored program begin with its first line again; whether it does. Raises Busy."""
+        return self.load(self.name, self.operator.session.program.text)
+
+    def check(self, page: str, text: bytes, answers: HomeAnswers) -> tuple[dict, bytes]:
+        """What `ngc-check` and `ngc-adapt` find of a text, which begins as the device stands, and the text that is
+        meant. A page has one check under way. Raises Unwanted where that is ended, NotDone, OSError."""
+        console, session = self.operator.console, self.operator.session
+        check = Check(console.ngc, console.settings, self.kept.device.image, session.delete, session.meter is not None,
+                      answers)
+        child = self.aside.begin(find, check, text)
+        before, self._checks[page] = self._checks.get(page), child
+        if before:
+            before.give_up()
+        try:
+            return self.aside.finish(child)
+        except NotDone:
+            if self._checks.get(page) is not child:
+                raise Unwanted("nobody wants it any more") from None
+            raise
+        finally:
+            if self._checks.get(page) is child:
+                del self._checks[page]
+
+    def checking(self, page: str) -> dict | None:
+        """How far the check of a page is; None where none is under way, or it hasn't begun."""
+        child = self._checks.get(page)
+        return child.told if child else None
+
+    def end_check(self, page: str) -> None:
+        """Nobody wants the check of a page any more."""
+        if child := self._checks.pop(page, None):
+            child.give_up()
 
     def preview(self, text: bytes) -> bytes:
         """A program that isn't loaded as it would be drawn, in JSON. Raises NotDone, OSError."""
@@ -277,6 +367,9 @@ class PageSession:
     def restart(self) -> None:
         """Begins a session of `ngc run` anew, after it has ended, its device failed, or its player is gone or carries
         nothing out any more. Raises Busy, and what `Opens` raises."""
+        if not self.ended and self.stand.drops_lines:
+            self.ask("restart", self.operator.following.begin)
+            return
         if not self.ended and self.stand.is_broken:
             self.ask("restart", self._give_up)
         if not self.ended or self.over.is_set():
@@ -336,12 +429,17 @@ class PageSession:
 
     def _late(self) -> SessionCommand | None:
         """What was given while a command ran, and came too late for it: it is done before the next one."""
+        if self._stops:
+            self._stops = False
+            return self._command("stop", lambda: self.operator.do("stop"))
         lines = self.face.asides()
         return self._command(lines[0].split()[0], lambda: list(map(self.operator.do, lines))) if lines else None
 
     def _do(self, command: SessionCommand) -> None:
         """Does a command, and sees how it ended."""
         self.face.begin(command.holds)
+        if command.word in MOVES | {"load"}:
+            self.held_from = "" if self.face.holds == command.holds else self.held_from
         self.face.publish()
         before = self.stand.status
         try:
@@ -409,9 +507,16 @@ class PageSession:
         try:
             status, report = operator.look()
             machine = operator.session.meter.link.machine() if self.opened.has_moves else None
+            if machine and report and bool(machine.alarm) != (report.word == ALARM):
+                status, report = operator.look()  # an alarm came or went between the two answers
+            if report:
+                if report.word == ALARM != self._word:
+                    self.face.refusal = ""  # it was before that
+                self._word = report.word
+                operator.session.take(report)
         except NoAnswer as error:
-            status, report, gone = operator.console.status(), before.report, str(error)
-        self.face.report = report
+            status, report, gone = operator.console.status(), self.face.report, str(error)
+        operator.session.see_machine(machine)
         self.kept.at(status)
         self.stand = Stand(status, report, gone, recovery_of(operator.recover.found), *self._typed(), machine)
         if status.half == "none" and not status.place and not self.drawer.is_as_drawn(self.kept.device):
@@ -436,6 +541,15 @@ class PageSession:
         """What is drawn where a program is to begin, or began, as a device stands."""
         console, delete = self.operator.console, self.operator.session.delete
         return DrawingRequest(console.ngc, console.settings, self.machine, device.image, not device.state.place, delete)
+
+
+def _homes(path: str) -> str | None:
+    """The axes that a machine's file says how to home, as `XYZ`; None where no file is named, or it is wrong."""
+    try:
+        order = read_table(path).get("home", {}).get("order", []) if path else None
+        return None if order is None else "".join(axis for axis, at in zip("XYZ", order) if at)
+    except (Failure, OSError, AttributeError, TypeError):
+        return None
 
 
 def _most_percents(path: str, settings: Settings) -> tuple[int, int]:

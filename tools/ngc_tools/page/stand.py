@@ -38,11 +38,15 @@ class Stand:
         return self.report is not None and self.report.wants > 0
 
     @property
+    def drops_lines(self) -> bool:
+        """Whether the player, which is there, carries no more line of this session out."""
+        return not self.gone and self.report is not None and self.report.word == BROKEN
+
+    @property
     def is_broken(self) -> bool:
         """Whether this session comes to nothing any more: the device failed, or the player is gone, or carries nothing
         out any more."""
-        is_over = self.report is not None and self.report.word == BROKEN
-        return bool(self.gone) or is_over or self.status.does == "broken"
+        return bool(self.gone) or self.drops_lines or self.status.does == "broken"
 
 
 class Kept:

@@ -1,32 +1,33 @@
 """What pages show and what changes, as JSON has it."""
+from collections.abc import Iterator
+
 from ngc_tools.formats.device import Device, State
 from ngc_tools.formats.lines import Program
-from ngc_tools.formats.position import millimetres, nanometres
+from ngc_tools.formats.position import Position, millimetres, nanometres
 from ngc_tools.formats.text import shown_line
 from ngc_tools.job.in_force import in_force_on
 from ngc_tools.ngc.console import Status
 from ngc_tools.operator.alarm import left_of
-from ngc_tools.operator.display import outputs_on
+from ngc_tools.operator.display import on_words, outputs_on
 from ngc_tools.operator.motors import way_nm
-from ngc_tools.operator.session import ALARM, BROKEN
+from ngc_tools.operator.session import ALARM, WAITS_SPINDLE
+from ngc_tools.page.band import Standing
 from ngc_tools.page.face import LOOKS
-from ngc_tools.page.session import MOVES, PageSession
-from ngc_tools.player.progress import Report
+from ngc_tools.page.session import MOVES, WITHOUT_LINES, PageSession
+from ngc_tools.player.progress import MoveReport, Report
 
-_TROUBLES = {
-    ALARM: ("ALARM", "fail", "The motors stood at once, and where the machine is isn't known. Home comes first"),
-    BROKEN: ("Broken off", "fail", "No more line of this session is carried out. Start the player again, and begin"
-             " anew"),
-}
-_LEFT = "Not homed: {axes}. Home each, or measure and tell where it stands"
+LOOKED_AT = 3
+"""So many things are looked at before anything moves."""
 _IN_MODES = ("unit", "distance", "plane", "system", "feed_mode", "motion")
+HERE = "here"
+"""What holds the motors, where that was one of the pages."""
 
 
 class Pictured:
-    """How a session stands at one moment."""
+    """How a session stands at one moment, as a page sees it."""
 
-    def __init__(self, session: PageSession) -> None:
-        self.session, self.face = session, session.face
+    def __init__(self, session: PageSession, page: str) -> None:
+        self.session, self.face, self.page = session, session.face, page
         self.operator, self.stand = session.operator, session.stand
         self.command, view = session.under, session.face.view
         self.status: Status = view.status if view and self.command else self.stand.status
@@ -56,26 +57,57 @@ class Pictured:
                    default=None)
 
     @property
-    def _state(self) -> State:
-        """What is in force where the motors are: while they wait for a tool not what comes after the change."""
-        line, state = self._change, self.device.state
-        if line is None:
+    def _state(self) -> State | None:
+        """What is in force where the motors are: before a tool is in not what comes after its change. None where
+        nothing tells it."""
+        line, report, state = self._change, self.report, self.device.state
+        if line is not None:
+            return next((one for one in self._states() if self.program.number(one.place) <= line), state)
+        is_ahead = report is not None and (report.behind > 0 or self.status.half != "none" or self._has_left)
+        if not is_ahead or report.outputs.slot == state.slot:
             return state
-        states = [self.device.snapshot, *(record.state for record in self.device.records)]
-        return next((one for one in reversed(states) if self.program.number(one.place) <= line), state)
+        return next((one for one in self._states() if one.slot == report.outputs.slot), None)
+
+    @property
+    def _has_left(self) -> bool:
+        """Whether lines stand in OUT that no motor carried out, since the last session."""
+        return self.stand.recovery is not None and self.stand.recovery["left"]
+
+    def _states(self) -> Iterator[State]:
+        """What the device stood for, the latest first; also before `ngc` was started, which writes its log anew."""
+        for device in (self.device, self.session.opened.found):
+            if device is not None and device.program == self.device.program:
+                yield from (record.state for record in reversed(device.records))
+                yield device.snapshot
 
     def _machine(self) -> dict:
         status, face = self.status, self.face
         state, session = self.device.state, self.operator.session
         question = face.question and {"id": face.question.id, "text": face.question.text, "kind": face.question.kind,
-                                      "purpose": "look" if face.question.text in LOOKS else ""}
+                                      "purpose": "look" if self._is_look else "",
+                                      "looks": self._looks() if self._is_look else []}
         return {"does": status.does, "half": status.half, "segment": status.segment, "known": status.known,
                 "entries": status.entries, "line": self.number, "place": status.place, "at": status.at,
+                "began_at": list(map(millimetres, state.point_nm)) if state.half else status.at,
                 "own": session.own, "optional": session.optional, "delete": session.delete, "single": session.single,
                 "question": question, "message": face.message, "half_opened": state.opened,
                 "half_text": shown_line(state.half_text) if state.half else "",
-                "busy": self.session.is_busy, "moving": self._moves(),
+                "busy": self.session.is_busy, "moving": self._moves(), "does_move": self._does,
+                "apart": self._apart, "held_by": self._held_by, "door_open": self.operator.session.is_door_open,
                 "command": self.command and {"word": self.command.word, "since": self.command.since}}
+
+    @property
+    def _is_look(self) -> bool:
+        """Whether somebody is asked to look at the machine."""
+        return self.face.question is not None and self.face.question.text in LOOKS
+
+    def _looks(self) -> tuple[str, str, str]:
+        """What has to be looked at, by what the player has on, or what was handed out where there is none."""
+        out = self.report.outputs if self.report else outputs_on(self.device.state)
+        on = on_words(out)
+        tool = f"Tool {out.slot} is in the spindle, and it is sound" if out.slot else "The right tool is in, and sound"
+        return (f"On, as it should be: {on}" if on else "Spindle and coolant are off, as they should be", tool,
+                "The way is free, and my hand is at Hold")
 
     def _motors(self) -> dict:
         """Where the motors are, with the outputs as they have them: `ngc` may be ahead of them."""
@@ -84,8 +116,10 @@ class Pictured:
         said = {"player": meter is not None, "player_gone": self.stand.gone, "motors": report and report.at.split(),
                 "speed": out.speed / 10**6, "spindle": out.spindle, "mist": out.mist, "flood": out.flood,
                 "slot": out.slot, "selected": out.selected, "most_percents": self.session.most_percents,
+                "homes": self.session.homes,
+                "again": on_words(report.again) if report and report.again else "", "can": self._can(),
                 "recover": self.stand.recovery,
-                "past": self.session.past if report and report.at == self.session.past_at else ""}
+                **self._past()}
         if not report or not meter:
             return said | {"behind": None, "waits": False, "ahead": None, "percent": 100, "has_percent": False,
                            "spindle_percent": None, "held_motors": False, "behind_mm": None, "keeps": False}
@@ -95,30 +129,100 @@ class Pictured:
                        "held_motors": report.is_held, "keeps": self.operator.recover.found is not None,
                        "behind_mm": way_nm(report, self.session.settings) / 10**6}
 
+    def _can(self) -> dict:
+        """Which of some buttons do something now."""
+        status, report, session = self.status, self.report, self.session
+        is_there = not session.ended and not self.stand.gone and status.does != "broken"
+        is_there = is_there and not (report and report.word == ALARM)
+        is_on = report is not None and bool(on_words(report.outputs))
+        stands = report is not None and (report.is_held or report.waits or not report.behind
+                                         or report.word == WAITS_SPINDLE)
+        runs = status.does in ("running", "held", "stopped") or self.command is not None and self.command.word in MOVES
+        is_free = status.half == "none" and status.does in ("idle", "stopped") and not session.is_busy
+        return {"stop": is_there and (runs or is_on or report is not None and report.behind > 0),
+                "off": is_there and is_on and stands,
+                "rewind": is_there and is_free and status.place > 0 and bool(self.program.text)}
+
+    @property
+    def _machine_said(self) -> MoveReport | None:
+        """What the player said last of moves without lines; None where it makes none, or is gone."""
+        return self.operator.session.machine if self.stand.machine else None
+
+    def _past(self) -> dict:
+        """How far the motors may be past the player's record, as long as they are where it had them."""
+        is_there = self.report is not None and self.report.at == self.session.past_at
+        return {"past": self.session.past if is_there else "", "past_mm": self.session.past_mm if is_there else ""}
+
     def _moves_too(self) -> dict:
-        """What the player says of moves without lines."""
-        machine = self.stand.machine
+        """What it says of them."""
+        machine = self._machine_said
         if machine is None:
-            return {"machine": None, "homed": "", "alarm": "", "left": "", "inputs": [], "touched": None}
-        touched = machine.touched.split() if machine.touched else None
+            return {"machine": None, "homed": "", "alarm": "", "came_by": "", "left": "", "inputs": [],
+                    "touched": None}
         return {"machine": machine.does, "homed": machine.homed, "alarm": machine.alarm, "left": self._left,
-                "inputs": machine.on, "touched": touched}
+                "came_by": self.operator.alarm.came_by or machine.alarm.replace("_", " "),
+                "inputs": machine.on, "touched": self._touched()}
+
+    def _touched(self) -> list[str] | None:
+        """Where the probe was touched, as long as that can be used: nothing moved since, and the tool is the same."""
+        touched, report = self.operator.moves.touched, self.report
+        is_good = touched and report and touched.is_last(report) and touched.slot == self.device.slot
+        return list(map(millimetres, touched.point_nm)) if is_good else None
+
+    @property
+    def _does(self) -> str:
+        """What moves without lines, as `home X`; nothing for lines."""
+        machine = self._machine_said
+        if self.command is None or self.command.word not in WITHOUT_LINES:
+            return ""
+        return machine.does if machine else self.command.word
+
+    @property
+    def _held_by(self) -> str:
+        """What holds the motors: HERE, the door, the spindle or somebody else; nothing where they aren't held."""
+        session = self.operator.session
+        is_here = self.operator.motors.is_told or self.status.does == "held" and self.face.interrupted()
+        return HERE if session.held_by and is_here else session.held_by
+
+    @property
+    def _apart(self) -> list[bool]:
+        """Of each axis whether the motors rest at another place than where `ngc` takes them to be, by a step or more.
+        """
+        report, status = self.report, self.status
+        if report is None or report.behind or not status.known or self.command or self.stand.gone:
+            return [False] * 3
+        steps = [Position(self.session.settings.step_nm, list(map(nanometres, at))).steps
+                 for at in (report.at.split(), status.at)]
+        return [one != other for one, other in zip(*steps, strict=True)]
 
     @property
     def _left(self) -> str:
         """The axes of which somebody has to tell where they stand, or to home them, before an alarm is over, as `XY`;
         nothing as long as none is homed."""
-        machine = self.stand.machine
+        machine = self._machine_said
         return left_of(machine) if machine and machine.alarm and machine.homed else ""
 
     def _in_force(self) -> dict:
-        state = self._state
+        found = self._state
+        state = found or self.device.state
         in_force = in_force_on(state)
         x, y, z = map(nanometres, self.report.at.split() if self.report else self.status.at)
-        return {"work": list(map(millimetres, in_force.to_program((x, y, z)))), "feed": state.feed_nm_per_min / 10**6,
+        is_known = found is not None and (self.report is not None or self.status.known or self.command is not None)
+        work = list(map(millimetres, in_force.to_program((x, y, z)))) if is_known else None
+        return {"work": work, "stale": self._stale(), "feed": state.feed_nm_per_min / 10**6,
                 "tool_length": millimetres(state.tool_length_nm), "origin": list(map(millimetres, in_force.origin)),
                 "tools": list(map(millimetres, self.device.tools_nm)),
                 **{name: getattr(state, name) for name in _IN_MODES}}
+
+    def _stale(self) -> dict | None:
+        """Why the place isn't known any more that is shown, and when it was, in seconds since 1970, if that is known;
+        None where it is the machine's."""
+        if self.stand.gone or self.session.ended:
+            return {"why": "player", "at": self.face.reported_at}
+        if self.report and self.report.word == ALARM:
+            return {"why": "alarm", "at": 0}
+        is_lost = self.command is None and self.status.does == "idle" and (not self.status.known or self._has_left)
+        return {"why": "power", "at": self.session.opened.left_at} if is_lost else None
 
     def _session(self) -> dict:
         session, setter_nm = self.session, self.operator.touch.setter_nm
@@ -126,8 +230,10 @@ class Pictured:
                 "program": {"id": session.program_id, "name": session.name, "lines": self.program.count},
                 "job": session.drawer.count + session.never_cut.count,
                 "finished": session.is_finished, "started": session.started,
+                "given_back": self.operator.choices.given, "not_given_back": self.operator.choices.lost,
                 "left_at": session.opened.left_at, "broken": self.stand.is_broken, "undo": self.operator.touch.undoes,
                 "setter": None if setter_nm is None else millimetres(setter_nm),
+                "has_probe": self.operator.touch.has_probe,
                 "typed": self.stand.typed, "restore": self.stand.restore}
 
     def _moves(self) -> bool:
@@ -139,82 +245,16 @@ class Pictured:
     # in words
 
     def _words(self) -> dict:
-        word, tone, detail = self._word()
+        standing = Standing(self.session, self.status, self.report, self._here, self._left, self._does, self._held_by,
+                            any(self._apart), self.page)
+        word, tone, detail = standing.band()
         return {"word": word, "tone": tone, "detail": detail}
-
-    def _word(self) -> tuple[str, str, str]:
-        """What the machine does, in a word, its tone, and more of it."""
-        session, report = self.session, self.report
-        if session.ended:
-            return "Ended", "fail", session.ended
-        if self.status.does == "broken":
-            return "Device failed", "fail", "Remove the cause, then start again. What is stored stays"
-        if self.stand.gone:
-            return "Player gone", "fail", "Nothing more is handed out. Start the player again"
-        if report and report.word in _TROUBLES:
-            return self._trouble(report.word)
-        if report and report.waits:
-            detail = f"Put in tool {report.tool}" if report.tool else "Take the tool out"
-            return "Tool change", "ask", detail
-        if self.face.question and self.face.question.text in LOOKS:
-            return "Switched on", "ask", "Nothing has moved. Look at spindle, tool and way"
-        if self.face.question:
-            return "Question", "ask", self.face.question.text
-        if self._is_running():
-            return "Running", "run", self.operator.session.own or self._here
-        return self._at_rest()
-
-    def _trouble(self, stands: str) -> tuple[str, str, str]:
-        """The same of an alarm, or behind one."""
-        word, tone, detail = _TROUBLES[stands]
-        if self.face.refusal.startswith("home: "):
-            detail = _short(self.face.refusal)
-        elif self._left:
-            detail = _LEFT.format(axes=", ".join(self._left))
-        return word, tone, detail
-
-    def _is_running(self) -> bool:
-        if self.status.does == "held" and self.face.interrupted():
-            return False
-        return self.command is not None and (self.command.word in MOVES or self.status.does == "running")
 
     @property
     def _here(self) -> str:
         return f"line {self.number} of {self.program.count}" if self.program.text else ""
 
-    def _at_rest(self) -> tuple[str, str, str]:
-        """The same while nothing runs."""
-        status, here = self.status, self._here
-        if status.does == "held" or self.report and self.report.is_held and self.report.behind:
-            return "Held", "hold", f"Before the rest of {here}" if here else "Continue goes on"
-        if status.half != "none":
-            within = here if status.half == "program" else "a line of yours"
-            return "Half-done", "ask", f"Power was lost, or the session ended, within {within}"
-        if self.stand.recovery and self.stand.recovery["left"]:
-            return "Lines left", "ask", "Lines stand in OUT that no motor carried out"
-        if not status.known:
-            return "Place unknown", "ask", "Tell where the machine stands"
-        if self.face.refusal:
-            return "Refused", "fail", _short(self.face.refusal)
-        if status.does == "stopped":
-            return "Stopped", "ask", self.face.message or f"Continue goes on with {here}"
-        return "Idle", "idle", self._idle()
 
-    def _idle(self) -> str:
-        if not self.program.text:
-            return "No program is loaded"
-        if self.session.is_finished:
-            return "The program ran to its end"
-        return f"Next is {self._here}" if self.status.place else "Ready"
-
-
-def _short(refusal: str) -> str:
-    """A refusal in one sentence; the log has all of it."""
-    where, _, what = refusal.rpartition("refused ") if refusal.startswith("line ") else ("", "", refusal)
-    what = what.removeprefix("refused ").partition("\n")[0].partition(". ")[0]
-    return f"{where.strip()}: {what}" if where else what
-
-
-def state_of(session: PageSession) -> dict:
+def state_of(session: PageSession, page: str = "") -> dict:
     """All that a page shows and that changes."""
-    return Pictured(session).plain()
+    return Pictured(session, page).plain()

@@ -34,6 +34,15 @@ class Asked(Protocol):
     def last(self) -> None:
         """What stands in OUT now is all that comes for now."""
 
+    def off(self) -> None:
+        """Spindle and coolant go off, if the motors stand."""
+
+    def anew(self) -> None:
+        """The session is over, and another one follows."""
+
+    def over(self) -> None:
+        """The session is over, and none follows."""
+
     def synced(self, size: int) -> None:
         """So many bytes of OUT are on the disk."""
 
@@ -41,7 +50,7 @@ class Asked(Protocol):
         """The lines and bytes of the record that is on the disk, and the age in it."""
 
     def go_where(self, text: bytes) -> None:
-        """Goes along OUT or by legs, as the text says."""
+        """Goes along OUT or by legs, or switches outputs, as the text says."""
 
 
 class Answers:
@@ -107,12 +116,15 @@ class Answers:
             self._player.synced(int(match[1]))
         elif KEPT.fullmatch(text):
             self._listener.answer(text + b" lines %d bytes %d age %d" % self._player.kept(), sender)
-        elif text.startswith((b"along ", b"legs ")):
+        elif text.startswith((b"along ", b"legs ", b"straight ", b"switch ")):
             self._player.go_where(text)
         elif text == b"last":
             self._player.last()
+        elif text in (b"off", b"anew"):
+            self._player.off() if text == b"off" else self._player.anew()
         elif text == b"end":
             self._player.last()
+            self._player.over()
             self.ended = True
         elif text.startswith(b"at ") and (place := _place(text[3:])):
             self._player.stand_at(place)

@@ -2,7 +2,7 @@
 import argparse
 import sys
 
-from ngc_tools.failure import Failure
+from ngc_tools.failure import BadNumber, Failure
 from ngc_tools.formats.out import BadLine, Switch
 from ngc_tools.formats.position import Position, millimetres
 from ngc_tools.formats.record import Record, machine_nm
@@ -11,7 +11,7 @@ from ngc_tools.job.figures import duration
 from ngc_tools.job.figures import millimetres as rounded
 from ngc_tools.player.person import Voice
 from ngc_tools.player.player import Player
-from ngc_tools.player.retrace import Point, leg_pulses, legs_to
+from ngc_tools.player.retrace import Point, Wish, leg_pulses, legs_to
 from ngc_tools.player.way import CarriedLine, NoWay, Way, end_of_line, look, moves, outputs_at, tool_change
 
 _TURNS = ("", "spindle clockwise", "spindle counter-clockwise")
@@ -77,29 +77,38 @@ class Going:
         """Says what it would do, asks, and sends the player. Raises NoWay, BadLine, WontGo."""
         player, position = self.player, Position(self.settings.step_nm, left)
         player.source.limit = player.size
-        at_nm = lift_nm = None
+        at_nm = lift_nm = most = None
         if self.args.lift is not None:
             if size < player.size:
                 self._look(size, position)
-            at_nm, lift_nm = position.nm, machine_nm(self.args.lift)
-            self._say_legs(at_nm, lift_nm)
+            at_nm, lift_nm, most = position.nm, machine_nm(self.args.lift), self._rate()
+            self._say_legs(at_nm, lift_nm, most)
         if at_nm is None or size > player.size:
             what = f"{'back' if size < player.size else 'on'} to line {self.args.go_to_line} of {self.args.out}"
             self.voice.say(way_words(self._look(size, position), what))
-        if why := player.take_errand(size, self._agreed(outputs), lift_nm, at_nm):
+        if why := player.take_errand(Wish(size, self._agreed(outputs), lift_nm, at_nm, most)):
             raise WontGo(f"{self.args.out}: {why}")
 
     def _look(self, size: int, position: Position) -> Way:
         player = self.player
         return look(moves(player.source.file, player.lines, player.size, size, self.settings.period_us), position)
 
-    def _say_legs(self, end: Point, lift_nm: int) -> None:
+    def _rate(self) -> int:
+        """The rate of the last leg. Raises WontGo."""
+        try:
+            if (rate := machine_nm(self.args.feed)) > 0:
+                return rate
+        except BadNumber:
+            pass
+        raise WontGo(f"not a rate in millimetres a minute with at most six decimals: {self.args.feed}")
+
+    def _say_legs(self, end: Point, lift_nm: int, most: int) -> None:
         """Raises NoWay, and WontGo where the height lies outside the travel."""
         if not self.settings.low_nm[2] <= lift_nm <= self.settings.high_nm[2]:
             raise WontGo(f"--lift {self.args.lift}: it lies outside the travel of Z")
         start = self.player.position.nm
         legs = legs_to(start, end, lift_nm)
-        pulses = leg_pulses(Position(self.settings.step_nm, start), legs, self.player.manner)
+        pulses = leg_pulses(Position(self.settings.step_nm, start), legs, self.player.manner, most)
         way = look((CarriedLine(pulse, 0, 0) for pulse in pulses), Position(self.settings.step_nm, start))
         self.voice.say(way_words(way, f"by legs over Z {millimetres(lift_nm)} to {_point(end)}"))
 

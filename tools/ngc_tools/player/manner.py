@@ -15,6 +15,10 @@ class Stopped(Exception):
         self.word = word
 
 
+class Anew(Exception):
+    """The motors stand, the session is over, and another one follows."""
+
+
 @dataclass(slots=True)
 class Counts:
     """What was carried out by this player."""

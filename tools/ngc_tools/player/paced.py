@@ -33,8 +33,13 @@ class PacedPlayer(Player):
         self._limits = machine.limits
         self._most_percent = machine.limits.most_percent
         self._last = -1  # after so many bytes of OUT no more come for now, as was said
-        self._pace = Pace(machine.limits)
-        self._window = Window(machine.limits, machine.window_lines)
+        self._window_lines = machine.window_lines
+        self._begin_pace()
+
+    def _begin_pace(self) -> None:
+        """At rest, with nothing in hand."""
+        self._pace = Pace(self._limits)
+        self._window = Window(self._limits, self._window_lines)
         self._wants = self._window.lines()
         self._ahead: deque[tuple[bytes, Line]] = deque()  # what the pacer knows; extra pulses are without text ..
         self._extras = 0  # .. and so many
@@ -61,6 +66,11 @@ class PacedPlayer(Player):
             self._last = self.source.end()
 
     # the play
+
+    def _begin_anew(self) -> None:
+        super()._begin_anew()
+        self._last, self._is_moving = -1, False
+        self._begin_pace()
 
     def _play(self) -> None:
         is_over = False
@@ -115,7 +125,7 @@ class PacedPlayer(Player):
                 pass
         if text is None:
             return False
-        self._newest_ns, self._left_ns = time.monotonic_ns(), 0
+        self._newest_ns, self._left_ns, self._stays = time.monotonic_ns(), 0, False
         self.counts.dry += self._is_dry
         self._is_on_path &= not self._is_dry  # counted once
         self._is_dry = False
@@ -146,6 +156,7 @@ class PacedPlayer(Player):
         wanted = self._wanted()
         if wanted and self._pace.first < self._pace.final:
             self._await_tool_of(self._ahead[0][1])
+            wanted = self._wanted() if self._end_off(self._ahead[0][1]) else wanted
         ns = self._pace.next(wanted)
         if ns is None:
             return False

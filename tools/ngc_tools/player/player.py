@@ -11,7 +11,7 @@ from ngc_tools.formats.record import Record, stopped
 from ngc_tools.player.answers import Answers
 from ngc_tools.player.backlash import UNKNOWN, as_text
 from ngc_tools.player.keeper import Keeper
-from ngc_tools.player.manner import Counts, Manner, Stopped
+from ngc_tools.player.manner import Anew, Counts, Manner, Stopped
 from ngc_tools.player.person import Person
 from ngc_tools.player.pins import Pins
 from ngc_tools.player.progress import MOVED, Report
@@ -52,6 +52,10 @@ class Player(Goes):
         self._wants = 0  # how many lines are wanted in hand; 0 doesn't say
         self._tool: int | None = None  # the slot that a person is asked for
         self._left_ns = 0  # since when nobody writes OUT any more
+        self._wants_off = False  # spindle and coolant are to go off
+        self._turns = False  # a switch waits for the spindle
+        self._wants_anew = False  # the session is over, and another one follows ..
+        self._stays = False  # .. for which it waits, though nobody writes OUT meanwhile
         self._wake = os.eventfd(0, os.EFD_NONBLOCK | os.EFD_CLOEXEC)
         self._poll = select.poll()
         self._poll.register(self._wake, select.POLLIN)
@@ -63,7 +67,7 @@ class Player(Goes):
         however it ends. Raises BadLine at the first line that isn't one, and if OUT ends in a part of a line; Stopped
         where it has to stop before; OSError if the pins fail."""
         try:
-            self._play()
+            self._play_sessions()
             if self.is_on() and self.manner.timed:
                 self._wait_until(self.schedule.due)  # the time of the last line
             return self.is_on()
@@ -102,9 +106,11 @@ class Player(Goes):
             tool = self._tool
             self._take_all()
             received = self.bound_for() if self.errand else self.source.received
+            received += self._wants_anew and received == self.lines
             return Report(self.lines, received, tool is not None, str(self.position), self.out,
                           self.outputs, tool or 0, self._stands_held and tool is None and not self.is_untold,
-                          self.percent, self._wants, MOVED if self.is_untold else "works", self.spindle.percent)
+                          self.percent, self._wants, MOVED if self.is_untold else "works", self.spindle.percent,
+                          self.again)
 
     def stand_at(self, at_nm: tuple[int, int, int]) -> None:
         """Takes where the machine stands, as after its axes were moved by hand, if nothing is behind: `ngc` knows it
@@ -121,7 +127,7 @@ class Player(Goes):
     def synced(self, size: int) -> None:
         """The first bytes of OUT, so many, are on the disk: of a file that is followed no more is carried out."""
         with self._lock:
-            if self.source.follow and not self.errand:
+            if self.source.follow and not self.errand and not self._wants_anew:
                 self.source.limit = size
                 self._take_all()
 
@@ -131,12 +137,12 @@ class Player(Goes):
         return (record.lines, record.size, record.age_ms) if record else (0, 0, 0)
 
     def go_where(self, text: bytes) -> None:
-        """Goes on, back, or by legs, if it stands still with nothing in hand."""
+        """Goes on, back, by legs, or switches outputs, if it stands still with nothing in hand."""
         if (wanted := read_errand(text)) is None:
             return
         with self._lock:
             self._take_all()
-            if why := self.take_errand(*wanted):
+            if why := self.take_errand(wanted):
                 self.manner.said(f"{self.source.path}: it doesn't go: {why}")
         os.eventfd_write(self._wake, 1)
 
@@ -164,7 +170,77 @@ class Player(Goes):
     def last(self) -> None:
         """What stands in OUT now is all that comes for now."""
 
+    def off(self) -> None:
+        """Spindle and coolant go off, if the motors stand, and go on only once somebody says so, or a line comes."""
+        with self._lock:
+            self._take_all()
+            self._wants_off = self._stands()
+        os.eventfd_write(self._wake, 1)
+
+    def anew(self) -> None:
+        """The session is over, and another one follows."""
+        if not self.source.is_file or self.source.follow:
+            self._wants_anew = self._stays = True
+            os.eventfd_write(self._wake, 1)
+
+    def over(self) -> None:
+        """The session is over, and none follows."""
+        self._stays = False
+
     # the play
+
+    def _play_sessions(self) -> None:
+        """Plays, and goes on where another session follows."""
+        while True:
+            try:
+                self._play()
+                return
+            except Anew:
+                self._begin_anew()
+
+    def _begin_anew(self) -> None:
+        """Begins the next session, at rest: spindle and coolant are off, what is in hand or stands in OUT is let go,
+        and of a file nothing is carried out before a console says so. Raises OSError if the pins fail."""
+        if self.is_on():
+            self._turn_off()
+        with self._lock:
+            self._take_all()
+            self.source.go_to(self.lines, self.size)
+            self.source.limit = self.size if self.source.is_file else None
+            self.errand = self.again = None
+            self.is_held = self._stands_held = False
+            self._tool, self._left_ns = None, 0
+            self._wants_anew = False
+        self.schedule.pause()
+
+    def _stands(self) -> bool:
+        """Whether the motors stand, and go on only once somebody says so, a line comes, or the spindle has its time.
+        The lock is held."""
+        has_nothing = self.errand is None and self.source.received == self.lines
+        return has_nothing or self._stands_held or self._tool is not None or self._turns
+
+    def _heed_off(self) -> None:
+        """Turns spindle and coolant off, at rest. Raises OSError if the pins fail."""
+        if not self._wants_off:
+            return
+        with self._lock:
+            is_still, self._wants_off = self._stands(), False
+        if is_still and self.is_on():
+            again = self.outputs
+            self._turn_off()
+            with self._lock:
+                self.again = again
+
+    def _end_off(self, line: Line | None) -> bool:
+        """Before a line of OUT, or a move: has come on again what a person switched off, unless the line says itself
+        what is on; whether it did. Raises Stopped, or OSError of the pins."""
+        if self.again is None or line is None:
+            return False
+        again, self.again = self.again, None
+        if isinstance(line, Switch):
+            return False
+        self._switch_on(again)
+        return True
 
     def _play(self) -> None:
         while (text := self._next()) is not None:
@@ -179,7 +255,7 @@ class Player(Goes):
                 text = self.source.next()
                 came = text is None and self.source.read()
             if text is not None:
-                self._left_ns = 0
+                self._left_ns, self._stays = 0, False
                 return text
             if not came:
                 if self._is_over():
@@ -204,6 +280,10 @@ class Player(Goes):
 
     def _is_left(self, ready: int) -> bool:
         """Whether nobody writes OUT any more. Of a file that is followed only those who ask can be seen."""
+        asked_ns = self.answers.asked_ns if self.answers else 0
+        if self._stays and time.monotonic_ns() < asked_ns + self.manner.off_after_us * 1000:
+            time.sleep(SLICE_NS / 4e9 if ready else 0)  # the poll of a pipe that nobody writes doesn't wait
+            return False
         if not self.source.follow:
             return self.source.is_left(ready)
         return self.answers is not None and (self.answers.ended or self.is_on() and self.answers.are_gone())
@@ -228,7 +308,7 @@ class Player(Goes):
 
     def _is_rest_asked(self) -> bool:
         """Whether it is to come to rest and stop then."""
-        return self.stops > 0 or bool(self.keeper and self.keeper.failed)
+        return self.stops > 0 or self._wants_anew or bool(self.keeper and self.keeper.failed)
 
     def _heed(self) -> None:
         """Raises Stopped if it is asked to stop, or can't keep its record any more: while it moves only if it is asked
@@ -236,16 +316,21 @@ class Player(Goes):
         if (outputs := self.spindle.changed()) is not None:
             self.pins.set(str(outputs).encode())
         if self._is_moving and self.stops < 2:
+            self._wants_off = False
             return
         if self.stops:
             raise Stopped("signal", f"stopped after line {self.lines}")
         if self.keeper and self.keeper.failed:
             raise Stopped("record", f"stopped after line {self.lines}: the record can't be kept")
+        if self._wants_anew:
+            raise Anew
+        self._heed_off()
 
     def _carry_out(self, text: bytes) -> None:
         line = read_line(text, self.lines + 1, self.manner.least_period_us)
         self._await_tool_of(line)
         self._await_due()
+        self._end_off(line)
         self._carry_out_now(text, line, line.lasts_us * 1000)
 
     def _await_due(self) -> None:
@@ -264,10 +349,18 @@ class Player(Goes):
             self._set_outputs(text, line)
             turns = line.spindle != self.outputs.spindle
             self.outputs = line
-            if turns:
-                self._wait_until(time.monotonic_ns() + self.manner.spindle_us * 1000)
+            self._await_spindle(turns)
             self.schedule.pause()  # as long as the tool and the spindle took
         self._count(line, len(text) + 1)
+
+    def _await_spindle(self, turns: bool) -> None:
+        """Waits as long as the spindle takes."""
+        self._turns = turns
+        try:
+            if turns:
+                self._wait_until(time.monotonic_ns() + self.manner.spindle_us * 1000)
+        finally:
+            self._turns = False
 
     def _set_outputs(self, text: bytes, line: Switch) -> None:
         """Gives a switch to the pins, with its speed as it is overridden."""
@@ -325,8 +418,11 @@ class Player(Goes):
 
     def _switch_off(self) -> None:
         """Turns spindle and coolant off, if they are on or it stops before OUT's end."""
-        if not self.stopped_by and not self.is_on():
-            return
+        if self.stopped_by or self.is_on():
+            self._turn_off()
+
+    def _turn_off(self) -> None:
+        """Turns spindle and coolant off. Raises OSError if the pins fail."""
         try:
             self.pins.off()
         except OSError as error:
@@ -334,7 +430,8 @@ class Player(Goes):
             why = f"{error.strerror}; switch spindle and coolant off by hand"
             raise OSError(error.errno, why, error.filename) from None
         self.spindle.stop()
-        self.outputs = stopped(self.outputs)
+        with self._lock:
+            self.outputs = stopped(self.outputs)
 
 
 def save_wakeups() -> None:

@@ -42,6 +42,14 @@
     Moves without lines, of tools/player with `--machine`: OUTPUT.md, "Home, jog, seek". While one goes `moves` stands
     in the place of `works`; `alarm` while the place isn't to be trusted, `broken` where no more line of the session is
     carried out after that, and `waits spindle` while the spindle isn't at its speed.
+`off`
+    Spindle and coolant go off, while the motors stand: held, asked for a tool, or with nothing in hand. `again S ..`
+    stands behind the outputs of `progress` then, which comes on again before the next line that moves or waits, and the
+    spindle has its time; a line `S` says itself what is on.
+`anew`
+    The session is over, and another one follows: the motors come to rest, at once where there are no ramps, spindle and
+    coolant go off, and what stands in OUT and isn't carried out is let go; of a file nothing more is carried out before
+    `synced`. Until then R of `progress` isn't C. A pipe may be without a writer for the seconds of `--off-after`.
 `end`
     The session is over; whoever asks sends it last, before it closes OUT. Lines in hand are carried out. With spindle
     and coolant off the player then ends with status 0. With one of them on it ends with status 0 too, but leaves them
@@ -71,7 +79,8 @@ _LONGEST = 192  # bytes of a datagram to a player
 _KEPT = re.compile(r"lines (\d+) bytes (\d+) age (\d+)")
 _WORDS = "works|held|moves|moved|alarm|broken|waits spindle"
 _REPORT = re.compile(rf"carried (\d+) received (\d+) ({_WORDS}|waits tool (\d{{1,3}})) reference (\S+ \S+ \S+)"
-                     r" outputs (S \d \S+ \d \d \d+ \d+) percent (\d+) spindle (\d+) wants (\d+) out (.*)",
+                     r" outputs (S \d \S+ \d \d \d+ \d+)(?: again (S \d \S+ \d \d \d+ \d+))? percent (\d+)"
+                     r" spindle (\d+) wants (\d+) out (.*)",
                      re.DOTALL)
 MOVED = "moved"
 """What a report says behind a move without lines, until the player is told that `ngc` knows where the machine is."""
@@ -103,6 +112,7 @@ class Report:
     wants: int = 0
     word: str = "works"  # else, where it doesn't wait for a tool: `moves`, MOVED, `alarm`, `broken`, `waits spindle`
     spindle: int = 100  # the spindle turns at so many percent of the speeds of `outputs`
+    again: Switch | None = None  # what comes on again before the next line, since a person switched it off
 
     @property
     def behind(self) -> int:
@@ -113,8 +123,8 @@ class Report:
         """What is answered."""
         state = f"waits tool {self.tool}" if self.waits else "held" if self.is_held else self.word
         said = (f"carried {self.carried} received {self.received} {state} reference {self.at}"
-                f" outputs {self.outputs} percent {self.percent} spindle {self.spindle} wants {self.wants}"
-                f" out {self.out}")
+                f" outputs {self.outputs}{f' again {self.again}' if self.again else ''} percent {self.percent}"
+                f" spindle {self.spindle} wants {self.wants} out {self.out}")
         return said.encode("utf-8", "surrogateescape")
 
     @staticmethod
@@ -122,11 +132,12 @@ class Report:
         """Reads what was answered. Raises ValueError for any other text."""
         match = _REPORT.fullmatch(answer.decode("utf-8", "surrogateescape"))
         outputs = _switch(match[6]) if match else None
-        if match is None or outputs is None:
+        again = _switch(match[7]) if match and match[7] else None
+        if match is None or outputs is None or match[7] and again is None:
             raise ValueError(f"not a report of a player: {answer[:80]!r}")
         word = "works" if match[4] or match[3] == "held" else match[3]
-        return Report(int(match[1]), int(match[2]), match[4] is not None, match[5], match[10], outputs,
-                      int(match[4] or 0), match[3] == "held", int(match[7]), int(match[9]), word, int(match[8]))
+        return Report(int(match[1]), int(match[2]), match[4] is not None, match[5], match[11], outputs,
+                      int(match[4] or 0), match[3] == "held", int(match[8]), int(match[10]), word, int(match[9]), again)
 
 
 @dataclass(frozen=True, slots=True)
@@ -322,13 +333,23 @@ class Link:
         """Tells a player that so many bytes of OUT are on the disk. Raises NoAnswer."""
         self._send(b"synced %d" % size)
 
-    def along(self, size: int, on: Switch | None = None) -> None:
-        """Sends the motors along OUT to where so many bytes of it lead. Raises NoAnswer."""
-        self._send(f"along {size}{f' {on}' if on else ''}".encode())
+    def switch(self, outputs: Switch) -> None:
+        """Has spindle and coolant switched where the motors stand, with nothing in hand. Raises NoAnswer."""
+        self._send(f"switch {outputs}".encode())
 
-    def legs(self, lift: str, at: str, size: int, on: Switch | None = None) -> None:
-        """Sends the motors there by legs; heights and points are machine millimetres. Raises NoAnswer."""
-        self._send(f"legs {lift} {at} {size}{f' {on}' if on else ''}".encode())
+    def along(self, size: int, feed: str = "") -> None:
+        """Sends the motors along OUT to where so many bytes of it lead; back at most at a feed, in mm a minute. Raises
+        NoAnswer."""
+        self._send(f"along {size}{f' feed {feed}' if feed else ''}".encode())
+
+    def legs(self, lift: str, at: str, size: int, feed: str = "") -> None:
+        """Sends the motors there by legs, the last one at a feed; heights and points are machine millimetres. Raises
+        NoAnswer."""
+        self._send(f"legs {lift} {at} {size}{f' feed {feed}' if feed else ''}".encode())
+
+    def straight(self, at: str, size: int, feed: str) -> None:
+        """The same in one straight line, at a feed. Raises NoAnswer."""
+        self._send(f"straight {at} {size} feed {feed}".encode())
 
     def go(self) -> None:
         """Tells a player that waits at a tool change that the tool is in. Raises NoAnswer."""
@@ -398,6 +419,14 @@ class Link:
     def last(self) -> None:
         """Tells a player that what stands in OUT now is all that comes for now. Raises NoAnswer."""
         self._send(b"last")
+
+    def off(self) -> None:
+        """Tells a player whose motors stand to switch spindle and coolant off. Raises NoAnswer."""
+        self._send(b"off")
+
+    def anew(self) -> None:
+        """Tells a player that the session is over, and that another one follows. Raises NoAnswer."""
+        self._send(b"anew")
 
     def end(self) -> None:
         """Tells a player that the session is over, before OUT is closed. Raises NoAnswer."""

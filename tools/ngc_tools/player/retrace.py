@@ -1,4 +1,5 @@
-"""What a player does besides OUT's next lines: it goes on to a line of OUT, back to one, or by legs to a point.
+"""What a player does besides OUT's next lines: it goes on to a line of OUT, back to one, by legs or in one straight
+line to a point, or switches outputs where it stands.
 
 What the record says meanwhile. At each moment the motors are where its `reference` is, and but for legs that is where
 the first `lines` lines of OUT lead, its first `bytes` bytes:
@@ -16,7 +17,7 @@ import re
 import threading
 import time
 from collections import deque
-from collections.abc import Iterator
+from collections.abc import Iterable, Iterator
 from dataclasses import dataclass, replace
 
 from ngc_tools.formats.out import Pulse, Switch, read_line
@@ -35,18 +36,34 @@ from ngc_tools.player.way import CarriedLine, NoWay, count_lines, moves
 
 Point = tuple[int, int, int]
 _DOZE_S = 0.005
-_ERRAND = re.compile(r"(?:along|legs (\S+ \S+ \S+ \S+)) (\d{1,18})(?: (S .*))?")
+_ERRAND = re.compile(r"(?:along|legs (\S+ \S+ \S+ \S+)|straight (\S+ \S+ \S+)) (\d{1,18})(?: feed (\S+))?(?: (S .*))?")
+_SWITCH = re.compile(r"switch (S .*)")
+
+
+@dataclass(frozen=True, slots=True)
+class Wish:
+    """Where somebody sends the motors: along OUT to where its first `size` bytes lead. If `at_nm` is named, it is where
+    they lead, or what is carried out if that is less, and legs over `lift_nm` go there first, or without that one
+    straight line. The last leg, and a way back, goes at most at `nm_per_min`; None for no other rate than that of
+    traverses. `on` is switched on before; with `is_switch` that is all, and nothing moves."""
+
+    size: int = 0
+    on: Switch | None = None
+    lift_nm: int | None = None
+    at_nm: Point | None = None
+    nm_per_min: int | None = None
+    is_switch: bool = False
 
 
 @dataclass(frozen=True, slots=True)
 class Errand:
-    """The motors are to be where the first `lines` lines of OUT lead, its first `size` bytes. `on` is switched on
-    before. By `legs` to the points that follow each other, in nm, if there are any: to where `legs_lines` and
-    `legs_size` lead, and from there on along the lines."""
+    """The motors are to be where the first `lines` lines of OUT lead, its first `size` bytes, as `wish` has it. By
+    `legs` to the points that follow each other, in nm, if there are any: to where `legs_lines` and `legs_size` lead,
+    and from there on along the lines."""
 
+    wish: Wish
     lines: int
     size: int
-    on: Switch | None = None
     legs: tuple[Point, ...] = ()
     legs_lines: int = 0
     legs_size: int = 0
@@ -60,32 +77,66 @@ def legs_to(start: Point, end: Point, lift_nm: int) -> tuple[Point, ...]:
     return (start[0], start[1], lift_nm), (end[0], end[1], lift_nm), end
 
 
-def leg_pulses(position: Position, legs: tuple[Point, ...], manner: Manner) -> Iterator[Pulse]:
-    """The pulses of straight lines from a point on, all axes together, at the traverse rate."""
-    for end in legs:
-        begun = list(position.steps)
-        steps = [rounded(nm, step) - at for nm, step, at in zip(end, position.step_nm, begun, strict=True)]
-        count = max(map(abs, steps))
-        lengths = [each * nm for each, nm in zip(steps, position.step_nm)]
-        us = -(-distance((0, 0, 0), tuple(lengths)) * 60_000_000 // (manner.traverse_nm_per_min * max(count, 1)))
-        for number in range(1, count + 1):
-            there = [at + (2 * number * each + count) // (2 * count) for at, each in zip(begun, steps)]
-            x, y, z = (then - now for then, now in zip(there, position.steps))
-            yield Pulse(x, y, z, max(us, manner.least_period_us))
-            position.steps = there
+def leg_pulses(position: Position, legs: tuple[Point, ...], manner: Manner, most: int | None) -> Iterator[Pulse]:
+    """The pulses of straight lines from a point on, all axes together, at the traverse rate; the last one goes at
+    `most` nm a minute, if that is less."""
+    for number, end in enumerate(legs, 1):
+        rate = min(most or manner.traverse_nm_per_min, manner.traverse_nm_per_min)
+        yield from _leg(position, end, manner.traverse_nm_per_min if number < len(legs) else rate, manner)
 
 
-def read_errand(text: bytes) -> tuple[int, Switch | None, int | None, Point | None] | None:
-    """A datagram that sends on an errand, as `Goes.take_errand` takes it; None for other text."""
-    match = _ERRAND.fullmatch(text.decode("latin-1"))
-    if match is None:
-        return None
+def _leg(position: Position, end: Point, rate: int, manner: Manner) -> Iterator[Pulse]:
+    """The pulses of one of them, at so many nm a minute."""
+    begun = list(position.steps)
+    steps = [rounded(nm, step) - at for nm, step, at in zip(end, position.step_nm, begun, strict=True)]
+    count = max(map(abs, steps))
+    lengths = [each * nm for each, nm in zip(steps, position.step_nm)]
+    us = -(-distance((0, 0, 0), tuple(lengths)) * 60_000_000 // (rate * max(count, 1)))
+    for number in range(1, count + 1):
+        there = [at + (2 * number * each + count) // (2 * count) for at, each in zip(begun, steps)]
+        x, y, z = (then - now for then, now in zip(there, position.steps))
+        yield Pulse(x, y, z, max(us, manner.least_period_us))
+        position.steps = there
+
+
+def slowed(found: Iterable[CarriedLine], step_nm: Iterable[int], most: int) -> Iterator[CarriedLine]:
+    """The same moves, none faster than so many nm a minute."""
+    x_nm, y_nm, z_nm = step_nm
+    least = {(x, y, z): -(-distance((0, 0, 0), (x * x_nm, y * y_nm, z * z_nm)) * 60_000_000 // most)
+             for x in (0, 1) for y in (0, 1) for z in (0, 1)}
+    for move in found:
+        line = move.line
+        if isinstance(line, Pulse) and (us := least[abs(line.x), abs(line.y), abs(line.z)]) > line.period_us:
+            move = replace(move, line=replace(line, period_us=us))
+        yield move
+
+
+def read_errand(text: bytes) -> Wish | None:
+    """A datagram that sends on an errand; None for other text."""
+    said = text.decode("latin-1")
     try:
-        lift, *at = (machine_nm(number) for number in match[1].split()) if match[1] else (None,)
-        on = read_line(match[3], 1) if match[3] else None
+        if match := _SWITCH.fullmatch(said):
+            return Wish(on=_outputs(match[1]), is_switch=True)
+        return _wish(match) if (match := _ERRAND.fullmatch(said)) else None
     except ValueError:
         return None
-    return int(match[2]), on, lift, tuple(at) or None
+
+
+def _wish(match: re.Match[str]) -> Wish | None:
+    """The same of one that moves. Raises ValueError."""
+    numbers = [machine_nm(number) for number in (match[1] or match[2] or "").split()]
+    lift, at = (numbers[0], numbers[1:]) if match[1] else (None, numbers)
+    rate = machine_nm(match[4]) if match[4] else None
+    if rate is not None and rate <= 0:
+        return None
+    return Wish(int(match[3]), _outputs(match[5]) if match[5] else None, lift, tuple(at) or None, rate)
+
+
+def _outputs(text: str) -> Switch:
+    """A line of OUT that switches. Raises BadLine."""
+    line = read_line(text, 1)
+    assert isinstance(line, Switch)
+    return line
 
 
 class Goes:
@@ -111,33 +162,39 @@ class Goes:
     _limits: Limits | None = None
     errand: Errand | None = None
     is_off = False  # the motors left the path of OUT by a move without lines
+    again: Switch | None = None  # what a person switched off, amid lines: it comes on again before the next one
 
-    def take_errand(self, size: int, on: Switch | None, lift_nm: int | None = None, at_nm: Point | None = None) -> str:
-        """Takes an errand: along OUT to where its first `size` bytes lead. If `at_nm` is named, it is where they lead,
-        or what is carried out if that is less, and legs over `lift_nm` go there first. What keeps it from that; nothing
-        if it is taken. The lock is held."""
-        source = self.source
+    def take_errand(self, wish: Wish) -> str:
+        """Takes a wish as errand. What keeps it from that; nothing if it is taken. The lock is held."""
+        source, size = self.source, wish.size
         if self.errand or source.received != self.lines:
             return "it works: lines are in hand"
-        if self.is_off and at_nm is None:
+        if wish.is_switch:
+            self.errand = Errand(wish, self.lines, self.size)
+            return ""
+        if self.is_off and wish.at_nm is None:
             return "the motors were moved off the path of OUT: legs lead back to it"
         is_line = source.is_file and size <= source.size() and source.holds(size)
-        if not is_line and (source.is_file or at_nm is None):
+        if not is_line and (source.is_file or wish.at_nm is None):
             return f"no line of OUT ends at byte {size}" if source.is_file else "OUT is a pipe, and keeps no lines"
-        legs: tuple[Point, ...] = ()
-        if at_nm is not None:
-            try:
-                legs = legs_to(self.position.nm, at_nm, lift_nm or 0)
-            except NoWay as error:
-                return str(error)
+        try:
+            legs = self._legs(wish)
+        except NoWay as error:
+            return str(error)
         if not source.is_file:
-            self.errand = Errand(self.lines, self.size, on, legs, self.lines, self.size)
+            self.errand = Errand(wish, self.lines, self.size, legs, self.lines, self.size)
             return ""
         low, high = min(size, self.size), max(size, self.size)
         count = count_lines(source.file, low, high)
         lines = self.lines + (count if size > self.size else -count)
-        self.errand = Errand(lines, size, on, legs, min(lines, self.lines), low)
+        self.errand = Errand(wish, lines, size, legs, min(lines, self.lines), low)
         return ""
+
+    def _legs(self, wish: Wish) -> tuple[Point, ...]:
+        """The points of legs; none along OUT. Raises NoWay."""
+        if wish.at_nm is None:
+            return ()
+        return (wish.at_nm,) if wish.lift_nm is None else legs_to(self.position.nm, wish.at_nm, wish.lift_nm)
 
     def bound_for(self) -> int:
         """The line of OUT to which an errand leads; another number than that of the lines until it is done."""
@@ -150,14 +207,15 @@ class Goes:
         if errand is None:
             return False
         self.schedule.pause()
-        if errand.on:
-            self._switch_on(errand.on)
+        self.again = None  # an errand says itself what is on
+        if errand.wish.on:
+            self._switch_on(errand.wish.on)
         if errand.legs:
             self._go(self._by_legs(errand))
         elif errand.size < self.size:
-            self._go(moves(self.source.file, self.lines, self.size, errand.size, self.manner.least_period_us))
+            self._go(self._back(errand))
         with self._lock:
-            if self.source.is_file:
+            if self.source.is_file and not errand.wish.is_switch:
                 self._arrive(errand)
             self.is_off = self.is_off and not errand.legs
             self.errand = None
@@ -182,11 +240,17 @@ class Goes:
             self._wait_until(time.monotonic_ns() + self.manner.spindle_us * 1000)
         self.schedule.pause()
 
+    def _back(self, errand: Errand) -> Iterator[CarriedLine]:
+        """Back along OUT: no pulse is faster than was asked for."""
+        found = moves(self.source.file, self.lines, self.size, errand.size, self.manner.least_period_us)
+        most = errand.wish.nm_per_min
+        return slowed(found, self.position.step_nm, most) if most else found
+
     def _by_legs(self, errand: Errand) -> Iterator[CarriedLine]:
         """With the last pulse the counts are those of the errand."""
         start = Position(self.position.step_nm, self.position.nm)
         later: Pulse | None = None
-        for pulse in leg_pulses(start, errand.legs, self.manner):
+        for pulse in leg_pulses(start, errand.legs, self.manner, errand.wish.nm_per_min):
             if later:
                 yield CarriedLine(later, self.lines, self.size)
             later = pulse
@@ -202,6 +266,7 @@ class Goes:
             self._await_due()
             while self.is_held:
                 self._doze()
+            self._end_off(move.line)
             self._make(move, move.line.lasts_us * 1000 if move.line else 0)
         self._stands_held = False
         self._await_due()
@@ -228,6 +293,8 @@ class Goes:
             if not self._is_moving:
                 self.schedule.pause()  # as long as it took to read
             wanted = 0 if self.is_held or self._is_rest_asked() else pace.wanted(self.percent)
+            if ahead and wanted and self._end_off(ahead[0].line):
+                continue
             ns = pace.next(wanted) if ahead and ahead[0].line else 0
             if ns is None:
                 self._is_moving = False

@@ -62,10 +62,11 @@ class Source:
         self.received, self.taken = begun.lines, begun.size
 
     def go_to(self, lines: int, size: int) -> None:
-        """Goes on, or back, to behind so many lines and bytes of a file; what is in hand is let go."""
+        """Goes on, or back, to behind so many lines and bytes of a file; what is in hand is let go, of a pipe too."""
         self._lines.clear()
         self._part, self._held, self.received, self.taken = b"", 0, lines, size
-        os.lseek(self.file, size, os.SEEK_SET)
+        if self.is_file:
+            os.lseek(self.file, size, os.SEEK_SET)
 
     def size(self) -> int:
         """How many bytes a file has."""

@@ -8,10 +8,14 @@ export class Alarm {
     Object.assign(this, { asks, opens, left: '' });
   }
 
-  // The sheet goes once the axes on it are homed, or the alarm is over.
+  // The way back opens by itself, once. A sheet goes once the axes on it are homed, or the alarm is over.
   show(s) {
     this.s = s;
     if (this.left && this.left !== s.left) this.close();
+    if (!s.alarm && this.frees?.isConnected) sheet.close();
+    if (this.frees?.isConnected) this.showFrees();
+    if (s.alarm && !s.left && !s.busy && s.yours && !this.isTold) this.home();
+    this.isTold = Boolean(s.alarm) && (this.isTold || !s.busy && s.yours);
   }
 
   // What the large button says, whether it is enabled, and what it does.
@@ -20,11 +24,29 @@ export class Alarm {
     return s.left ? [`Where is ${named(s.left)}?`, isFree, () => this.ask()] : ['Home all', isFree, () => this.home()];
   }
 
-  // Asked for, since the large button was another one a moment before.
+  // The way back: what it came by, what has to be free, home, and what follows. Asked for, since the large button was
+  // another one a moment before.
   home() {
     this.opens();
-    sheet.ask('Home all axes?', [sheet.said('Each goes to its switch, in the order of the machine\u2019s file. Where '
-      + 'the tool stands in the work, free it by hand first.')], 'Home', () => this.asks('home', { axes: '' }));
+    this.frees = el('div');
+    this.start = sheet.go('Home', () => { sheet.close(); this.asks('home', { axes: '' }); }, false);
+    sheet.open('Home all axes?', [sheet.lead(this.s.came_by), this.frees,
+      sheet.said('Where the tool stands in the work, free it by hand first. Then each axis goes to its switch, in the '
+        + 'order of the machine\u2019s file, and away from one that is on.'),
+      sheet.said('What was under way is half-done after that, and the page leads on, as after a loss of power.')],
+    [sheet.button('Back', sheet.close), sheet.gap('Nothing moves yet.'), this.start]);
+    this.showFrees();
+  }
+
+  // What is on now, and has to be free before, or leaves a way by itself.
+  showFrees() {
+    const { inputs } = this.s, isStopped = inputs.includes('emergency_stop');
+    const limits = inputs.filter(name => name.startsWith('limit')).map(name => name.replaceAll('_', ' '));
+    this.frees.replaceChildren(...[
+      isStopped && sheet.warning('The emergency stop is on. Release it, once all is safe.', 'bad'),
+      limits.length && sheet.warning(`On: ${limits.join(', ')}. Home leads away from its own switches alone; free an `
+        + 'axis that stands on another one by hand.')].filter(Boolean));
+    this.start.disabled = isStopped || !this.s.yours || this.s.busy;
   }
 
   // Asks where the axes stand that aren't homed. Nothing stands in an entry but what somebody writes.

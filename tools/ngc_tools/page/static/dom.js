@@ -35,7 +35,8 @@ export const point = at => AXES.map((axis, i) => `${axis} ${mm(at[i])}`).join(' 
 export const micrometres = at => at.map(number => Math.round(Number(number) * 1000));
 
 // Where the work's zero is in a state, with the tool's length in it, in micrometres of machine coordinates.
-export const zeroOf = s => AXES.map((_, i) => Math.round(1e6 * ((s.motors ?? s.at)[i] - s.work[i])) / 1000);
+export const zeroOf = s => AXES.map((_, i) => Math.round(1e6 * (s.work ? (s.motors ?? s.at)[i] - s.work[i]
+  : s.origin[i])) / 1000);
 
 // A number that somebody typed, as ngc reads it; null if it is none.
 export function typedNumber(typed) {

@@ -1,10 +1,12 @@
 // Jogging. A button moves an axis while a finger is on it: the page says so again and again, and the machine stops
-// where it says nothing any more. With a length it goes that far at each touch.
+// where it says nothing any more. With a length it goes that far at each touch. A finger that begins to scroll there
+// moves nothing: it has to rest first, or, with a length, to be lifted where it came down.
 import { el } from './dom.js';
 
 const AGAIN_MS = 100;
+const REST_MS = 180, MOST_PX = 8;
 const RATES = [['Slow', '100'], ['Medium', '600'], ['Fast', '3000']]; // mm a minute
-const LENGTHS = [['Hold', null], ['10', '10'], ['1', '1'], ['0.1', '0.1'], ['0.01', '0.01']]; // mm
+const LENGTHS = [['Cont.', null], ['10', '10'], ['1', '1'], ['0.1', '0.1'], ['0.01', '0.01']]; // mm
 const PAD = [['Y', 1, 'up'], ['X', -1, 'left'], ['X', 1, 'right'], ['Y', -1, 'down'], ['Z', 1, 'above'],
   ['Z', -1, 'below']];
 
@@ -13,7 +15,8 @@ export class Jog {
     this.asks = asks;
     this.rate = '600';
     this.length = null;
-    this.timer = 0;
+    this.timer = this.rests = 0;
+    this.finger = null;      // where one came down that may be about to scroll
     this.press = 0;          // grows with each, so that what comes late of one that was let go starts nothing
     this.isOn = false;
     this.buttons = PAD.map(([axis, sign, where]) => this.button(axis, sign, where));
@@ -28,18 +31,43 @@ export class Jog {
     const name = `${axis}${sign > 0 ? '+' : '\u2212'}`;
     const button = el('button', { class: where, oncontextmenu: event => event.preventDefault() }, name);
     button.addEventListener('pointerdown', event => {
+      this.stop();
+      if (event.button !== 0 || button.disabled) return;
+      if (event.pointerType !== 'mouse') {
+        this.comes(event, axis, sign);
+        return;
+      }
       event.preventDefault();
       button.setPointerCapture(event.pointerId);
       this.start(axis, sign);
     });
-    for (const kind of ['pointerup', 'pointercancel', 'lostpointercapture']) {
-      button.addEventListener(kind, () => this.stop());
-    }
+    button.addEventListener('pointermove', event => {
+      const was = this.finger;
+      if (was && Math.hypot(event.clientX - was.x, event.clientY - was.y) > MOST_PX) this.forget();
+    });
+    // Once it jogs, the finger that trembles doesn't scroll.
+    button.addEventListener('touchmove', event => { if (this.isOn) event.preventDefault(); }, { passive: false });
+    button.addEventListener('pointerup', () => {
+      if (this.finger && this.length !== null) this.start(axis, sign);
+      this.stop();
+    });
+    for (const kind of ['pointercancel', 'lostpointercapture']) button.addEventListener(kind, () => this.stop());
     return button;
   }
 
+  // A finger came down, or a pen: it may be about to scroll.
+  comes(event, axis, sign) {
+    this.finger = { x: event.clientX, y: event.clientY };
+    if (this.length === null) this.rests = setTimeout(() => this.start(axis, sign), REST_MS);
+  }
+
+  forget() {
+    clearTimeout(this.rests);
+    this.finger = null;
+  }
+
   start(axis, sign) {
-    this.stop();
+    this.forget();
     const { rate, length } = this;
     if (length !== null) {
       this.asks('jog', { axis, sign, rate, length });
@@ -61,6 +89,7 @@ export class Jog {
 
   // The finger is gone, or somebody wants to hold.
   stop() {
+    this.forget();
     clearInterval(this.timer);
     if (this.isOn) this.asks('jogstop', { press: this.press });
     this.isOn = false;

@@ -47,15 +47,21 @@ export function post(what, body = {}) {
   return answered(fetch(what, { method: 'POST', headers, body: JSON.stringify(body) }));
 }
 
-// Sends a program, to be looked at by `check`, or drawn by `draw`.
-export function upload(what, file) {
+// Sends a program, to be looked at by `check`, or drawn by `draw`; `answers` are what a person said of it.
+export function upload(what, file, answers = {}) {
   if (file.size > MOST_BYTES) {
     throw new Error(`${file.size.toLocaleString('en')} bytes: a program has at most 131,072, on a large device `
       + '1,048,576. ngc-split parts it.');
   }
-  const name = encodeURIComponent(file.name);
-  const headers = { 'Content-Type': 'application/octet-stream', 'X-Page': page, 'X-Name': name };
-  return answered(fetch(what, { method: 'POST', body: file, headers }));
+  return send(what, file, { 'X-Name': encodeURIComponent(file.name), 'X-Answers': JSON.stringify(answers) });
+}
+
+// Asks for the drawing of a program that was looked at.
+export const drawChecked = id => send('draw', '', { 'X-Checked': id });
+
+function send(what, body, more) {
+  const headers = { 'Content-Type': 'application/octet-stream', 'X-Page': page, ...more };
+  return answered(fetch(what, { method: 'POST', body, headers }));
 }
 
 export const get = what => answered(fetch(what));

@@ -1,48 +1,100 @@
 // A program is looked at before it is loaded: where it goes, which is drawn first, what ngc refuses, with carets, and
 // what is dangerous.
-import { counted, el, grouped, micrometres, zeroOf } from './dom.js';
+import { changed, needed } from './adapting.js';
+import { counted, el, grouped, micrometres, text, zeroOf } from './dom.js';
 import { Job } from './job.js';
-import { upload } from './link.js';
+import { drawChecked, post, upload } from './link.js';
 import * as sheet from './sheet.js';
 import { Sight } from './sight.js';
 
-export async function load(file, app, asks) {
-  const sight = new Sight();
-  const parts = sheet.open(`Load ${file.name}`, [sheet.soft('ngc looks at each line\u2026')],
-    [sheet.gap(), sheet.button('Back', sheet.close)], sight.box);
+const AGAIN_MS = 250;
+const DOES = {
+  adapt: () => 'ngc refuses it as it is; it is tried as ngc-adapt writes it\u2026',
+  lines: told => `Line ${grouped(told.done)} of ${grouped(told.of)} is looked at\u2026`,
+  warnings: () => 'No line is refused; what may be meant otherwise is looked for\u2026',
+};
+
+export async function load(file, app, asks, answers = {}) {
+  const sight = new Sight(), wait = waiting();
+  const cancel = () => {
+    wait.end();
+    post('uncheck').catch(() => {});
+    sheet.close();
+  };
+  const back = sheet.button('Cancel', cancel);
+  const parts = sheet.open(`Load ${file.name}`, [wait.box], [sheet.gap(), back], sight.box);
   sight.look(true);
-  draw(file, app, sight.picture);
+  draw(() => upload('draw', file), app, sight.picture);
   try {
-    const found = await upload('check', file);
-    const size = sheet.soft(`${grouped(found.bytes)} bytes, ${counted(found.count, 'line')}`);
-    parts.words.replaceChildren(size, verdict(found), ...found.refusals.map(refusal), ...found.warnings.map(warning));
-    parts.foot.append(loading(found, asks));
+    const found = await upload('check', file, answers);
+    if (wait.isOver || found.ended) return;
+    show(found, parts, asks, answers, again => load(file, app, asks, again));
+    if (found.adapted && !found.adapted.needs.length) draw(() => drawChecked(found.id), app, sight.picture);
   } catch (error) {
+    if (wait.isOver) return;
     parts.words.replaceChildren(sheet.warning(error.message, 'bad'));
   }
+  wait.end();
+  back.textContent = 'Back';
+}
+
+// How far the check is, asked for again and again.
+function waiting() {
+  const says = sheet.soft('ngc looks at each line\u2026'), bar = el('i');
+  const wait = { box: el('div', {}, says, el('div', { class: 'track' }, bar)), isOver: false };
+  const look = async () => {
+    const { told } = await post('checking').catch(() => ({}));
+    if (!told || wait.isOver) return;
+    text(says, DOES[told.what](told));
+    bar.style.width = `${100 * told.done / told.of}%`;
+  };
+  const timer = setInterval(look, AGAIN_MS);
+  wait.end = () => {
+    wait.isOver = true;
+    clearInterval(timer);
+  };
+  return wait;
+}
+
+function show(found, parts, asks, answers, again) {
+  const { adapted } = found, size = sheet.soft(`${grouped(found.bytes)} bytes, ${counted(found.count, 'line')}`);
+  const needs = adapted?.needs.length > 0;
+  const adapt = sheet.go('Adapt', () => again(adapt.answers), false);
+  const ready = given => {
+    adapt.answers = given;
+    adapt.disabled = given === null;
+  };
+  const asked = needs ? [sheet.warning('As it is, ngc refuses this file. Before it can be adapted, say what these '
+    + 'lines are to do.'), ...needed(adapted, answers, ready)] : [];
+  const changes = adapted && !needs ? changed(adapted) : [];
+  parts.words.replaceChildren(...[size, needs ? null : verdict(found), ...asked, ...changes,
+    ...found.refusals.map(refusal), ...found.warnings.map(warning)].filter(Boolean));
+  if (!found.unreadable) parts.foot.append(needs ? adapt : loading(found, asks));
 }
 
 // What can't be drawn stays away: what is wrong with it is told beside it.
-async function draw(file, app, picture) {
+async function draw(asked, app, picture) {
   const { state, travel } = app;
   picture.zero(zeroOf(state));
   picture.at(0, -1, 0, micrometres(state.motors ?? state.at));
   picture.show(app.preview = null, travel);
   try {
-    app.preview = new Job(await upload('draw', file));
+    app.preview = new Job(await asked());
     picture.show(app.preview, travel);
   } catch { /* the path stays away */ }
 }
 
-function verdict({ refusals, warnings, more, unreadable }) {
+function verdict({ refusals, warnings, more, unreadable, adapted }) {
   if (unreadable) return sheet.warning(unreadable, 'bad');
   if (refusals.length) {
     const count = new Set(refusals.map(one => one.line)).size; // a line may have several faults
-    return sheet.warning(`${counted(count, 'line')} refused${more ? ', and more' : ''}. A refused line stops the `
-      + 'program there. Mend these, and load it again.', 'bad');
+    const still = adapted ? 'Adapted, still ' : '';
+    return sheet.warning(`${still}${counted(count, 'line')} refused${more ? ', and more' : ''}. A refused line stops `
+      + 'the program there. Mend these, and load it again.', 'bad');
   }
-  if (!warnings.length) return sheet.warning('No line is refused, and there are no warnings.', 'fine');
-  return sheet.warning(`No line is refused. ${counted(warnings.length, 'warning')}: what is valid may be meant `
+  const none = adapted ? 'Adapted, no line is refused' : 'No line is refused';
+  if (!warnings.length) return sheet.warning(`${none}, and there are no warnings.`, 'fine');
+  return sheet.warning(`${none}. ${counted(warnings.length, 'warning')}: what is valid may be meant `
     + 'otherwise.');
 }
 
@@ -59,10 +111,11 @@ function warning(one) {
 }
 
 function loading(found, asks) {
-  const isRefused = found.refusals.length > 0;
+  const isRefused = found.refusals.length > 0, does = found.adapted ? 'Adapt and load' : 'Load';
   const give = () => {
     sheet.close();
     asks('load', { id: found.id });
   };
-  return isRefused ? sheet.button('Load it all the same', give) : sheet.go('Load', give);
+  if (!isRefused) return sheet.go(does, give);
+  return sheet.button(found.adapted ? `${does} all the same` : 'Load it all the same', give);
 }

@@ -1,20 +1,25 @@
-// What was said, newest first. A refusal is shown for a while over the page too.
+// What was said, newest first. What is refused and what is warned of is shown where the finger was too.
 import { $, clock, el } from './dom.js';
+import { notice } from './notice.js';
 
-const MOST = 400, SEEN_MS = 8000;
+const MOST = 400;
 
 export class Log {
   constructor() {
     this.last = 0;
     this.entries = [];       // the newest ones, with their numbers
+    this.isNew = false;      // what was said before the page came isn't news
   }
 
-  show(entries) {
+  // What is of the kinds `noticed` is shown where the finger was.
+  show(entries, noticed) {
     for (const entry of entries.filter(one => one.id > this.last)) {
       this.last = entry.id;
       this.entries = [...this.entries.slice(1 - MOST), entry];
       this.add(entry.kind, entry.text, new Date(entry.at * 1000));
+      if (this.isNew && noticed.includes(entry.kind)) notice(entry.text, entry.kind);
     }
+    this.isNew = true;
   }
 
   add(kind, says, at = new Date()) {
@@ -32,9 +37,6 @@ export class Log {
   // Says why something that was asked for here isn't done.
   refuse(says) {
     this.add('refused', says);
-    $('toast').textContent = says;
-    $('toast').hidden = false;
-    clearTimeout(this.timer);
-    this.timer = setTimeout(() => { $('toast').hidden = true; }, SEEN_MS);
+    notice(says, 'refused');
   }
 }

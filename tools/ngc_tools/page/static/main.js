@@ -1,6 +1,6 @@
 // The page: what the server says is shown, what people touch is asked. It decides nothing.
 import { Alarm } from './alarm.js';
-import { $, el, grouped, lasting, micrometres, point, text, zeroOf } from './dom.js';
+import { $, el, grouped, lasting, micrometres, mm, point, text, zeroOf } from './dom.js';
 import { Job, TRAVERSE } from './job.js';
 import { connect, get, post } from './link.js';
 import { load } from './loader.js';
@@ -13,11 +13,12 @@ import { Recovery } from './recovery.js';
 import { Setup } from './setup.js';
 import * as sheet from './sheet.js';
 import * as sight from './sight.js';
+import { dead, means, rest } from './steady.js';
 import * as tools from './tools.js';
 import { lostOf } from './ways.js';
 
 const app = {
-  state: null, job: null, neverCut: null, travel: null, programId: null, jobId: null, failed: '', asked: 0,
+  state: null, job: null, neverCut: null, travel: null, programId: null, jobId: null, failed: '', asked: '',
   preview: null,
 };
 window.ngc = app; // for who looks at the page from outside, as tests do
@@ -25,14 +26,15 @@ window.ngc = app; // for who looks at the page from outside, as tests do
 const log = new Log();
 const program = new Program();
 const readout = new Readout(asks);
-const setup = new Setup(asks);
+const setup = new Setup(asks, readout);
 const picture = new Picture($('canvas'), (um, px) => {
   text($('scale'), um >= 1000 ? `${grouped(um / 1000)} mm` : `${um} µm`);
   $('scale').style.width = `${px}px`;
 });
 const recovery = new Recovery(app, asks, log);
 const alarm = new Alarm(asks, () => { if (recovery.isOpen) recovery.later(); });
-Object.assign(app, { picture, program, readout });
+Object.assign(app, { picture, program, readout, dead });
+$('run').addEventListener('click', () => rest($('run'))); // the second tap of two means nothing
 
 // Asks the server for something. Gives its answer, or null where it isn't done; `refused` is told why.
 async function asks(what, body, refused = why => log.refuse(why)) {
@@ -53,17 +55,19 @@ function show(s) {
     location.reload(); // what is on the page is of another session
     return;
   }
+  if (app.state && app.state.program.id !== s.program.id) letGoOfJob();
   app.state = s;
   app.isRest = !s.busy && s.half === 'none' && !s.ended && s.yours && !s.player_gone;
-  app.isIdle = app.isRest && ['idle', 'stopped'].includes(s.does);
+  app.isFree = s.yours && !s.ended && !s.player_gone && !s.alarm && !s.broken; // settings are taken
+  app.isIdle = app.isRest && app.isFree && ['idle', 'stopped'].includes(s.does) && !s.recover?.left;
   showWords(s);
   showControls(s);
   const reached = progress(s);
   readout.show(s, rate(s, reached));
-  program.follow(s.line, s.busy || s.half === 'program', s.finished);
-  setup.show(s, app.isIdle);
+  program.follow(s.line, s.busy && !s.does_move || s.half === 'program', s.finished);
+  setup.show(s, app.isIdle && !s.apart.some(Boolean));
   tools.show(s, app.isIdle, asks);
-  log.show(s.log);
+  log.show(s.log, noticed(s));
   recovery.show(s);
   alarm.show(s);
   showQuestion(s);
@@ -73,12 +77,19 @@ function show(s) {
   fetchNew(s);
 }
 
+// What is seen beside the finger: a question shows by itself what was said before it, the band an alarm, and the sheet
+// after a loss of power what was never cut.
+function noticed(s) {
+  if (!s.yours || s.question) return [];
+  return s.alarm ? ['refused'] : ['refused', 'warning'];
+}
+
 function showWords(s) {
   document.body.dataset.tone = s.tone;
   text($('word'), s.word);
   text($('detail'), s.word === 'Question' ? question.short(s.question) : s.detail);
   document.title = `${s.word} \u2013 ngc`;
-  document.body.classList.toggle('blind', Boolean(s.player_gone || s.ended));
+  document.body.classList.toggle('blind', Boolean(s.stale));
   const others = s.pages - 1;
   const watched = others > 0 ? `${others} more page${others > 1 ? 's' : ''}` : '';
   text($('role'), s.yours ? watched : 'This page watches');
@@ -89,37 +100,78 @@ function showControls(s) {
   $('load').disabled = !app.isIdle;
   $('quit').disabled = s.busy || !s.yours;
   $('restart').hidden = !(s.yours && !s.over && (s.ended || s.broken));
-  for (const one of [$('line'), $('do')]) one.disabled = !(app.isRest && s.does !== 'broken');
+  $('line').disabled = !(app.isRest && app.isFree && !s.recover?.left);
+  enableDo();
   $('hold').disabled = Boolean(s.ended);
+  $('stop').disabled = !(s.yours && s.can.stop);
+  $('rewind').hidden = !(s.yours && s.can.rewind);
+  showOff(s);
   for (const name of ['single', 'optional', 'delete']) {
     $(name).setAttribute('aria-checked', String(Boolean(s[name])));
-    $(name).disabled = !s.yours;
+    $(name).disabled = !app.isFree;
   }
   const [says, isEnabled, does] = running(s);
   text($('run'), says);
+  means($('run'), says);
   $('run').disabled = !isEnabled;
   $('run').onclick = does;
+}
+
+// What is on can be switched off while the motors stand.
+function showOff(s) {
+  const on = [s.spindle && 'spindle', (s.mist || s.flood) && 'coolant'].filter(Boolean).join(' and ');
+  $('off').hidden = !on || s.player_gone || s.ended;
+  $('off').disabled = !(s.yours && s.can.off);
+  text($('off'), `${on.charAt(0).toUpperCase()}${on.slice(1)} off`);
+}
+
+// A line has to be there.
+function enableDo() {
+  $('do').disabled = $('line').disabled || !$('line').value.trim();
 }
 
 // What the large button does now.
 function running(s) {
   const isHalf = s.half !== 'none' && !s.busy && s.does === 'idle';
-  if (s.waits) return [s.waits_tool ? `Tool ${s.waits_tool} is in` : 'Tool is out', s.yours, () => asks('go')];
   if (s.question) return ['Answer first', false, null];
   if (s.alarm) return alarm.button(s);
+  if (s.waits) return [s.waits_tool ? `Tool ${s.waits_tool} is in` : 'Tool is out', s.yours, () => asks('go')];
+  if (s.door_open && s.held_by && !isHalf) return ['Close the door', false, null];
+  if (s.busy && s.held_by && s.held_by !== 'here') return ['Go on', s.yours, () => asks('release')];
   if (isHalf) return ['Recover', s.yours && !recovery.isOpen, () => recovery.begin()];
   if (s.player_gone) return ['Run', false, null];
   if (s.recover?.left && !s.busy && s.half === 'none') return ['Recover', s.yours, takeUpLines];
-  if (s.held_motors && s.does !== 'held' && !s.busy) return ['Let go on', s.yours, () => asks('release')];
+  if (s.held_motors && s.behind && s.does !== 'held' && !s.busy) return ['Go on', s.yours, () => asks('release')];
   if (s.does === 'held') return ['Continue', s.yours && !s.busy, run];
+  if (s.apart.some(Boolean) || isNowhere(s)) return ['Where is it?', app.isRest, whereIsIt];
   if (s.does === 'stopped') return ['Continue', app.isRest, () => (s.typed ? goOn(s, 'Continue') : run())];
   if (s.place > 0 && !s.busy) return [`Run from ${s.line}`, app.isRest && s.known, () => goOn(s, `Run from ${s.line}`)];
   return ['Run', app.isRest && s.known && s.program.lines > 0 && !app.job?.refused, run];
 }
 
+// Nothing is half-done, and nobody told since where the machine is: as after a line was given up.
+const isNowhere = s => !s.known && s.half === 'none' && ['idle', 'stopped'].includes(s.does) && Boolean(s.motors);
+
+// The motors rest at another place than where ngc takes them to be: as after power was lost in a jog.
+function whereIsIt() {
+  const s = app.state, hasHome = s.machine !== null && s.homes !== '';
+  const off = s.past_mm ? `, \u00b1 ${mm(s.past_mm)} mm` : '';
+  const does = (what, body) => () => { sheet.close(); asks(what, body); };
+  sheet.open('Where is the machine?', [
+    sheet.warning(`${s.known ? 'Two places are told' : 'The player alone tells a place'}. Look at the machine: a line `
+      + 'goes from the one that is true.'),
+    sheet.facts([['The player counts', sheet.code(point(s.motors))],
+      ['The last line ended at', s.known && sheet.code(point(s.at))]]),
+    s.past && sheet.said(`By the player\u2019s record. ${s.past}; and a motor that turned went on for a while.`),
+    hasHome && sheet.said('Where steps may be lost, as after a loss of power, home it.')],
+  [sheet.button('Back', sheet.close), sheet.gap('Nothing moves by the first.'),
+    sheet.button(`Where the player counts${off}`, does('reference', { at: 'player' })),
+    hasHome ? sheet.go('Home all', does('home', { axes: '' })) : '']);
+}
+
 // A question that isn't of the recovery comes as a sheet of its own.
 function showQuestion(s) {
-  const id = s.question?.id ?? 0;
+  const id = s.question ? `${s.question.id} ${s.yours}` : '';
   if (recovery.isOpen || id === app.asked) return;
   if (!id) {
     sheet.close();
@@ -134,6 +186,7 @@ function showQuestion(s) {
 // Where the program is, in the picture, the bar and the times. Gives the step that the motors are on.
 function progress(s) {
   const { job } = app, motors = micrometres(s.motors ?? s.at), place = job ? job.place(s) : { done: 0, now: -1 };
+  if (s.does_move) place.now = -1; // no line is under way
   const ahead = 1000 * (s.behind_mm ?? 2) + 1000;
   const reached = place.now >= 0 ? job.reached(place.now, motors, ahead) : { step: -1, share: 0, part: 1 };
   const done = place.now >= 0 ? reached.step : place.done;
@@ -162,7 +215,7 @@ function showTimes(s, done, share) {
 
 // How fast the motors go, by the step that they are on.
 function rate(s, { step }) {
-  if (!app.job || step < 0 || !s.busy || s.half === 'none' || s.held_motors) return null;
+  if (!app.job || step < 0 || !s.busy || s.half === 'none' || s.held_motors || s.does_move) return null;
   const mean = app.job.rate(step) * (s.percent ?? 100) / 100;
   return mean ? { feed: mean, isTraverse: app.job.kind[step] === TRAVERSE } : null;
 }
@@ -180,6 +233,14 @@ async function fetchOnce(name, id, what, shows) {
   const got = await get(what).catch(() => null);
   if (app[name] !== id) return;
   if (got) shows(got); else app[name] = null;
+}
+
+// What was drawn is of another program.
+function letGoOfJob() {
+  Object.assign(app, { job: null, jobId: null, failed: '', neverCut: null });
+  picture.lost = [];
+  $('never-cut').hidden = true;
+  picture.show(null, app.travel);
 }
 
 function showJob(got) {
@@ -231,8 +292,21 @@ function hold() {
   asks('hold');
 }
 
-$('hold').addEventListener('pointerdown', event => { event.preventDefault(); hold(); });
-$('hold').addEventListener('click', event => { if (event.detail === 0) hold(); }); // by the keyboard
+function stop() {
+  setup.jog.stop();
+  asks('stop');
+}
+
+for (const [name, does] of [['hold', hold], ['stop', stop]]) {
+  $(name).addEventListener('pointerdown', event => {
+    event.preventDefault();
+    if (!$(name).disabled) does();
+  });
+  $(name).addEventListener('click', event => { if (event.detail === 0) does(); }); // by the keyboard
+}
+$('off').onclick = () => asks('off');
+$('rewind').onclick = () => sheet.ask('From line 1?', [sheet.said('The program begins anew at its first line, as if it '
+  + 'were loaded again. Nothing moves yet.')], 'From line 1', () => asks('rewind'));
 document.addEventListener('keydown', event => {
   const isTyping = event.target.closest?.('input') && !event.target.disabled;
   if (event.code !== 'Space' || event.repeat || isTyping && !app.state?.busy) return;
@@ -247,13 +321,16 @@ $('restart').onclick = () => asks('restart');
 let typed = ''; // the last line, for the key that goes up
 $('line').addEventListener('keydown', event => {
   if (event.key === 'ArrowUp' && typed) $('line').value = typed;
+  enableDo();
 });
+$('line').addEventListener('input', enableDo);
 $('typed').addEventListener('submit', async event => {
   event.preventDefault();
   const line = $('line').value.trim();
   if (!line || !await asks('mdi', { line })) return;
   typed = line;
   $('line').value = '';
+  enableDo();
 });
 for (const name of ['single', 'optional', 'delete']) {
   $(name).onclick = () => asks('switch', { name, on: $(name).getAttribute('aria-checked') !== 'true' });

@@ -17,21 +17,38 @@ function read(question) {
 // Its last sentence.
 export const short = question => read(question).says.split(/(?<=[.?!]) /).pop() || 'Go on?';
 
-// The parts of a sheet for a question: what was said before it, its text, an entry where a number is asked for, and the
-// buttons.
+// The parts of a sheet for a question: what was said before it, its text, an entry where a number is asked for, what is
+// to be looked at, and the buttons. What was ticked stays on the sheet alone: whoever sees it anew looks anew.
 export function parts(question, said, canAnswer, asks) {
   const { says, yes, no, isTool } = read(question), before = says ? said : said.slice(0, -1);
   const content = [sheet.lines(before), el('p', { class: 'asked' }, says || said.at(-1) || 'Go on?')];
   const answer = what => asks('answer', { question: question.id, ...what });
   const refuse = sheet.button(no, () => answer({ yes: false }), canAnswer);
-  if (question.kind !== 'yes' && !isTool) return entry(content, refuse, canAnswer, answer);
+  if (question.purpose === 'look') return looked(question, says, yes, refuse, canAnswer, answer);
+  if (question.kind !== 'yes' && !isTool) return entry(question, content, refuse, canAnswer, answer);
   const agree = sheet.go(yes, () => answer(isTool ? { text: 'go' } : { yes: true }), canAnswer);
   return { content, buttons: [refuse, agree] };
 }
 
-function entry(content, refuse, canAnswer, answer) {
-  const input = el('input', { inputMode: 'decimal', disabled: !canAnswer, 'aria-label': 'Answer' });
-  const give = sheet.go('Go on', () => answer({ text: typedNumber(input.value) }), false);
+// What somebody has to have looked at before anything moves: each is touched.
+function looked(question, says, yes, refuse, canAnswer, answer) {
+  const seen = question.looks.map(() => false);
+  const agree = sheet.go(yes, () => answer({ yes: true, seen: seen.filter(Boolean).length }), false);
+  const look = i => event => {
+    seen[i] = !seen[i];
+    event.currentTarget.setAttribute('aria-pressed', String(seen[i]));
+    agree.disabled = !(canAnswer && seen.every(Boolean));
+  };
+  const looks = question.looks.map((one, i) => el('button', { 'aria-pressed': 'false', disabled: !canAnswer,
+    onclick: look(i) }, one));
+  const content = [sheet.title(`${says.split('. ')[0]}. Look:`), el('div', { class: 'look' }, ...looks)];
+  return { content, buttons: [refuse, agree] };
+}
+
+function entry(question, content, refuse, canAnswer, answer) {
+  const value = /Nothing takes ([\d.]+):\s*$/.exec(question.text)?.[1] ?? '';
+  const input = el('input', { value, inputMode: 'decimal', disabled: !canAnswer, 'aria-label': 'Answer' });
+  const give = sheet.go('Go on', () => answer({ text: typedNumber(input.value) }), canAnswer && value !== '');
   input.addEventListener('input', () => { give.disabled = !canAnswer || typedNumber(input.value) === null; });
   return { content: [...content, el('div', { class: 'entry' }, input)], buttons: [refuse, give] };
 }

@@ -1,8 +1,8 @@
 // Where the machine is, what turns and flows, how fast it goes: as the motors have it where a player tells it.
-import { $, AXES, el, grouped, mm, systemName, text } from './dom.js';
+import { $, AXES, el, grouped, lasting, mm, systemName, text } from './dom.js';
 
 const TURNS = ['', '\u21bb', '\u21ba'];
-const APART_MM = 0.0006;
+const INCH_MM = 25.4;
 
 export class Readout {
   // `asks` sends a request: asks('percent', {percent}).
@@ -11,15 +11,28 @@ export class Readout {
     this.spindle = new Override($('spindle-override'), 'Spindle', percent => asks('spindle', { percent }));
     this.axes = AXES.map(axis => this.axis(axis));
     this.gauges = Object.fromEntries(['Feed', 'Spindle', 'Coolant', 'Tool'].map(name => [name, this.gauge(name)]));
+    this.isInch = localStorage.unit === 'in';
     window.addEventListener('resize', () => this.fit());
   }
 
+  // Chooses the unit of the readout, for this browser.
+  choose(isInch) {
+    this.isInch = isInch;
+    localStorage.unit = this.unit;
+    this.show(...this.shown);
+  }
+
+  // A length in the unit that is chosen.
+  length(millimetres) { return this.isInch ? mm(millimetres / INCH_MM, 4) : mm(millimetres); }
+
+  get unit() { return this.isInch ? 'in' : 'mm'; }
+
   axis(name) {
     const work = el('output', {}, '\u2013'), at = el('b'), motors = el('b'), atName = el('span', {}, 'machine');
-    const motorsBox = el('span', {}, 'motors ', motors);
-    $('axes').append(el('div', { class: 'axis' }, el('b', {}, name), work,
+    const motorsBox = el('span', {}, 'motors ', motors), unit = el('small');
+    $('axes').append(el('div', { class: 'axis' }, el('b', {}, name, unit), work,
       el('div', {}, el('span', {}, atName, ' ', at), motorsBox)));
-    return { work, at, motors, atName, motorsBox };
+    return { work, at, motors, atName, motorsBox, unit };
   }
 
   gauge(name) {
@@ -29,15 +42,17 @@ export class Readout {
   }
 
   show(s, rate) {
+    this.shown = [s, rate];
     this.axes.forEach((axis, i) => this.showAxis(axis, s, i));
     this.fit();
     this.showGauges(s, rate);
-    const isFree = s.yours && !s.player_gone && !s.ended;
+    const isFree = s.yours && !s.player_gone && !s.ended && !s.alarm && !s.broken;
     this.feed.show(s.has_percent ? s.percent : null, s.most_percents[0], isFree);
     this.spindle.show(s.spindle_percent ?? null, s.most_percents[1], isFree);
     this.showRisk(s);
     const words = [systemName(s.system), `G${s.distance}`, `G${s.unit}`, `G${s.plane}`, `G${s.feed_mode}`];
-    text($('modes'), words.join(' ') + (Number(s.tool_length) ? `  length ${mm(s.tool_length)}` : ''));
+    const length = Number(s.tool_length) ? `  length ${this.length(s.tool_length)} ${this.unit}` : '';
+    text($('modes'), words.join(' ') + length);
   }
 
   // Makes the numbers as large as the longest lets them be, all three alike.
@@ -53,21 +68,25 @@ export class Readout {
 
   showAxis(axis, s, i) {
     const isHalf = s.half !== 'none';
-    text(axis.work, mm(s.work[i]));
+    text(axis.unit, this.unit);
+    axis.unit.classList.toggle('apart', this.isInch !== (s.unit === 20)); // the program's is another one
+    text(axis.work, s.work ? this.length(s.work[i]) : '\u2013');
     text(axis.atName, isHalf ? 'line began at' : 'machine');
-    text(axis.at, mm(s.at[i]));
+    text(axis.at, this.length(isHalf ? s.began_at[i] : s.at[i]));
     axis.motorsBox.hidden = !s.motors;
     if (!s.motors) return;
-    text(axis.motors, mm(s.motors[i]));
-    const isApart = Math.abs(s.motors[i] - s.at[i]) > APART_MM;
-    axis.motorsBox.classList.toggle('apart', !s.busy && !isHalf && isApart);
+    text(axis.motors, this.length(s.motors[i]));
+    axis.motorsBox.classList.toggle('apart', s.apart[i]);
   }
 
   showGauges(s, rate) {
     const { gauges } = this, length = s.tools[s.slot - 1];
-    if (rate) fill(gauges.Feed, grouped(Math.round(rate.feed)), rate.isTraverse ? 'mm/min traverse' : 'mm/min');
-    else fill(gauges.Feed, s.feed ? grouped(s.feed) : '\u2013', s.feed ? 'set' : '', true);
-    fill(gauges.Tool, s.slot ? `T${s.slot}` : 'none', s.slot && length ? `${mm(length)} mm` : '', !s.slot);
+    const feed = millimetres => (this.isInch ? grouped(Number((millimetres / INCH_MM).toFixed(2)))
+      : grouped(Math.round(millimetres))), each = `${this.unit}/min`;
+    if (rate) fill(gauges.Feed, feed(rate.feed), rate.isTraverse ? `${each} traverse` : each);
+    else fill(gauges.Feed, s.feed ? feed(s.feed) : '\u2013', s.feed ? `${each} set` : '', true);
+    fill(gauges.Tool, s.slot ? `T${s.slot}` : 'none', s.slot && length ? `${this.length(length)} ${this.unit}` : '',
+      !s.slot);
     if (s.player_gone) {
       fill(gauges.Spindle, 'not known', '', true);
       fill(gauges.Coolant, 'not known', '', true);
@@ -76,14 +95,17 @@ export class Readout {
     const speed = grouped(s.speed), percent = s.spindle_percent ?? 100;
     const times = percent === 100 ? '/min' : `\u00d7 ${percent} %`;
     if (s.spindle) fill(gauges.Spindle, `${TURNS[s.spindle]} ${speed}`, times);
-    else fill(gauges.Spindle, 'off', s.speed ? `set ${speed}` : '', true);
+    else fill(gauges.Spindle, 'off', s.again ? 'by hand' : s.speed ? `set ${speed}` : '', true);
     const flows = [s.mist && 'mist', s.flood && 'flood'].filter(Boolean);
     fill(gauges.Coolant, flows.join(' + ') || 'off', '', !flows.length);
   }
 
-  // What a loss of power would cost now: lines that were handed out, and that no motor has carried out.
+  // What a loss of power would cost now: lines that were handed out, and that no motor has carried out. Of a place that
+  // isn't known any more, since when.
   showRisk(s) {
-    text($('risk'), s.behind === null || s.behind === undefined ? '' : `A loss of power costs ${cost(s)}`);
+    const costs = s.behind === null || s.behind === undefined ? '' : `A loss of power costs ${cost(s)}`;
+    text($('risk'), s.stale ? known(s) : costs);
+    $('risk').classList.toggle('stale', Boolean(s.stale));
   }
 }
 
@@ -117,6 +139,16 @@ function fill(box, value, small = '', isOff = false) {
   box.dataset.key = key;
   box.className = isOff ? 'off' : '';
   box.replaceChildren(value, small && el('small', {}, small));
+}
+
+// Of a place that isn't known any more, since when, and by whom it was told.
+function known(s) {
+  if (!s.stale) return '';
+  const { why, at } = s.stale, age = at ? `${lasting(1e6 * Math.max(0, s.now - at))} ago` : '';
+  if (why === 'alarm') return 'As counted before the alarm: home tells where it is';
+  if (why === 'player') return at ? `Last known ${age}` : 'Nobody told where it is';
+  return s.motors ? `By the record of the player; the device was written ${age}`
+    : `Before the line that was cut off; the device was written ${age}`;
 }
 
 function cost(s) {

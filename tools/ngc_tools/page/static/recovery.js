@@ -10,12 +10,12 @@ const NAMES = ['Stored', 'Where it stands', 'Rehearsal', 'Step by step'];
 const AT_ANY_MOMENT = 'Hold and the space bar work at any moment.';
 const SAID = ['said', 'warning', 'refused'];
 const CHOICES = {
-  along: ['Go along the path', 'moves the tool along its very path to where the segment begins. Each step is asked '
-    + 'before it is done.'],
-  legs: ['Go by legs', 'asks for a height, and goes straight up to it, over, and straight down to where the segment '
-    + 'begins.'],
-  straight: ['Resume in one line', 'switches spindle and coolant on as they were, and stops before it moves. You look, '
-    + 'and then the tool goes in one straight line to where the segment begins.'],
+  along: ['Go along the path', 'moves the tool along its very path to where the segment begins, back at the feed that '
+    + 'was cut off at most.'],
+  legs: ['Go by legs', 'asks for a height and a feed, and goes straight up to it, over, and straight down at that feed '
+    + 'to where the segment begins.'],
+  straight: ['Resume in one line', 'goes in one straight line to where the segment begins, at the feed that was cut '
+    + 'off or a slower one; without a player at the traverse rate.'],
   giveUp: ['Give up', 'moves and switches nothing. The line counts as not begun, and the program stays before it. Then '
     + 'the tool is freed by lines of G-code.'],
 };
@@ -24,7 +24,7 @@ export class Recovery {
   // `app` has the state and the job; `asks` sends a request, and gives its answer, or null, where it can be told who is
   // to hear why; `log` knows what was said.
   constructor(app, asks, log) {
-    Object.assign(this, { app, asks, log });
+    Object.assign(this, { app, asks, log, isHoming: false });
     this.isOpen = false;
     this.isLater = false;    // somebody put it off
     this.again = sheet.button('Rehearse again', () => this.rehearseStored());
@@ -56,8 +56,18 @@ export class Recovery {
     this.close();
   }
 
+  // Home comes first, and then the steps once more.
+  homeFirst() {
+    this.later();
+    sheet.ask('Home all axes?', [sheet.said('Each goes to its switch, in the order of the machine\u2019s file. Where '
+      + 'the tool stands in the work, free it by hand first. Then come these steps again.')], 'Home', async () => {
+      this.isHoming = await this.asks('home', { axes: '' }) !== null;
+    });
+  }
+
   // The session goes on meanwhile: what is shown follows it.
   show(s) {
+    if (this.isHoming && !s.busy && s.homed) Object.assign(this, { isHoming: false, isLater: false });
     if (!this.isOpen) return;
     const isOver = !s.busy && s.half === 'none' || s.moving;
     if (s.ended || isOver && !s.question) {
@@ -177,10 +187,13 @@ export class Recovery {
     return [sheet.title('Everything that was acknowledged is still there'),
       sheet.lead(state.half_text.trim() || '(no text)'),
       sheet.facts([['Stored', `${grouped(state.entries)} entries: each is there`], ['Half-done', half],
-        ['Under way', `${way} ${state.segment + 1} of that line`],
+        ['Under way', `${way} ${state.segment} of that line, counted from 0`],
         ['It begins at', found?.begins?.length && sheet.code(point(found.begins))], ['Was on there', found?.comes_on],
         ['From there to the end', found?.rest_us && lasting(found.rest_us)]]),
       found ? found.refused && sheet.warning(found.refused, 'bad') : this.notRehearsed(),
+      state.given_back.length && sheet.said(`Given back, as it was: ${state.given_back.join(', ')}.`),
+      state.not_given_back.length && sheet.warning('Not given back, since the player doesn\u2019t take it: '
+        + `${state.not_given_back.join(', ')}.`, 'bad'),
       ...ways.neverCut(this.app.neverCut),
       sheet.soft('In the picture solid is done, amber was under way, pale is left. The amber segment is made again '
         + 'from its beginning.')];
@@ -196,7 +209,8 @@ export class Recovery {
   // ---- 2: where the machine stands
 
   second() {
-    const { state } = this.app, next = this.next('Next: rehearsal', () => this.rehearsal());
+    const { state } = this.app, isHomeFirst = Boolean(state.machine) && state.homes !== '' && !state.homed;
+    const next = (isHomeFirst ? sheet.button : sheet.go)('Next: rehearsal', () => this.rehearsal(), state.yours);
     const enable = () => { next.disabled = !(state.yours && this.sure.every(Boolean)); };
     const age = state.left_at ? ` The device was written last ${lasting(1e6 * (state.now - state.left_at))} ago.` : '';
     const past = state.past && `By the player\u2019s record. ${state.past}; and a motor that turned went on for a `
@@ -204,19 +218,22 @@ export class Recovery {
     this.put([sheet.title('Where does the machine stand now?'),
       sheet.said('Machine coordinates in mm. Look at the machine, and confirm each axis.'),
       ...AXES.map((_, i) => this.confirm(i, enable)),
-      state.machine && sheet.said('Where steps may be lost, choose Back and Later, and home the machine: Setup.'),
+      isHomeFirst && sheet.warning('Home first: a motor that turned as its power was lost may be elsewhere than the '
+        + 'record says, and the rest of the job would keep that offset.'),
       sheet.soft(`${past}If you freed the tool by hand, write where it is now.${age}`)],
-    [this.back(0), sheet.gap(), next]);
+    [this.back(0), sheet.gap(), next, isHomeFirst && sheet.go('Home first', () => this.homeFirst(), state.yours)]);
     enable();
   }
 
   confirm(i, changed) {
     const { state } = this.app, button = el('button');
+    const isRecord = () => state.past_mm && Number(this.at[i]) === Number(state.motors?.[i]);
+    const off = () => (isRecord() ? `, \u00b1 ${mm(state.past_mm)} mm` : '');
     const input = el('input', { value: this.at[i], inputMode: 'decimal', 'aria-label': `Machine ${AXES[i]}` });
     const set = isSure => {
       this.sure[i] = isSure && typedNumber(input.value) !== null;
       button.setAttribute('aria-pressed', String(this.sure[i]));
-      button.textContent = this.sure[i] ? '\u2713 It is there' : 'Confirm';
+      button.textContent = `${this.sure[i] ? '\u2713 There' : 'Confirm'}${off()}`;
       changed();
     };
     button.onclick = () => set(!this.sure[i]);
@@ -228,7 +245,7 @@ export class Recovery {
     set(this.sure[i]);
     const record = state.motors ? `the record says ${mm(state.motors[i])}` : 'no player is known: measure it';
     return el('div', { class: 'confirm' }, el('b', {}, AXES[i]), input, button,
-      el('small', {}, `${record}; before the line ${mm(state.at[i])}`));
+      el('small', {}, `${record}; before the line ${mm(state.began_at[i])}`));
   }
 
   // ---- 3: a rehearsal
@@ -272,28 +289,7 @@ export class Recovery {
   questioned(state) {
     const said = this.log.since(state.command?.since ?? 0, SAID);
     const { content, buttons } = question.parts(state.question, said, state.yours, this.asks);
-    if (state.question.purpose !== 'look') {
-      this.put(content, [sheet.gap(AT_ANY_MOMENT), ...buttons]);
-      return;
-    }
-    this.put([sheet.title('The outputs are switched, and nothing has moved. Look:'), this.looks(state, buttons[1])],
-      [sheet.gap(AT_ANY_MOMENT), ...buttons]);
-  }
-
-  // What somebody has to have looked at before it moves: each is touched.
-  looks(state, go) {
-    const says = [`Spindle and coolant are as they should be: ${this.plan?.comes_on ?? 'as they were'}`,
-      state.slot ? `Tool ${state.slot} is in the spindle, and it is sound` : 'The right tool is in, and it is sound',
-      'The way is free, and my hand is at Hold'];
-    const seen = says.map(() => false);
-    const look = i => event => {
-      seen[i] = !seen[i];
-      event.currentTarget.setAttribute('aria-pressed', String(seen[i]));
-      go.disabled = !(state.yours && seen.every(Boolean));
-    };
-    go.disabled = true;
-    return el('div', { class: 'look' },
-      ...says.map((one, i) => el('button', { 'aria-pressed': 'false', onclick: look(i) }, one)));
+    this.put(content, [sheet.gap(AT_ANY_MOMENT), ...buttons]);
   }
 
   onWay(state) {
@@ -303,7 +299,8 @@ export class Recovery {
 
   held() {
     this.put([sheet.title('Held'), sheet.warning('Spindle and coolant stay as they are: stop them yourself.'),
-      sheet.said('Continue goes on at once, without asking again. After Quit the line is still half-done.')],
+      sheet.said('Continue asks you to look once more, where nothing was cut yet. After Quit the line is still '
+        + 'half-done.')],
     [sheet.button('Close', () => this.later()), sheet.gap(), this.next('Continue', () => this.asks('run'))]);
   }
 
@@ -318,6 +315,7 @@ export class Recovery {
       CHOICES[name][0], does[name], this.app.state.yours));
     this.put([sheet.title('Take the line up, or give it up'),
       ...[...offered, 'giveUp'].map(name => sheet.said(el('b', {}, CHOICES[name][0]), ` ${CHOICES[name][1]}`)),
+      sheet.said('Before anything moves, spindle and coolant are switched on as they were, and you look.'),
       sheet.warning('Keep a hand at Hold, and the other at the emergency stop.')],
     [this.back(2), sheet.gap(), this.giveUp(), ...buttons]);
   }

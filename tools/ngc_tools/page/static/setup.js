@@ -2,14 +2,15 @@
 import { $, AXES, el, mm, point, systemName, text, typedNumber } from './dom.js';
 import { Jog } from './jog.js';
 import { button } from './sheet.js';
+import { means } from './steady.js';
 
 const SEEKS = [['X', 1], ['X', -1], ['Y', 1], ['Y', -1], ['Z', -1]];
 const SIGNS = { 1: '+', [-1]: '\u2212' };
 const SEEK_RATE = '60';      // mm a minute
 
 export class Setup {
-  constructor(asks) {
-    this.asks = asks;
+  constructor(asks, readout) {
+    Object.assign(this, { asks, readout });
     this.jog = new Jog(asks);
     this.homed = el('span');
     this.home = ['', ...AXES].map(axes => button(axes || 'Home all', () => asks('home', { axes })));
@@ -18,45 +19,70 @@ export class Setup {
     this.seeks = SEEKS.map(([axis, sign]) => button(axis + SIGNS[sign], () => this.seek(axis, sign)));
     this.system = el('span');
     this.value = entry('0', 'Work coordinate of this place, in mm');
-    this.byProbe = toggle('Where the probe was touched', () => flip(this.byProbe));
+    this.byProbe = toggle('Where the probe was touched', () => { flip(this.byProbe); this.showUsed(this.state); });
+    this.used = el('p', { class: 'hint' });
     this.zero = [...AXES, 'XY'].map(axes => button(`Set ${axes}`, () => this.sets(axes)));
     this.height = entry('', 'Machine Z of the setter, in mm');
+    this.height.addEventListener('input', () => this.showLength(this.state));
+    this.length = el('p', { class: 'hint' });
     this.setter = el('label', { class: 'entry-row' }, 'Setter at machine Z', this.height, 'mm');
     this.touch = button('', () => this.touchOff());
     this.undo = button('', () => asks('undo', {}));
-    this.loss = toggle('Job goes on if this page is lost', () => asks('loss', { goes: !isOn(this.loss) }));
+    this.inches = toggle('Readout in inches', () => { readout.choose(!readout.isInch); this.showUnit(); });
+    this.loss = toggle('Job goes on if this page is lost', () => asks('loss', { goes: !isChosen(this.loss) }));
     for (const one of [this.touch, this.undo]) one.className = 'wide';
+    this.why = el('p', { class: 'hint why' });
     this.parts = {
       home: part('Home', this.homed, el('div', { class: 'four' }, ...this.home)),
       jog: el('section', { class: 'part' }, this.jog.box),
       zero: part('Work zero', this.system, el('label', { class: 'entry-row' }, 'This place is', this.value, 'mm'),
-        this.byProbe, el('div', { class: 'four' }, ...this.zero), this.undo),
+        this.byProbe, this.used, el('div', { class: 'four' }, ...this.zero), this.undo),
       probe: part('Seek the probe', this.touched, el('label', { class: 'entry-row' }, 'At most', this.within, 'mm'),
         el('div', { class: 'five' }, ...this.seeks)),
-      tool: part('Touch off a tool', null, this.setter, this.touch),
-      page: part('This page', null, this.loss),
+      tool: part('Touch off a tool', null, this.setter, this.length, this.touch),
+      page: part('This page', null, this.loss, this.inches),
     };
-    $('tab-setup').append(...Object.values(this.parts));
+    $('tab-setup').append(this.why, ...Object.values(this.parts));
+    this.showUnit();
   }
 
   show(s, isIdle) {
     const hasMoves = s.machine !== null && s.machine !== undefined, isJogging = s.command?.word === 'jog';
-    const isFree = s.yours && !s.ended && !s.player_gone;
+    const isFree = s.yours && canMove(s), isOff = isFree && !isOn(s);
     for (const name of ['home', 'jog', 'probe']) this.parts[name].hidden = !hasMoves;
+    this.parts.home.hidden ||= s.homes === ''; // the machine's file doesn't say how
+    text(this.why, hasMoves && !isJogging ? whyNot(s) : '');
+    this.why.hidden = !this.why.textContent;
     text(this.homed, s.homed ? `homed: ${[...s.homed].join(' ')}` : 'not homed');
     text(this.system, systemName(s.system));
-    for (const one of this.home) one.disabled = !isFree || s.busy;
+    const isHome = i => i === 0 || (s.homes ?? 'XYZ').includes(AXES[i - 1]);
+    this.home.forEach((one, i) => { one.disabled = !isOff || s.busy || !isHome(i); });
     this.jog.enable(isFree && hasMoves && !s.alarm && (!s.busy || isJogging));
-    for (const one of [...this.seeks, this.within]) one.disabled = !isFree || s.busy || Boolean(s.alarm);
+    for (const one of [...this.seeks, this.within]) one.disabled = !isOff || s.busy || Boolean(s.alarm);
     for (const one of [...this.zero, this.value, this.byProbe]) one.disabled = !isIdle;
-    text(this.touched, s.touched ? `touched: ${point(s.touched)}` : '');
-    this.byProbe.hidden = !s.touched;
+    text(this.touched, s.touched ? `touched: ${point(s.touched)} mm` : '');
+    this.showUsed(s);
     this.showTool(s, isIdle);
     this.undo.hidden = !s.undo;
     this.undo.disabled = !isIdle;
     text(this.undo, `Undo: ${s.undo ?? ''}`);
+    means(this.undo, this.undo.textContent);
     this.loss.setAttribute('aria-checked', String(s.on_loss === 'go'));
     this.loss.disabled = !s.yours;
+  }
+
+  showUnit() { this.inches.setAttribute('aria-checked', String(this.readout.isInch)); }
+
+  // Which machine point a zero takes. One at which the probe was touched is chosen anew for each touch.
+  showUsed(s) {
+    const key = String(s.touched ?? '');
+    if (!s.touched || key !== this.seen) this.byProbe.setAttribute('aria-checked', 'false');
+    this.seen = key;
+    this.state = s;
+    this.byProbe.hidden = !s.touched;
+    text(this.used, this.probe() ? `Takes machine ${point(s.touched)} mm, where the probe was touched`
+      : s.known ? `Takes machine ${point(s.at)} mm, where the motors are`
+        : 'Where the machine stands isn\u2019t known');
   }
 
   showTool(s, isIdle) {
@@ -64,9 +90,23 @@ export class Setup {
     this.needsHeight = s.setter === null || s.setter === undefined;
     this.setter.hidden = !this.needsHeight;
     this.height.disabled = !isIdle;
-    this.touch.disabled = !isIdle || !s.slot;
-    const where = this.needsHeight ? '' : `, setter at Z ${mm(s.setter)}`;
-    text(this.touch, s.slot ? `Tool ${s.slot} stands on the setter${where}` : 'No tool is in the spindle');
+    this.touch.disabled = !isIdle || !s.slot || s.has_probe && !s.touched;
+    text(this.touch, s.slot ? `Tool ${s.slot} stands on the setter` : 'No tool is in the spindle');
+    means(this.touch, this.touch.textContent);
+    this.showLength(s);
+  }
+
+  // The length that a touch-off would give, and by which machine point.
+  showLength(s) {
+    const height = Number(this.needsHeight ? typedNumber(this.height.value) ?? NaN : s.setter);
+    const at = s.touched ? s.touched[2] : s.at[2], has = s.tools[s.slot - 1];
+    const where = s.touched ? 'touched at machine Z' : 'machine Z is';
+    const before = has === undefined ? 'no length yet' : `${mm(has)} by now`;
+    this.length.hidden = !s.slot;
+    text(this.length, s.has_probe && !s.touched
+      ? 'The setter wasn\u2019t touched since the last motion: seek it by Z\u2212 first'
+      : Number.isNaN(height) ? 'At which machine Z would a tool of length 0 touch the setter?'
+        : `Length ${mm(at - height)} mm, ${before}: ${where} ${mm(at)}, setter at ${mm(height)}`);
   }
 
   seek(axis, sign) {
@@ -83,10 +123,29 @@ export class Setup {
 
   touchOff() {
     const height = this.needsHeight ? typed(this.height) : undefined;
-    if (height !== null) this.asks('touch', { slot: this.slot, height, probe: this.probe() });
+    if (height !== null) this.asks('touch', { slot: this.slot, height, probe: Boolean(this.state.touched) });
   }
 
-  probe() { return !this.byProbe.hidden && isOn(this.byProbe); }
+  probe() { return !this.byProbe.hidden && isChosen(this.byProbe); }
+}
+
+const isOn = s => Boolean(s.spindle || s.mist || s.flood);
+
+// Whether the player takes a move without lines, but for what is busy.
+function canMove(s) {
+  const isAtRest = ['idle', 'stopped'].includes(s.does) && !(s.held_motors && s.behind);
+  return !s.ended && !s.player_gone && !s.door_open && (isAtRest || Boolean(s.alarm) || s.word === 'Broken off');
+}
+
+// Why home, jog and the probe are disabled, where that isn't for what is under way.
+function whyNot(s) {
+  if (!s.yours) return 'This page watches: Take over, to move the machine from here.';
+  if (s.busy || s.ended || s.player_gone) return '';
+  if (s.door_open) return 'The door is open: nothing moves until it is closed.';
+  if (s.alarm) return 'After the alarm home comes first.';
+  if (s.does === 'held') return 'A line is held: Continue or Stop comes before the axes are jogged or homed.';
+  if (s.held_motors && s.behind) return 'The motors are held with lines in hand: Go on carries them out first.';
+  return isOn(s) ? 'Spindle or coolant is on: home and the probe want both off.' : '';
 }
 
 function part(title, beside, ...content) {
@@ -100,9 +159,9 @@ function toggle(says, does) {
     el('span', {}, says));
 }
 
-const isOn = one => one.getAttribute('aria-checked') === 'true';
+const isChosen = one => one.getAttribute('aria-checked') === 'true';
 
-const flip = one => one.setAttribute('aria-checked', String(!isOn(one)));
+const flip = one => one.setAttribute('aria-checked', String(!isChosen(one)));
 
 // The number of an entry; null, which is shown, if it is none.
 function typed(input) {

@@ -1,5 +1,12 @@
 // Sheets over the middle of the page: a question, findings, recovery. The state and Hold stay in sight.
 import { $, el } from './dom.js';
+import { means, rest } from './steady.js';
+
+// What a sheet asks, and what its buttons answer: where that changes they are dead for a second.
+const asked = '#over h1, #over h2, #over .asked, #over .foot button';
+new MutationObserver(() => {
+  if (!$('over').hidden) means($('over'), [...document.querySelectorAll(asked)].map(one => one.textContent).join('|'));
+}).observe($('over'), { childList: true, subtree: true, characterData: true });
 
 // Opens a sheet. Returns its parts, so that what is on it can be changed.
 export function open(name, content, buttons, beside = null) {
@@ -8,12 +15,14 @@ export function open(name, content, buttons, beside = null) {
   sheet.words.append(...content.filter(Boolean));
   sheet.foot.append(...buttons.filter(Boolean));
   const middle = beside ? el('div', { class: 'two' }, sheet.words, beside) : sheet.words;
+  if ($('over').hidden) rest($('over'));
   $('over').replaceChildren(sheet.head, middle, sheet.foot);
   $('over').hidden = false;
   return sheet;
 }
 
 export function close() {
+  if (!$('over').hidden) rest(...document.querySelectorAll('main > .place, main > .side'));
   $('over').hidden = true;
   $('over').replaceChildren();
 }

@@ -11,21 +11,31 @@ export function show(s, isIdle, asks) {
   const lengths = [...s.tools, ''].slice(0, MOST_SLOTS);
   const rows = lengths.map((length, i) => row(i + 1, length, s.slot === i + 1, isIdle, asks));
   $('tab-tools').replaceChildren(
-    el('p', { class: 'hint' }, 'Lengths in mm. A new length counts from the next G43 on.'), ...rows);
+    el('p', { class: 'hint' }, 'Lengths in mm. A new length counts from the next G43 on. Slots that are passed over '
+      + 'get 0, as of a tool that isn\u2019t measured.'), ...rows);
 }
 
 function row(slot, length, isIn, isIdle, asks) {
   const isNew = length === '';
   const input = el('input', { value: isNew ? '' : mm(length).replace('\u2212', '-'), inputMode: 'decimal',
     disabled: !isIdle, placeholder: isNew ? 'a length' : '', 'aria-label': `Length of tool ${slot}` });
+  const number = el('input', { value: String(slot), inputMode: 'numeric', disabled: !isIdle,
+    'aria-label': 'Number of a new tool' });
   const give = () => {
-    const typed = typedNumber(input.value);
+    const typed = typedNumber(input.value), own = isNew ? slotNumber(number.value, slot) : slot;
     input.classList.toggle('wrong', typed === null);
-    if (typed === null) return;
-    input.blur();
-    asks('tool', { slot, length: typed });
+    number.classList.toggle('wrong', own === null);
+    if (typed === null || own === null) return;
+    for (const one of [input, number]) one.blur();
+    asks('tool', { slot: own, length: typed });
   };
   input.addEventListener('keydown', event => { if (event.key === 'Enter') give(); });
-  return el('div', { class: `slot ${isIn ? 'in' : ''}` }, el('b', {}, `T${slot}`), input,
+  return el('div', { class: `slot ${isIn ? 'in' : ''}` }, isNew ? number : el('b', {}, `T${slot}`), input,
     el('button', { onclick: give, disabled: !isIdle }, isNew ? 'Add' : 'Set'));
+}
+
+// The number of a slot that isn't in the table yet; null for another one.
+function slotNumber(typed, first) {
+  const number = /^\s*T?\s*(\d{1,3})\s*$/i.exec(typed)?.[1];
+  return number && number >= first && number <= MOST_SLOTS ? Number(number) : null;
 }

@@ -1,0 +1,166 @@
+"""A CAM system's text on the page: what is changed, what has to be said first, how far a check is, and its end."""
+import json
+import random
+import sys
+import threading
+import unittest
+from pathlib import Path
+from unittest import mock
+
+sys.path.insert(0, str(Path(__file__).resolve().parent))
+
+from page_support import Page, Served  # noqa: E402
+from session_support import InFolder, ngc, told  # noqa: E402
+
+from ngc_tools.cli.check import main as check  # noqa: E402
+from ngc_tools.formats.device import Device  # noqa: E402
+from ngc_tools.formats.program_text import NotText, ProgramText  # noqa: E402
+from ngc_tools.ngc import beginning  # noqa: E402
+from ngc_tools.page.deeds import BadWords, cam_answers  # noqa: E402
+from ngc_tools.page.findings import Check  # noqa: E402
+
+CAM = "%\n(<b>)\nG21 G90 G17 G94 G91.1\nG64 P0.01\nG0 X1 Y0 ; to the start\nG2 X2 Y1 R1 F60\nM30\n%\n"
+WRITTEN = "%\n(<b>)\nG21 G90 G17 G94\nG64\nG0 X1 Y0 (to the start)\nG2 X2 Y1 I1 J0 F60\nM30\n%\n"
+"""An arc of a quarter, from (1, 0) to (2, 1) with the clock, by radius 1: its centre is at (2, 0) or at (1, 1); with
+the clock the short way goes round (2, 0)."""
+HOMES = "G21 G90 G17 G94 G91.1\nG91 G28 Z0\nG28 X0 Y0\nG90 T201 M6\nG0 X1\nM30\n"
+
+
+class Cam(Served):
+    """Over a page."""
+
+    def look(self, page: Page, text: str | bytes, **headers: str) -> dict:
+        """What a check finds."""
+        data = text.encode() if isinstance(text, str) else text
+        status, found = page.post("check", data, X_Name="part.nc", Content_Type="application/octet-stream", **headers)
+        self.assertEqual(status, 200, found)
+        return found
+
+    def stored(self) -> str:
+        """The program on the device."""
+        return Device.read("mill.dev").program.decode()
+
+    def test_adapted(self) -> None:
+        """Each line that is written otherwise is shown, and the text as it is written is loaded, and drawn."""
+        page = self.page()
+        found = self.look(page, CAM)
+        self.assertEqual([(one["line"], one["before"], one["after"]) for one in found["adapted"]["changes"]], [
+            (3, "G21 G90 G17 G94 G91.1", "G21 G90 G17 G94"), (4, "G64 P0.01", "G64"),
+            (5, "G0 X1 Y0 ; to the start", "G0 X1 Y0 (to the start)"), (6, "G2 X2 Y1 R1 F60", "G2 X2 Y1 I1 J0 F60")])
+        self.assertTrue(all(one["why"] for one in found["adapted"]["changes"]))
+        self.assertEqual((found["refusals"], found["adapted"]["needs"], found["unreadable"]), ([], [], ""))
+        drawn = page.post("draw", b"", X_Checked=found["id"], Content_Type="application/octet-stream")
+        self.assertEqual((drawn[0], drawn[1]["refused"], len(drawn[1]["steps"])), (200, None, 2))
+        self.assertEqual(page.post("load", {"id": found["id"]}), (200, {"taken": True}))
+        self.assertEqual(self.stored(), WRITTEN)
+        self.assertEqual(page.rested()["program"]["name"], "part.nc, adapted")
+        self.assertEqual(page.post("draw", b"", X_Checked="0", Content_Type="x/y")[0], 410)
+
+    def test_as_it_is(self) -> None:
+        """What `ngc` takes isn't adapted, also where it could be; what isn't cured is refused as before."""
+        page = self.page()
+        found = self.look(page, "G17 G21 G90 G94\nG91 G28 Z0\nG90\nM2\n")
+        self.assertEqual((found["adapted"], found["refusals"]), (None, []))
+        self.assertIn("G28 moves all three axes", found["warnings"][0]["what"])
+        found = self.look(page, "G17 G21 G90 G94\nG1 X1 Q2 F10\nM2\n")
+        self.assertEqual((found["adapted"], [one["code"] for one in found["refusals"]]), (None, ["B12"]))
+        found = self.look(page, "G17 G21 G90 G94 G91.1\nG1 X1 Q2 F10\nM2\n")  # one of two
+        self.assertEqual(([one["line"] for one in found["adapted"]["changes"]],
+                          [(one["line"], one["code"]) for one in found["refusals"]]), ([1], [(2, "B12")]))
+
+    def test_needs(self) -> None:
+        """A height, a place and a slot that the text doesn't say are asked for, all at once, and nothing is guessed."""
+        page = self.page()
+        page.post("tool", {"slot": 1, "length": "5"})
+        found = self.look(page, HOMES)
+        self.assertEqual(found["adapted"]["needs"], [
+            {"what": "lift", "tool": 0, "line": "line 2: G91 G28 Z0"},
+            {"what": "park", "tool": 0, "line": "line 3: G28 X0 Y0"},
+            {"what": "tool", "tool": 201, "line": "line 4: G90 T201 M6"}])
+        answers = {"lift": "-1.5", "park": ["2", "3"], "tools": {"201": 1}}
+        found = self.look(page, HOMES, X_Answers=json.dumps(answers))
+        self.assertEqual([one["after"] for one in found["adapted"]["changes"]], [
+            "G21 G90 G17 G94", "G91 G53 G0 Z-1.5", "G53 G0 X2 Y3", "G90 T1 M6"])
+        self.assertEqual(found["refusals"], [])
+        for bad in ("[]", "{", '{"lift": 1}', '{"park": ["1"]}', '{"tools": {"201": 129}}', '{"tools": {"x": 1}}',
+                    '{"tools": {"201": true}}', '{"lift": "1e3"}'):
+            with self.assertRaises(BadWords, msg=bad):
+                cam_answers(bad)
+        self.assertEqual(page.post("check", b"M2\n", X_Answers="[]", Content_Type="x/y")[0], 422)
+
+    def test_ended(self) -> None:
+        """How far a check is can be asked, by its own page; it is ended at once where nobody wants it."""
+        page, answers = self.page(), []
+        text = b"G17 G21 G90 G94\n" + b"G1 X1 F600\nG1 X0\n" * 20_000 + b"M2\n"
+        thread = threading.Thread(target=lambda: answers.append(page.post(
+            "check", text, X_Name="long.nc", Content_Type="application/octet-stream")))
+        thread.start()
+        self.wait_for("it tells", lambda: page.post("checking")[1]["told"])
+        found = page.post("checking")[1]["told"]
+        self.assertIn(found["what"], ("lines", "warnings"))
+        self.assertTrue(0 <= found["done"] <= found["of"])
+        self.assertEqual(self.page("page-number-2").post("checking"), (200, {"told": None}))
+        self.assertEqual(page.post("uncheck"), (200, {}))
+        thread.join()
+        self.assertEqual(answers, [(200, {"ended": True})])
+        self.assertEqual(page.post("checking"), (200, {"told": None}))
+        self.look(page, "M2\n")
+
+    def test_no_stop(self) -> None:
+        """Where a player asks for each tool nobody is warned that the program doesn't stop for it."""
+        page = self.page()
+        for slot in "12":
+            page.post("tool", {"slot": int(slot), "length": "0"})
+        text = "G17 G21 G90 G94 G49 G98\nT1 M6\nG0 X1 Y1 Z1\nT2 M6\nG0 X0\nM2\n"
+        self.assertEqual(self.look(page, text)["warnings"], [])
+
+
+class Garbage(InFolder):
+    """What is no program is told as that after a few dry runs."""
+
+    def setUp(self) -> None:
+        """A device."""
+        super().setUp()
+        self.device()
+
+    def found(self, data: bytes) -> tuple[str, int, int]:
+        """Why it is no program, how many lines are told, and how many dry runs that took."""
+        runs = mock.Mock(side_effect=beginning.dry)
+        with mock.patch.object(beginning, "dry", runs):
+            found, _ = Check(ngc(), "first.toml", Path("mill.dev").read_bytes(), False).find(data)
+        return found["unreadable"], len(found["refusals"]), runs.call_count
+
+    def test_bytes(self) -> None:
+        """Bytes by chance, of which `ngc-check` says the same."""
+        data = random.Random(3).randbytes(3000)
+        why, lines, runs = self.found(data)
+        self.assertRegex(why, r"^it isn't a text: \d+ of its first 3,000 bytes are control characters$")
+        self.assertEqual((lines, runs), (0, 0))
+        Path("garbage").write_bytes(data)
+        self.assertEqual(told(check, "garbage", "--ngc", ngc()), (2, "", f"ngc-check: garbage: {why}\n"))
+
+    def test_prose(self) -> None:
+        """Words that aren't G-code; a text with a few such lines is looked at."""
+        data = b"<p class='a'>The quick brown fox (jumps) over\nthe lazy dog, and so does each of the others.\n" * 400
+        why, lines, runs = self.found(data)
+        self.assertEqual((why, lines), ("it isn't G-code: ngc can read hardly any of its first lines", 0))
+        self.assertLess(runs, 30)
+        few = b"".join(b"G0 X%d\n" % number for number in range(20))
+        self.assertEqual(self.found(b"what is this?\n" + few + b"M2\n")[:2], ("", 1))
+
+    def test_long_line(self) -> None:
+        """A line of more pieces than a line of words has isn't tried piece by piece."""
+        why, lines, runs = self.found(b"G0 X1\n" * 30 + b"a" * 250 + b"\nM2\n")
+        self.assertEqual((why, lines), ("", 1))
+        self.assertLess(runs, 40)
+
+    def test_texts(self) -> None:
+        """A few control characters make no text garbage; UTF-16 is one."""
+        self.assertEqual(ProgramText.read(b"\0\0\x1bG0 X1\n\x1a").lines, ("\0\0\x1bG0 X1",))
+        self.assertEqual(ProgramText.read("\ufeffG0 X1\n".encode("utf-16-le")).lines, ("G0 X1",))
+        with self.assertRaises(NotText):
+            ProgramText.read(bytes(100))
+
+
+if __name__ == "__main__":
+    unittest.main()

@@ -1,0 +1,173 @@
+"""What the page says of a machine with a door, switches and a spindle that tells its speed: what holds it, what moves,
+what an alarm came by, and that nothing is shown that isn't known. The player is tools/player over a simulated machine.
+"""
+import os
+import signal
+import subprocess
+import sys
+import unittest
+from pathlib import Path
+
+sys.path.insert(0, str(Path(__file__).resolve().parent))
+
+from page_support import OTHER, Page, Served  # noqa: E402
+from session_support import ngc  # noqa: E402
+from test_moves import AT_SPEED, DOOR, MACHINE, X_LOW, World, program  # noqa: E402
+
+QUICK = MACHINE.replace("[60, 60, 60]", "[600, 600, 600]")
+CUT = "G17 G21 G90 G94\nG0 X0 Y0 Z0\nG1 X9 F60\nM2\n"
+"""Its line 3 is a cut of nine seconds."""
+CHANGE = """G17 G21 G90 G94
+T1 M6
+G43 H1
+G0 X0 Y0
+G1 X1 F600
+T2 M6
+G43 H2
+G1 X9 F60
+M2
+"""
+"""Tool 2 comes in its line 6."""
+
+
+class Known(Served):
+    """The page, told by requests."""
+
+    OUT = "out"
+
+    def begin_player(self) -> None:
+        """Starts it over the machine, whose spindle is at its speed as it turns."""
+        if not Path("world").exists():
+            self.world = World()
+            self.addCleanup(self.world.close)
+            self.world.set(5, 1 << AT_SPEED)  # high while the spindle turns
+            Path("motion.toml").write_text(QUICK)
+        self.player = subprocess.Popen([program(), "-f", "-s", "progress", "-m", "motion.toml", "out", "first.toml",
+                                        "position"], stdin=subprocess.DEVNULL, stdout=subprocess.PIPE,
+                                       stderr=subprocess.PIPE, text=True)
+        self.addCleanup(self._end, self.player)
+        self.wait_for("the player listens", lambda: os.path.exists("progress"))
+
+    def begin(self) -> None:
+        """Starts both."""
+        self.begin_player()
+        self.server = self.start("ngc-page", "mill.dev", "first.toml", "out", "--player", "progress", "--machine",
+                                 "motion.toml", "--ngc", ngc(), "--listen", "127.0.0.1:0")
+        self.address = self.server.stdout.readline().strip()
+        if not self.address:
+            self.fail(self.server.stderr.read())
+
+    def runs(self, page: Page, text: str, x_mm: float) -> dict:
+        """Loads a program, and runs it until the motors are behind that X."""
+        self.load(page, text)
+        self.assertEqual(page.post("run"), (200, {}))
+        return page.until("it cuts", lambda state: float(state["motors"][0]) > x_mm)
+
+    def stopped(self, page: Page) -> dict:
+        """The state once the motors rest, held."""
+        return page.until("they rest", lambda state: state["held_motors"] and state["word"] != "Running")
+
+    def test_door(self) -> None:
+        """An open door is named in a cut, and at rest; once it is closed the job goes on from the page."""
+        page = self.page()
+        self.runs(page, CUT, 0.1)
+        self.world.put(DOOR, True)
+        state = page.until("it is named", lambda state: state["door_open"] and state["held_by"])
+        self.assertEqual((state["word"], state["tone"], state["held_by"], state["detail"], state["busy"]),
+                         ("Held", "hold", "door", "The door is open. Close it; then Go on", True))
+        self.world.put(DOOR, False)
+        state = page.until("it is closed", lambda state: not state["door_open"])
+        self.assertEqual((state["word"], state["detail"]),
+                         ("Held", "The door was open, and is closed now. Go on carries on"))
+        x = float(state["motors"][0])
+        self.assertEqual(page.post("release"), (200, {}))
+        state = page.until("it goes on", lambda state: float(state["motors"][0]) > x)
+        self.assertEqual((state["word"], state["held_by"]), ("Running", ""))
+        page.post("hold")
+        state = page.until("it is held", lambda state: not state["busy"])
+        self.assertEqual((state["word"], state["detail"], state["held_by"]),
+                         ("Held", "Before the rest of line 3 of 4", "here"))
+        self.world.put(DOOR, True)
+        state = page.until("it is named", lambda state: state["door_open"])
+        self.assertEqual(state["detail"], "The door is open. Close it; then Go on")
+
+    def test_another_page(self) -> None:
+        """Another page's hold is named on this one, and there it is its own."""
+        page, other = self.page(), self.page(OTHER)
+        self.runs(page, CUT, 0.1)
+        other.post("hold")
+        state = page.until("it is held", lambda state: not state["busy"] and state["does"] == "held")
+        self.assertEqual(state["detail"], "Another page held it. Before the rest of line 3 of 4")
+        state = other.until("it is held", lambda state: not state["busy"])
+        self.assertEqual(state["detail"], "Before the rest of line 3 of 4")
+
+    def test_spindle(self) -> None:
+        """While it isn't at its speed that is said; where it never is, the motors are held by it."""
+        page = self.page()
+        self.world.set(5, 0)
+        self.load(page, "M3 S1000\n" + CUT)
+        self.assertEqual(page.post("run"), (200, {}))
+        state = page.until("it waits", lambda state: "speed" in state["detail"] and state["word"] == "Running")
+        self.assertIn("the spindle isn't at its speed yet", state["detail"])
+        state = self.stopped(page)
+        self.assertEqual((state["word"], state["held_by"], state["detail"]), (
+            "Held", "spindle", "The spindle didn't come to its speed. Look at it; Go on waits for it once more"))
+        self.world.set(5, 1 << AT_SPEED)
+        self.assertEqual(page.post("release"), (200, {}))
+        page.until("it goes on", lambda state: float(state["motors"][0]) > 0 and state["word"] == "Running")
+
+    def test_moves(self) -> None:
+        """What moves without lines is named, and no line is; a limit too. The next run isn't done before it begins."""
+        page = self.page()
+        self.assertEqual(page.post("home", {}), (200, {}))
+        state = page.until("it homes", lambda state: state["does_move"].startswith("home "))
+        self.assertEqual((state["word"], state["detail"]), ("Homing", state["does_move"][5:]))
+        page.until("it is homed", lambda state: state["homed"] == "XYZ" and not state["busy"])
+        self.load(page, "G0 X1\nG1 X0 F60\nM2\n")
+        for _ in range(2):
+            self.assertEqual(page.post("run"), (200, {}))
+            state = page.until("it runs", lambda state: state["busy"])
+            self.assertFalse(state["finished"])
+            page.until("it is done", lambda state: state["finished"] and not state["busy"])
+        self.world.put(X_LOW, True)
+        state = page.until("it is told", lambda state: state["alarm"])
+        self.assertEqual((state["word"], state["alarm"], state["stale"]["why"]), ("ALARM", "limits", "alarm"))
+        state = page.until("its cause too", lambda state: "imit" in state["detail"])
+        self.assertTrue(state["detail"].startswith("Limit X low. The motors stood at once"), state["detail"])
+
+    def test_player_gone(self) -> None:
+        """Where its player is killed in a cut, the page shows the place and the tool that it told last, and when."""
+        page = self.page()
+        state = self.runs(page, CUT, 1)
+        os.kill(self.player.pid, signal.SIGKILL)
+        state = page.until("it is gone", lambda state: state["player_gone"])
+        self.assertGreater(float(state["motors"][0]), 1)
+        self.assertEqual((state["work"][0], state["slot"], state["stale"]["why"]), (state["motors"][0], 0, "player"))
+        self.assertLess(state["now"] - state["stale"]["at"], 30)
+
+    def test_tool_change(self) -> None:
+        """Power is lost at a tool change: the place is that of the tool which is in by the record, not of the next one.
+        """
+        page = self.page()
+        for slot, length in ((1, "5"), (2, "2")):
+            page.post("tool", {"slot": slot, "length": length})
+        self.load(page, CHANGE)
+        self.assertEqual(page.post("run"), (200, {}))
+        for slot in (1, 2):
+            state = page.until("a tool is wanted", lambda state, slot=slot: state["waits_tool"] == slot)
+            self.assertEqual((state["word"], state["tone"]), ("Tool change", "ask"))
+            if slot == 1:
+                page.post("go")
+        was = state["motors"]
+        self.wait_for("the record has it", lambda: [f"{nm / 10**6:.6f}" for nm in self.recorded().at_nm] == was)
+        self.pull()
+        self.begin()
+        state = self.page(OTHER).until("the record is read", lambda state: state["motors"])
+        self.assertEqual((state["half"], state["slot"], state["motors"], state["stale"]["why"]),
+                         ("program", 1, was, "power"))
+        self.assertEqual((float(state["work"][2]), state["tool_length"]), (float(was[2]) - 5, "5.000000"))
+        self.assertGreater(state["stale"]["at"], 0)
+
+
+if __name__ == "__main__":
+    unittest.main()

@@ -1,0 +1,168 @@
+"""What a finger does on the page, and what it sees there: buttons that come to mean something else, refusals, scrolling
+on a jog button, and the units of the readout."""
+import sys
+import unittest
+from dataclasses import replace
+from pathlib import Path
+
+sys.path.insert(0, str(Path(__file__).resolve().parent))
+
+import test_page_browser  # noqa: E402
+from test_page_browser import InBrowser  # noqa: E402
+
+CHANGE = "G17 G21 G90 G94\nT1 M6\nG1 X5 F60\nM2\n"
+FINGER = """void (window.finger = (kind, down) => {
+    const what = { pointerType: 'touch', pointerId: 7, clientX: 100, clientY: 100 - down, button: 0, bubbles: true };
+    document.querySelector('.pad .right').dispatchEvent(new PointerEvent(kind, what));
+})"""
+"""What a finger does on the button X+, so far above where it came down."""
+
+
+class Steady(InBrowser):
+    """A finger that taps twice."""
+
+    MACHINE = "[motion]\naccel_mm_s2 = [500, 500, 300]\n"
+
+    def test_twice(self) -> None:
+        """After a hold at a tool change the second tap on `Tool 1 is in` doesn't hit `Continue`."""
+        browser = self.browser
+        browser.open(self.address)
+        self.assertEqual(browser.wait("window.ngc?.state?.yours && ngc.jobId !== null && ngc.dead.ms"), 1000)
+        browser.hurry()
+        browser.js("document.querySelector('[data-tab=tools]').click()")
+        browser.fill("#tab-tools input[aria-label='Length of tool 1']", "50")
+        browser.press("Add", "#tab-tools button")
+        browser.wait("ngc.state.tools.length === 1 && !ngc.state.busy")
+        self.load(CHANGE, 4)
+        browser.press("Run", "#run")
+        browser.wait("ngc.state.waits")
+        browser.press("Hold", "#hold")
+        browser.wait("ngc.state.does === 'held' && !ngc.state.busy")
+        browser.js("void (ngc.dead.ms = 1e6)")  # however slow the machine is
+        x, y = browser.place("Tool 1 is in", "#run")
+        for _ in range(2):
+            browser.down(x, y)
+            browser.up(x, y)
+            browser.wait("document.getElementById('run').textContent === 'Continue'")
+        self.assertTrue(browser.js("document.getElementById('run').inert"))
+        seen = browser.js("ngc.state.now")
+        browser.wait(f"ngc.state.now > {seen} + 1")
+        self.assertEqual(browser.js("[ngc.state.does, ngc.state.busy, ngc.state.motors[0]]"),
+                         ["held", False, "0.000000"])
+        browser.js("void (document.getElementById('run').inert = false)")
+        browser.press("Continue", "#run")
+        browser.wait("ngc.state.motors[0] > 0")
+        self.no_complaints()
+
+
+class Fingers(test_page_browser.Moves):
+    """On a machine that homes and jogs, whose player is in this process."""
+
+    test_setup = test_axis_without_home = None
+
+    def setUp(self) -> None:
+        """Opens the tab."""
+        super().setUp()
+        self.browser.press("Setup", "nav button")
+
+    def test_refused(self) -> None:
+        """What the player refuses is said beside the button that was touched, and in Log; it goes with the next touch.
+        """
+        browser = self.browser
+        self.machine.axes.refuses = "the emergency stop is on"
+        browser.press("Home all", "#tab-setup button")
+        says = browser.wait("document.getElementById('toast').checkVisibility() && document.getElementById('toast')"
+                            ".textContent")
+        self.assertEqual(says, "home: the emergency stop is on")
+        apart = browser.js("""(() => {
+            const toast = document.getElementById('toast').getBoundingClientRect();
+            const home = document.querySelector('#tab-setup .four button').getBoundingClientRect();
+            return Math.max(toast.top - home.bottom, home.top - toast.bottom);
+        })()""")
+        self.assertTrue(0 <= apart < 30, apart)
+        self.assertIn(says, browser.js("document.getElementById('log').textContent"))
+        browser.wait("!ngc.state.busy")
+        browser.js("new Promise(done => setTimeout(done, 800))")
+        browser.press("Home all", "#tab-setup button")
+        browser.wait("ngc.state.homed === 'XYZ' && !ngc.state.busy")
+        self.assertFalse(browser.js("document.getElementById('toast').checkVisibility()"))
+
+    def test_two_places(self) -> None:
+        """Where the motors rest elsewhere than the last line ended, by a step or more, the page asks which is so."""
+        browser = self.browser
+        browser.fill("#line", "G0 X0.0004")  # less than half a step of 1000 nm
+        browser.press("Do", "#do")
+        browser.wait("ngc.state.at[0] === '0.000400' && !ngc.state.busy")
+        self.assertEqual(browser.js("[ngc.state.word, ngc.state.apart[0]]"), ["Idle", False])
+        self.machine.axes.at_nm = [0, 0, 11_295_000]
+        browser.wait("ngc.state.word === 'Two places' && ngc.state.apart[2]")
+        enabled = browser.js("[...document.querySelectorAll('#tab-setup .four button')].map(one => !one.disabled)")
+        self.assertEqual(enabled, [True] * 4 + [False] * 4)  # home, but no zero
+        browser.press("Where is it?", "#run")
+        self.look("two places")
+        browser.press("Where the player counts", "#over button")
+        browser.wait("ngc.state.word === 'Idle' && ngc.state.at[2] === '11.295000'")
+        self.no_complaints()
+
+    def test_scroll(self) -> None:
+        """A finger that begins to scroll on a jog button jogs nothing; one that rests there does, until it is lifted,
+        and with a length one that taps.
+        """
+        browser, jogs = self.browser, lambda: [word for word in self.machine.axes.words if word.startswith("jog")]
+        browser.js(FINGER)
+        for length in ("10", "Cont."):
+            browser.press(length, ".jog .choices button")
+            browser.js("finger('pointerdown', 0), finger('pointermove', 30), finger('pointercancel', 30)")
+            browser.js("finger('pointerdown', 0), finger('pointermove', 30), finger('pointerup', 30)")
+        browser.js("new Promise(done => setTimeout(done, 400))")
+        self.assertEqual(jogs(), [])
+        self.assertEqual(browser.js("getComputedStyle(document.querySelector('.pad .right')).touchAction"), "pan-y")
+        browser.js("finger('pointerdown', 0)")
+        self.wait_for("it jogs while the finger rests", lambda: self.jogs() > 0)
+        browser.js("finger('pointerup', 0)")
+        browser.wait("!ngc.state.busy")
+        browser.press("10", ".jog .choices button")
+        browser.js("finger('pointerdown', 0), finger('pointermove', 3), finger('pointerup', 3)")
+        self.wait_for("it goes so far", lambda: jogs()[-1].endswith("X+ 600 for 10"))
+        self.assertFalse(any("for 10" in word for word in jogs()[:-1]))
+
+    def test_door(self) -> None:
+        """With the door open nothing is enabled that moves, and it is said why; motors that it held with lines in hand
+        go on by `Go on`, once it is closed."""
+        browser, axes = self.browser, self.machine.axes
+        axes.stands = axes.machine = replace(axes.stands, on=("door",))
+        self.machine.is_held = True
+        browser.wait("ngc.state.word === 'Door open'")
+        moves = "[...document.querySelectorAll('.pad button, .four button, .five button')].filter(one => !one.disabled)"
+        run = "[document.getElementById('run').textContent, document.getElementById('run').disabled]"
+        self.assertEqual(browser.js(run), ["Close the door", True])
+        self.assertEqual(browser.js(f"{moves}.map(one => one.textContent)"), ["Set X", "Set Y", "Set Z", "Set XY"])
+        self.assertIn("The door is open", browser.js("document.querySelector('#tab-setup .why').textContent"))
+        self.look("an open door")
+        self.machine.received = 50
+        browser.wait("ngc.state.word === 'Held' && ngc.state.detail === 'The door is open. Close it; then Go on'")
+        axes.stands = axes.machine = replace(axes.stands, on=())
+        browser.wait("ngc.state.detail === 'The door was open, and is closed now. Go on carries on'")
+        self.assertEqual(self.machine.others.count(b"release"), 0)
+        browser.press("Go on", "#run")
+        self.wait_for("it is let go on", lambda: b"release" in self.machine.others)
+        self.machine.received, self.machine.is_held = 0, False
+        browser.wait("ngc.state.word === 'Idle'")
+        self.no_complaints()
+
+    def test_inches(self) -> None:
+        """The readout has its unit; inches where they are chosen, also once the page is opened again."""
+        browser, x = self.browser, "document.querySelector('.axis output').textContent"
+        unit = "document.querySelector('.axis small').textContent"
+        browser.press("Home all", "#tab-setup button")
+        browser.wait("ngc.state.homed === 'XYZ' && !ngc.state.busy")
+        self.assertEqual(browser.js(f"[{x}, {unit}]"), ["\u2212298.000", "mm"])
+        browser.press("Readout in inches", "#tab-setup button")
+        self.assertEqual(browser.js(f"[{x}, {unit}]"), ["\u221211.7323", "in"])  # 298 / 25.4
+        browser.open(self.address)
+        browser.wait(f"window.ngc?.state?.yours && {unit} === 'in'")
+        browser.js("void localStorage.removeItem('unit')")
+
+
+if __name__ == "__main__":
+    unittest.main()

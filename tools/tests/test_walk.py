@@ -1,0 +1,148 @@
+"""The walk by chance over the page: so many seconds of it as NGC_WALK_S says, at seeds that are always the same; and
+that it finds faults that are planted. Skipped where there is no Chromium."""
+import os
+import re
+import sys
+import time
+import unittest
+from collections.abc import Callable
+from pathlib import Path
+
+sys.path.insert(0, str(Path(__file__).resolve().parent))
+
+from browser_support import chromium  # noqa: E402
+from session_support import InFolder  # noqa: E402
+from walk import Covered, Failure, Step, Walk, shortened, told, walked  # noqa: E402
+from walk_machine import Lateness  # noqa: E402
+from walk_page import Tabs  # noqa: E402
+from walk_rules import Wrong  # noqa: E402
+
+WALK_S = float(os.environ.get("NGC_WALK_S", "0"))
+SHORTEN_S = 60.0
+STEPS = 40
+KNOWN: tuple[tuple[str, str], ...] = (
+    ("choices lost", ""),
+    ("nothing comes of it", "^(Single block|Optional stop|Block delete), at (Look|Question)"),
+    ("nothing comes of it", "^Home all, at ALARM"),
+)
+"""What is known to be wrong yet, by its rule and how the words begin: a walk that ends so is told, and isn't a failure.
+"""
+LONG = "G17 G21 G90 G94\nM3 S1000\nG1 X40 F300\nG1 X0 F600\nM2\n"
+
+
+def is_known(failure: Failure) -> bool:
+    """Whether it is one of KNOWN."""
+    says = failure.says.partition(": ")[2]
+    return any(failure.rule == rule and re.search(form, says) for rule, form in KNOWN)
+
+
+def setUpModule() -> None:
+    """One browser for all."""
+    if not (path := chromium()):
+        raise unittest.SkipTest("Chromium isn't installed")
+    global TABS, LATE
+    TABS, LATE = Tabs(path), Lateness()
+    unittest.addModuleCleanup(TABS.close)
+    unittest.addModuleCleanup(LATE.close)
+
+
+@unittest.skipUnless(WALK_S, "what it finds isn't all explained yet: NGC_WALK_S=75 walks for so many seconds")
+class ByChance(unittest.TestCase):
+    """Nothing is wrong."""
+
+    def test_walks(self) -> None:
+        """At the seeds from 1 on, each over a fresh machine, until the time is over."""
+        until, covered, seed = time.monotonic() + WALK_S, Covered(), 0
+        while time.monotonic() < until:
+            seed += 1
+            failure = walked(TABS, LATE, covered, seed, STEPS, until)
+            if failure and is_known(failure):
+                print(f"known to be wrong: seed {seed}: {failure.says}", file=sys.stderr)
+            elif failure:
+                self.fail(told(failure, shortened(TABS, LATE, failure, SHORTEN_S)))
+        print(f"walked by chance for {WALK_S:.0f} s: {covered}", file=sys.stderr)
+        self.assertGreater(covered.checked["place"], 0)
+
+
+class Planted(InFolder):
+    """Faults that are planted in the page's server are found, each by its rule."""
+
+    def setUp(self) -> None:
+        """A walk that begins with a tool in the spindle, which turns."""
+        super().setUp()
+        self.walk = Walk(TABS, LATE, Covered())
+        self.addCleanup(self.walk.close)
+        self.walk.bench.serves = Path(__file__).resolve().parent / "walk_planted.py"
+        self.walk.begin()
+
+    def plant(self, fault: str) -> None:
+        """From now on the page has this fault."""
+        Path("planted").write_text(fault)
+
+    def does(self, *steps: Step) -> None:
+        """Does steps."""
+        for step in steps:
+            self.walk.do(step)
+
+    def found(self, fault: str, rule: str, *steps: Step) -> None:
+        """A fault is found by its rule, at one of these steps; without it nothing is wrong after them."""
+        with self.subTest(fault):
+            self.plant(fault)
+            with self.assertRaises(Wrong) as raised:
+                self.does(*steps, ("wait", "3"))
+            self.assertEqual(raised.exception.rule, rule, raised.exception)
+        self.plant("")
+        told, mill = time.time(), self.walk.bench.mill
+        self.wait_for("the page has heard the truth", lambda: TABS.see().now > told + 0.2)
+        if fault == "moves":
+            self.wait_for("it rests", lambda: mill.last_pulse_at() < time.monotonic() - 1)
+        self.walk.truth.quiet_pulses = mill.pulses
+        self.does(("wait", "1"))
+
+    def until(self, holds: Callable[[Walk], object]) -> None:
+        """Waits, and looks, until something holds."""
+        for _ in range(400):
+            if holds(self.walk):
+                return
+            self.does(("wait", "0.1"))
+        self.fail(f"it doesn't come: {self.walk.seen}")
+
+    def test_lies(self) -> None:
+        """A place one step off, a tool of before, outputs that aren't so, what runs and what rests."""
+        self.does(("type", "T1 M6"))
+        self.until(lambda walk: any(one["text"] == "Tool 1 is in" for one in walk.seen.buttons))
+        self.does(("touch", "Tool 1 is in"))
+        self.until(lambda walk: not walk.seen.busy and walk.seen.tool.startswith("T1"))
+        self.does(("type", "M3 S500"), ("wait", "1"))
+        for fault, rule in (("place", "place"), ("work", "work zero"), ("tool", "tool"), ("spindle", "spindle"),
+                            ("coolant", "coolant")):
+            self.found(fault, rule)
+        self.loads()
+        self.does(("touch", "Run"))
+        self.found("rests", "says it rests", ("wait", "1.5"))
+        self.does(("hold", "button"))
+        self.found("runs", "says it runs", ("wait", "3"))
+
+    def test_deeds(self) -> None:
+        """A button that does nothing, a move that nobody asked for, a refusal in Log alone, a late Hold."""
+        self.found("dead", "nothing comes of it", ("touch", "Single block"))
+        self.does(("touch", "Setup"))
+        self.found("moves", "moved unasked", ("touch", "Job goes on if this page is lost @This page"))
+        TABS.js("document.getElementById('toast').style.display = 'none'")
+        self.found("silent", "refused in Log alone", ("touch", "Set X @Work zero"))
+        self.loads()
+        self.does(("touch", "Run"))
+        self.until(lambda walk: walk.bench.mill.rate_mm_s(time.monotonic()) > 3)
+        self.found("late", "hold too late", ("hold", "button"))
+
+    def loads(self) -> None:
+        """A program with a cut of eight seconds is loaded."""
+        Path("part.ngc").write_text(LONG)
+        TABS.choose_file(Path("part.ngc").resolve())
+        self.until(lambda walk: walk.seen.goes and walk.seen.goes[-1][1])
+        self.does(("touch", "Load"))
+        self.until(lambda walk: not walk.seen.sheet and not walk.seen.busy)
+
+
+if __name__ == "__main__":
+    unittest.main()

@@ -1,0 +1,742 @@
+#!/usr/bin/env python3
+"""Walks the operator's page by chance, and looks at each step whether what it says is so.
+
+    NGC=PATH tools/tests/walk.py [--seed N] [--seconds S] [--steps N] [--again FILE] [--keep-on] [--tell]
+
+A person's touches at the buttons that a page in Chromium shows, at moments by chance: jobs, jogs, typed lines, holds,
+reloads, more pages; and the door, the emergency stop, limits, kills of the player, of the page's server, of `ngc`, and
+losses of power, over a simulated machine that tells what its motors made. Each walk has so many steps, and begins with
+a fresh machine; the walk of a seed is followed by that of the next one. One that fails prints its seed, what was wrong,
+and the steps that lead there, shortened: `--again FILE` does these steps."""
+import argparse
+import json
+import os
+import random
+import re
+import sys
+import tempfile
+import time
+import traceback
+from collections import Counter
+from collections.abc import Callable
+from contextlib import suppress
+from dataclasses import dataclass, field
+from pathlib import Path
+
+sys.path.insert(0, str(Path(__file__).resolve().parent))
+
+from browser_support import Failed, chromium  # noqa: E402
+from session_support import PATIENCE_S, memory  # noqa: E402
+from walk_machine import Bench, Lateness  # noqa: E402
+from walk_page import Seen, Tabs  # noqa: E402
+from walk_rules import Judge, Truth, Wrong, changes, number  # noqa: E402
+
+STEPS = 50
+BEGINS_S = 1.0
+"""So soon what was asked for has begun."""
+WAYS = 60
+"""In so many steps a person has to get on, whatever came."""
+ANSWER_S = 2.0
+"""So soon something has to come of a touch."""
+_DIGITS = re.compile(r"\d+(?:\.\d+)?")
+
+Step = tuple[str, ...]
+"""What was done, as ("touch", "Run")."""
+
+HEAD = "G17 G21 G90 G94 G40 G49\n"
+PROGRAMS = (
+    HEAD + "M3 S1000\nG0 X3 Y3\nG1 Z-1 F300\nG1 X8 F600\nY8\nX3\nY3\nG0 Z2\nM5\nM2\n",
+    HEAD + "T1 M6\nG43 H1\nM3 S2000\nM8\nG0 X5 Y5\nG1 X9 F120\nM5\nM9\nT2 M6\nG43 H2\nM4 S900\nG1 Y9 F300\nM2\n",
+    HEAD + "M3 S800\nG1 X12 F180\n/G1 Y4\nM1\nG0 X1\nM0 (MSG, turn the part)\nG1 X2 F300\nM30\n",
+    HEAD + "G1 X4 F60\nG1 X8\nG1 X4\nM2\n",
+    HEAD + "M7\nM3 S1500\nG2 X6 Y6 I3 J3 F500\nG4 P0.2\nG81 X8 Y8 Z-2 R1 F200\nX10\nG80\nM2\n",
+    HEAD + "G0 X20\nG0 Y20\nG0 X0 Y0\nG0 X20 Y20\nG0 X0 Y0\nM2\n",
+    HEAD + "G1 X5 F600\nG1 X99 F600\nM2\n",
+    "G20\nG0 X0.2\nG1 X0.5 F20\nG21\nM2\n",
+)
+LINES = ("G0 X1", "G0 X5 Y5", "G1 X3 F300", "G0 Z2", "G0 Z0", "M3 S500", "M5", "M8", "M9", "G91", "G90", "G20", "G21",
+         "G91 G28 Z0", "G0 X500", "G1 Y2", "T1 M6", "T2 M6", "nonsense", "G43 H1", "G49", "G1 X30 F900", "M4 S1200",
+         "G4 P0.1", "G54", "G55", "(a word)")
+NUMBERS = ("0", "1", "2.5", "-3", "4", "10", "-40", "0.1", "x")
+
+_WEIGHTS: tuple[tuple[str, float], ...] = (
+    (r"^(Run|Continue|Let go on|Tool .* (in|out)$|Yes|It is done|Go on|Load$|Recover|Home)", 9),
+    (r"^(Next|Confirm|Go along|Go by|Resume|Rehearse again|Start ngc|They stand|It stands)", 7),
+    (r"^(Spindle.* off|Coolant off|Take over|Where |Restore|Drop|Give up|Yes, give)", 5), (r"^(Stop|From line 1)", 1),
+    (r"^(Set |Undo|Tool \d+ stands|Where the probe|[XYZ]([+\u2212]|$| @))", 2),
+    (r"^(Back|No|Later|Close)", 2),
+    (r"^(Program|Setup|Tools|Log)$", 1.2),
+    (r"^(Top|3-D|Fit|Light|Dark|All that)", 0.2), (r"^Quit", 0.25), (r"^(Load\u2026|Hold|Do$)", 0),
+)
+_WAYS_ON = (
+    r"Take over", r"Yes, give it up", r"(They|It) stand", r"Tool .* (is in|is out|in)$", r"Home$", r"Drop", r"Give up",
+    r"Where is", r"Where the player counts", r"No\b", r"Next", r"Confirm", r"Start ngc again", r"Stop$", r"Yes",
+    r"It is done", r"Recover", r"Home all$",
+    r"Continue", r"Let go on", r"Go on", r"Back", r"Close", r"Load")
+_FORWARDS, _WAITS = len(_WAYS_ON) - 3, 8
+"""What a person touches who wants to get on, the first of these that there is; the last three once nothing else comes.
+"""
+_MOVING = re.compile(r"^(Run|Continue|Let go on|Tool .* (in|out)$|Yes|It is done|Go on|Recover|Home|Restore|Resume"
+                     r"|Go along|Go by|Resume|[XYZ]([+\u2212]| @|$))")
+_AXIS = re.compile(r"^([XYZ])([+\u2212]?)( @.*)?$")
+
+
+@dataclass
+class Covered:
+    """What walks did."""
+
+    tells: bool = False
+    walks: int = 0
+    steps: Counter = field(default_factory=Counter)
+    buttons: Counter = field(default_factory=Counter)
+    checked: Counter = field(default_factory=Counter)
+    words: Counter = field(default_factory=Counter)
+
+    def __str__(self) -> str:
+        steps = ", ".join(f"{count} {name}" for name, count in self.steps.most_common())
+        checked = ", ".join(f"{count} of {name}" for name, count in self.checked.most_common())
+        return (f"{self.walks} walks, {sum(self.steps.values())} steps: {steps}; {len(self.buttons)} buttons touched;"
+                f" the band said {', '.join(self.words)}; looked at: {checked}")
+
+
+class Walk:
+    """One walk over a fresh machine, in the working folder."""
+
+    def __init__(self, tabs: Tabs, late: Lateness, covered: Covered) -> None:
+        self.tabs, self.late, self.covered = tabs, late, covered
+        self.bench = Bench()
+        self.judge = Judge(self.bench, late)
+        self.done: list[Step] = []
+        self.has_stop, self.has_door = False, False
+        self.seen: Seen | None = None
+        self.chosen: dict[str, bool] = {}
+        self.chosen_in = ""  # the session
+
+    @property
+    def truth(self) -> Truth:
+        """What the person knows."""
+        return self.judge.truth
+
+    def begin(self) -> None:
+        """All is started, and a page is open."""
+        self.bench.start_player()
+        self.bench.start_server()
+        self.tabs.add(self.bench.address)
+        self.seen = self.tabs.see()
+
+    def close(self) -> None:
+        """Ends all of it."""
+        self.tabs.drop_all()
+        self.bench.close()
+        self.covered.checked.update(self.judge.checked)
+
+    # a step, and what comes of it
+
+    def do(self, step: Step) -> None:
+        """Does a step, and looks at what comes of it. Raises Wrong."""
+        self.done.append(step)
+        self.covered.steps[step[0]] += 1
+        begun = time.monotonic()
+        getattr(self, f"_do_{step[0]}")(*step[1:])
+        did = time.monotonic()
+        self.settle()
+        if self.covered.tells:
+            took = f"{did - begun:.2f} + {time.monotonic() - did:.2f} s"
+            print(f"  {step} {took}; {self.seen and self.seen.word}", flush=True)
+        if self.seen is not None:
+            self.covered.words[self.seen.word] += 1
+
+    def settle(self, most_s: float = 1.0) -> None:
+        """Waits until all rests, or goes on for a while; all that is seen meanwhile has to be so."""
+        begun = time.monotonic()
+        while True:
+            if self.tabs.sessions and self.bench.has_server():
+                self.seen = self.tabs.see()
+                if not self.seen.busy and self.seen.does == "idle":
+                    self.truth.is_recovering = self.seen.half != "none"
+                self.judge.all(self.seen)
+            else:
+                self.judge.moves()
+            now, truth = time.monotonic(), self.truth
+            is_still = self.bench.mill.last_pulse_at() < now - 0.15
+            if is_still and now - begun > 0.12 and not self._is_busy():
+                if now > truth.touched_at + BEGINS_S + self.judge.slack_s(truth.touched_at):
+                    truth.may_move, truth.ways, truth.without_lines = False, None, False
+                return
+            if now - begun > (0.35 if not is_still else most_s):
+                return
+            time.sleep(0.03)
+
+    def _is_busy(self) -> bool:
+        """Whether something is under way by which it may move."""
+        seen = self.seen
+        if seen is None or not self.bench.has_player():
+            return False
+        return bool(seen.busy or seen.runs) and not (seen.question or seen.waits)
+
+    def press(self, button: int, text: str) -> bool:
+        """Presses a button, and sees that something comes of it; False where it isn't there any more."""
+        before = self.tabs.see()
+        found = self.tabs.find("buttons", button) if _text(before, button) == text else None
+        if found is None:
+            return False
+        self._licence(text, before)
+        self.covered.buttons[_DIGITS.sub("#", text)] += 1
+        self.truth.touched_at = time.monotonic()
+        self.tabs.down(*found)
+        self.tabs.up(*found)
+        if text.startswith("Stop"):
+            self._stops()
+        if text.startswith("Confirm"):
+            self._confirms(before, button)
+        if not before.buttons[button]["chosen"]:
+            self._answered(text, before.buttons[button]["says"], before)
+        self._told_place(self.tabs.posts(before.posts))
+        return True
+
+    def _stops(self) -> None:
+        """After Stop the motors come to rest as after Hold, and spindle and coolant go off."""
+        touched = self.truth.touched_at
+        self.judge.hold(touched, self.bench.mill.pulses)
+        self._rests_now()
+        while (on := self.bench.mill.outputs) and (on.spindle or on.mist or on.flood):
+            if time.monotonic() > touched + ANSWER_S + self.judge.slack_s(touched):
+                raise Wrong("stop leaves it on", f"{on}")
+            time.sleep(0.02)
+
+    def _confirms(self, seen: Seen, button: int) -> None:
+        """What is confirmed is at most as far off as the page says."""
+        confirms = [i for i, one in enumerate(seen.buttons) if one["says"].startswith(("Confirm", "\u2713"))]
+        axis = confirms.index(button)
+        entries = [one for one in seen.entries if one["label"].startswith("Machine ")]
+        if len(confirms) != 3 or len(entries) != 3 or (value := number(entries[axis]["value"])) is None:
+            return
+        off_mm = abs(value - self.bench.mill.at_mm[axis])
+        said_mm = max(map(float, re.findall(r"(\d+\.\d+) mm", seen.sheet)), default=0.0)
+        if off_mm > said_mm + 0.01:
+            raise Wrong("confirmed further off", f"{'XYZ'[axis]} is {off_mm:.3f} mm off, told is {said_mm}")
+
+    def _told_place(self, posts: list[dict]) -> None:
+        """Where the person told that the machine stands: what is shown is off by as much from then on."""
+        truth, at_mm = self.truth, self.bench.mill.at_mm
+        for post in posts:
+            tells = post["what"] in ("reference", "recover", "stands")
+            at = json.loads(post["body"] or "{}").get("at") if tells else {}
+            if at == "player":
+                at = dict(zip("XYZ", map(number, self.seen.motors)))
+            if isinstance(at, list):
+                at = dict(zip("XYZ", at))
+            if isinstance(at, dict) and at:
+                told = [float(at[axis]) - at_mm["XYZ".index(axis)] if axis in at else truth.offset["XYZ".index(axis)]
+                        for axis in "XYZ"]
+                truth.offset, truth.is_place_known, truth.is_zero_asked = (told[0], told[1], told[2]), True, True
+
+    def _answered(self, text: str, says: str, before: Seen) -> None:
+        """Something has to come of a touch of an enabled button, and a refusal has to be seen."""
+        until = time.monotonic() + ANSWER_S
+        said: list[str] = []
+        while True:
+            after = self.tabs.see()
+            self.seen = after
+            clicks = self.tabs.clicks(before.clicks)
+            if after.session != before.session or after.clicks < before.clicks:
+                return
+            if not any(click["text"].strip() == says for click in clicks):
+                return  # it was made anew under the finger
+            said, posts = list(changes(before, after)), self.tabs.posts(before.posts)
+            if any(post["ok"] is False and _is_told(_why(post), after) for post in posts):
+                return
+            if said or after.logs > before.logs and after.log[0][0] == "said":
+                break
+            patience_s = PATIENCE_S if any(post["ok"] is None for post in posts) else 0
+            if time.monotonic() > until + patience_s + self.judge.slack_s(until - ANSWER_S):
+                self._refused(text, before, after)
+                raise Wrong("nothing comes of it", f"{text}, at {before.word}: {before.detail}; posted {posts}")
+            time.sleep(0.03)
+        self._refused(text, before, after)
+
+    def _refused(self, text: str, before: Seen, after: Seen) -> None:
+        """What is refused is told beside Log too."""
+        until = time.monotonic() + ANSWER_S
+        while True:
+            count = max(0, after.logs - before.logs)
+            told = [says for kind, says in after.log[:count] if kind == "refused"]
+            silent = [says for says in told if not _is_told(says[8:], after)]
+            if not silent:
+                return
+            if time.monotonic() > until + self.judge.slack_s(until - ANSWER_S):
+                raise Wrong("refused in Log alone", f"{text}, at {before.word}: {silent[0]!r}; the page says"
+                                                    f" {after.word}: {after.detail}")
+            time.sleep(0.05)
+            after = self.tabs.see()
+
+    def _licence(self, text: str, seen: Seen) -> None:
+        """A person asks for motion by some buttons, of some axes alone."""
+        truth = self.truth
+        self.judge.moves()  # what was before it was before it
+        if seen.waits and re.match(r"Tool .* (in|out)$", text):
+            truth.tool = int(seen.waitsTool)
+        if not _MOVING.match(text):
+            self._zero_asked(text)
+            return
+        was_quiet, axis = not truth.may_move, _AXIS.match(text)
+        truth.may_move = True
+        if axis:
+            ways = {"+": "+", "\u2212": "-", "": "+-"}[axis[2]]
+            truth.ways = {f"{axis[1]}{way}" for way in ways} if was_quiet else truth.ways
+            truth.without_lines = True
+            return
+        truth.ways, truth.is_zero_asked = None, True
+        truth.without_lines = text.startswith("Home")
+        if text.startswith("Home"):
+            truth.offset, truth.is_place_known = (0.0, 0.0, 0.0), True
+
+    def _zero_asked(self, text: str) -> None:
+        if re.match(r"Set|Undo|Tool \d+ stands|Add|Load|Give up|Yes, give|Drop", text):
+            self.truth.is_zero_asked = True
+
+    # what a person does
+
+    def _do_touch(self, text: str) -> None:
+        """Touches a button of this text, of whatever numbers."""
+        if (number_of := self._button(text)) is not None:
+            self.press(*number_of)
+
+    def _button(self, text: str) -> tuple[int, str] | None:
+        """The number and the text of the button that is meant."""
+        self.seen = seen = self.tabs.see()
+        for alike in (lambda one: one == text, lambda one: _DIGITS.sub("#", one) == _DIGITS.sub("#", text)):
+            for number_, button in enumerate(seen.buttons):
+                if alike(button["text"]):
+                    return number_, button["text"]
+        return None
+
+    def _do_double(self, text: str) -> None:
+        """Taps twice."""
+        found = self._button(text)
+        place = self.tabs.find("buttons", found[0]) if found else None
+        if place is None:
+            return
+        before = self.tabs.see()
+        self._licence(found[1], before)
+        self.truth.touched_at = time.monotonic()
+        for wait_s in (0.2, 0.0):
+            self.tabs.down(*place)
+            self.tabs.up(*place)
+            time.sleep(wait_s)
+        clicks = [one for one in self.tabs.clicks(before.clicks) if one["kind"] == "click"]
+        posts = self.tabs.posts(before.posts)
+        if len(clicks) == 2 and clicks[0]["text"] != clicks[1]["text"] and clicks[0]["id"] == clicks[1]["id"] != "":
+            late = [post["what"] for post in posts if post["at"] >= clicks[1]["at"]]
+            if late:
+                raise Wrong("second tap", f"{clicks[0]['text']} was tapped twice; the second tap was on"
+                                          f" {clicks[1]['text']}, and did {late}")
+
+    def _do_jog(self, text: str, seconds: str) -> None:
+        """Keeps a finger on a button for a while."""
+        found = self._button(text)
+        place = self.tabs.find("buttons", found[0]) if found else None
+        if place is None:
+            return
+        self._licence(found[1], self.tabs.see())
+        self.truth.touched_at = time.monotonic()
+        self.tabs.down(*place)
+        until = time.monotonic() + float(seconds)
+        while time.monotonic() < until:
+            self.seen = self.tabs.see()
+            self.judge.all(self.seen)
+            time.sleep(0.05)
+        self.tabs.up(*place)
+
+    def _do_type(self, line: str) -> None:
+        """Types a line of G-code."""
+        if not any(one["id"] == "line" for one in self.tabs.see().entries):
+            return
+        self.tabs.fill("#line", line)
+        self.seen = before = self.tabs.see()
+        button = next((i for i, one in enumerate(before.buttons) if one["id"] == "do"), None)
+        if button is None:
+            return
+        axes = [axis for axis in "XYZ" if axis in line]
+        self.judge.moves()
+        self.truth.may_move, self.truth.is_zero_asked = bool(axes), True
+        self.truth.ways = {f"{axis}{way}" for axis in axes for way in "+-"}
+        self.press(button, "Do")
+
+    def _do_fill(self, label: str, value: str) -> None:
+        """Writes into an entry."""
+        self.seen = seen = self.tabs.see()
+        entry = next((i for i, one in enumerate(seen.entries) if one["label"] == label), None)
+        place = self.tabs.find("entries", entry) if entry is not None else None
+        if label.startswith("Machine ") and label[-1] in "XYZ":  # somebody measures it
+            value = f"{self.bench.mill.at_mm['XYZ'.index(label[-1])]:.3f}"
+        if place is not None:
+            self.tabs.js(f"(() => {{ const one = walked.entries[{entry}]; one.focus(); one.select(); }})()")
+            self.tabs.type(value)
+
+    def _do_load(self, which: str) -> None:
+        """Chooses a program, and loads it."""
+        self.seen = seen = self.tabs.see()
+        if not any(one["id"] == "load" for one in seen.buttons):
+            return
+        Path("part.ngc").write_text(PROGRAMS[int(which)])
+        self.tabs.choose_file(Path("part.ngc").resolve())
+        self._until(lambda s: len(s.goes) or "all the same" in s.sheet or "bad" in s.sheet, 20)
+
+    def _until(self, holds: Callable[[Seen], object], most_s: float) -> None:
+        """Waits until a page shows something."""
+        until = time.monotonic() + most_s
+        while time.monotonic() < until:
+            self.seen = self.tabs.see()
+            self.judge.all(self.seen)
+            if holds(self.seen):
+                return
+            time.sleep(0.05)
+
+    def _do_hold(self, how: str) -> None:
+        """Touches Hold, or the space bar."""
+        self.seen = before = self.tabs.see()
+        if not any(one["id"] == "hold" for one in before.buttons):
+            return
+        number_ = next(i for i, one in enumerate(before.buttons) if one["id"] == "hold")
+        place = self.tabs.find("buttons", number_)
+        if place is None:
+            return
+        pulses, touched = self.bench.mill.pulses, time.monotonic()
+        if how == "space":
+            self.tabs.space()
+        else:
+            self.tabs.down(*place)
+            self.tabs.up(*place)
+        if before.isLost:
+            return
+        self.judge.hold(touched, pulses)
+        self._rests_now()
+
+    def _rests_now(self) -> None:
+        """The motors rest, and nobody asked for motion since."""
+        self.judge.moves()
+        self.truth.may_move = False
+
+    # pages
+
+    def _do_reload(self) -> None:
+        """The page is loaded anew."""
+        self.tabs.call("Page.reload")
+        time.sleep(0.05)
+
+    def _do_page(self, what: str) -> None:
+        """One more page, or another one."""
+        if what == "add" and len(self.tabs.sessions) < 3:
+            self.tabs.add(self.bench.address)
+        elif what == "use" and len(self.tabs.sessions) > 1:
+            self.tabs.sessions.append(self.tabs.sessions.pop(0))
+            self.tabs.use(0)
+        elif what == "drop" and len(self.tabs.sessions) > 1:
+            self.tabs.drop(0)
+
+    # what happens at the machine
+
+    def _do_door(self, what: str) -> None:
+        """Somebody opens or shuts the door."""
+        self.has_door = what == "opens"
+        opened, pulses = time.monotonic(), self.bench.mill.pulses
+        self.bench.input("door", self.has_door)
+        if self.has_door:
+            self.judge.hold(opened, pulses)
+            self._rests_now()
+
+    def _do_stop(self, what: str) -> None:
+        """Somebody presses or frees the emergency stop."""
+        self.has_stop = what == "pressed"
+        pressed, pulses = time.monotonic(), self.bench.mill.pulses
+        self.bench.input("stop", self.has_stop)
+        if self.has_stop:
+            self.judge.hold(pressed, pulses)
+            self._rests_now()
+
+    def _do_kill(self, *names: str) -> None:
+        """Processes are killed; all of them as by a loss of power."""
+        is_moving = self.bench.mill.last_pulse_at() > time.monotonic() - 0.3
+        self.judge.moves()
+        if "server" in names and self.bench.has_server():
+            self.settle()
+            self.chosen, self.chosen_in = _chosen(self.seen), self.seen.session
+        if "ngc" in names and self.bench.has_server():
+            self.bench.kill("ngc")
+        self.bench.kill(*(name for name in names if name != "ngc"))
+        if "player" in names:
+            self._rests_now()
+            if is_moving:
+                self.truth.is_place_known = False
+        if len(names) == 3:
+            self.bench.mill.lose_power()
+
+    def _do_start(self, what: str) -> None:
+        """Somebody starts what is gone."""
+        if what == "player" and not self.bench.has_player():
+            self.bench.start_player()
+        elif what == "server" and not self.bench.has_server() and self.bench.has_player():
+            self.bench.start_server()
+            self._until(lambda s: not s.isLost and s.session != self.chosen_in, PATIENCE_S)
+            self._chosen_again()
+
+    def _chosen_again(self) -> None:
+        """What was chosen is in force again, or is named."""
+        self.settle()
+        seen = self.seen
+        lost = [name for name, is_on in self.chosen.items() if is_on and not _chosen(seen).get(name)]
+        named = [name for name in lost if name.split(" ")[0].lower() in seen.all_words.lower()]
+        if lost != named:
+            raise Wrong("choices lost", f"chosen was {lost}; the page says {seen.word}: {seen.detail}")
+
+    # the end of a walk
+
+    def leads_out(self) -> None:
+        """Whatever came: with all started again and nothing pressed, the buttons lead to a machine that rests, and
+        takes a program. Raises Wrong."""
+        for step in (("door", "shuts"), ("stop", "freed"), ("start", "player"), ("start", "server")):
+            self.do(step)
+        for _ in range(WAYS):
+            self.seen = seen = self.tabs.see()
+            if any(one["id"] == "load" for one in seen.buttons) and not seen.sheet:
+                return
+            self.do(self._way_on(seen))
+        raise Wrong("no way on", f"{self.seen.word}: {self.seen.detail}; enabled are"
+                                 f" {[one['text'] for one in self.seen.buttons]}")
+
+    def _way_on(self, seen: Seen) -> Step:
+        """The step that leads on."""
+        if seen.isLost:
+            return "wait", "0.5"
+        for entry in (one for one in seen.entries if one["label"].startswith("Machine ")):
+            true = f"{self.bench.mill.at_mm['XYZ'.index(entry['label'][-1])]:.3f}"
+            if number(entry["value"]) != number(true):
+                return "fill", entry["label"], true
+        for form in _WAYS_ON if set(self.done[-_WAITS:]) == {("wait", "0.5")} else _WAYS_ON[:_FORWARDS]:
+            for button in seen.buttons:
+                if re.match(form, button["text"]) and not (button["look"] and button["pressed"] == "true"):
+                    return "touch", button["text"]
+        return "wait", "0.5"
+
+    def _do_wait(self, seconds: str) -> None:
+        """Waits, and sees."""
+        until = time.monotonic() + float(seconds)
+        while time.monotonic() < until:
+            self.settle(0.3)
+            time.sleep(0.05)
+
+
+def _chosen(seen: Seen) -> dict[str, bool]:
+    """What a person chose, by its name: whether it is in force."""
+    names = {"single": "Single block", "optional": "Optional stop", "delete": "Block delete"}
+    found = {names[name]: is_on == "true" for name, is_on in seen.switches.items()}
+    return found | {says: True for says in seen.overrides if not says.endswith(" 100 %")}
+
+
+def _why(post: dict) -> str:
+    """Why what was posted isn't done."""
+    said = str(post.get("said", ""))
+    try:
+        return str(json.loads(said).get("why", ""))
+    except ValueError:
+        return said
+
+
+def _text(seen: Seen, button: int) -> str:
+    return seen.buttons[button]["text"] if button < len(seen.buttons) else ""
+
+
+def _is_told(says: str, seen: Seen) -> bool:
+    """Whether what Log says stands where the person works: enough of it."""
+    words = re.findall(r"\w+", says)[:6]
+    shown = set(re.findall(r"\w+", seen.all_words))
+    return sum(word in shown for word in words) >= min(3, len(words))
+
+
+class Chance:
+    """What the person does next, by chance."""
+
+    def __init__(self, seed: int, walk: Walk) -> None:
+        self.random, self.walk = random.Random(seed), walk
+
+    def next(self) -> Step:
+        """The next step."""
+        walk, chance = self.walk, self.random
+        bench, seen = walk.bench, walk.seen
+        if not bench.has_player() and chance.random() < 0.35:
+            return "start", "player"
+        if not bench.has_server():
+            return ("start", "server") if bench.has_player() else ("start", "player")
+        if seen is None or seen.isLost:
+            return chance.choice((("wait", "0.5"), ("reload",)))
+        return self._at_machine() or self._at_page(seen)
+
+    def _at_machine(self) -> Step | None:
+        """What happens beside the page."""
+        walk, chance = self.walk, self.random
+        draw = chance.random()
+        if walk.has_door and draw < 0.25:
+            return "door", "shuts"
+        if walk.has_stop and draw < 0.25:
+            return "stop", "freed"
+        rare: tuple[tuple[float, Step], ...] = (
+            (0.012, ("door", "opens")), (0.008, ("stop", "pressed")), (0.012, ("kill", "player")),
+            (0.008, ("kill", "ngc")), (0.008, ("kill", "server")), (0.02, ("kill", "player", "server", "ngc")),
+            (0.02, ("reload",)), (0.01, ("page", "add")), (0.02, ("page", "use")), (0.006, ("page", "drop")))
+        for share, step in rare:
+            if draw < share:
+                return step
+            draw -= share
+        return None
+
+    def _at_page(self, seen: Seen) -> Step:
+        """What a person touches."""
+        chance, draw = self.random, self.random.random()
+        if draw < (0.16 if seen.runs else 0.03):
+            return "hold", chance.choice(("button", "space"))
+        if draw < 0.20:
+            return "wait", chance.choice(("0.1", "0.3", "1.0"))
+        ids = {one["id"] for one in seen.buttons}
+        has_program = "No program" not in seen.detail
+        if draw < 0.26 and any(one["id"] == "line" for one in seen.entries):
+            return "type", chance.choice(LINES)
+        if draw < (0.31 if has_program else 0.6) and "load" in ids and not seen.sheet:
+            return "load", str(chance.randrange(len(PROGRAMS)))
+        entries = [one["label"] for one in seen.entries if one["id"] != "line" and one["label"]]
+        if draw < 0.36 and entries:
+            return "fill", chance.choice(entries), chance.choice(NUMBERS)
+        return self._touch(seen)
+
+    def _touch(self, seen: Seen) -> Step:
+        """A button, the likelier the more it does."""
+        texts = [one["text"] for one in seen.buttons]
+        weights = [0 if seen.sheet and one["id"] in ("quit", "restart") else
+                   _weight(text, one["part"]) + 8 * (one["id"] == "run") for text, one in zip(texts, seen.buttons)]
+        if not texts or not any(weights):
+            return "wait", "0.3"
+        text = self.random.choices(texts, weights)[0]
+        if _AXIS.match(text) and self.random.random() < 0.6:
+            return "jog", text, self.random.choice(("0.2", "0.5", "0.9"))
+        if self.random.random() < 0.06:
+            return "double", text
+        return "touch", text
+
+
+def _weight(text: str, part: str) -> float:
+    if part == "over":
+        return max(3.0, next((weight for form, weight in _WEIGHTS if re.match(form, text)), 3.0))
+    return next((weight for form, weight in _WEIGHTS if re.match(form, text)), 1.0)
+
+
+def in_folder(work: Callable[[], object]) -> object:
+    """Does something in a folder of its own."""
+    before = os.getcwd()
+    with tempfile.TemporaryDirectory(prefix="ngc-walk-", dir=memory()) as folder:
+        os.chdir(folder)
+        try:
+            return work()
+        finally:
+            os.chdir(before)
+
+
+@dataclass
+class Failure:
+    """How a walk failed: by which rule, with which steps."""
+
+    seed: int
+    says: str
+    rule: str
+    steps: list[Step]
+
+
+def walked(tabs: Tabs, late: Lateness, covered: Covered, given: list[Step] | int, count: int, until: float,
+           prepare: Callable[[Walk], None] = lambda _: None) -> Failure | None:
+    """One walk: these steps, or so many by chance; how it failed, if it did."""
+    def work() -> Failure | None:
+        walk = Walk(tabs, late, covered)
+        try:
+            walk.begin()
+            prepare(walk)
+            chance = Chance(given if isinstance(given, int) else 0, walk)
+            for number_ in range(count):
+                if time.monotonic() > until:
+                    break
+                walk.do(chance.next() if isinstance(given, int) else given[number_])
+            walk.leads_out()
+        except Exception as error:  # a walk that dies is told as any other that fails
+            rule = getattr(error, "rule", type(error).__name__)
+            seed = given if isinstance(given, int) else 0
+            says = str(error) if isinstance(error, (Wrong, Failed)) else traceback.format_exc()
+            return Failure(seed, f"{says}\n  said by the processes: {walk.bench.said()}", rule, walk.done)
+        finally:
+            walk.close()
+            covered.walks += 1
+        return None
+    return in_folder(work)
+
+
+def shortened(tabs: Tabs, late: Lateness, failure: Failure, within_s: float) -> list[Step]:
+    """The steps without those that aren't needed for it to fail so again."""
+    steps, until = list(failure.steps), time.monotonic() + within_s
+    size = max(1, len(steps) // 2)
+    while size >= 1 and time.monotonic() < until:
+        at, has_shortened = 0, False
+        while at < len(steps) and time.monotonic() < until:
+            fewer = steps[:at] + steps[at + size:]
+            again = walked(tabs, late, Covered(), fewer, len(fewer), until + 60)
+            if again is not None and again.rule == failure.rule:
+                steps, has_shortened = again.steps, True
+            else:
+                at += size
+        size = size // 2 if not has_shortened or size > 1 else 0
+    return steps
+
+
+def main(words: list[str]) -> int:
+    """Walks, and returns the exit status."""
+    parser = argparse.ArgumentParser(description=__doc__, formatter_class=argparse.RawDescriptionHelpFormatter)
+    parser.add_argument("--seed", type=int, default=1, help="the first walk's (1)")
+    parser.add_argument("--seconds", type=float, default=3600, help="how long it walks (3600)")
+    parser.add_argument("--steps", type=int, default=STEPS, help=f"of each walk ({STEPS})")
+    parser.add_argument("--again", metavar="FILE", help="does the steps that a failure printed, a line each")
+    parser.add_argument("--keep-on", action="store_true", help="walks on after a failure, without shortening it")
+    parser.add_argument("--tell", action="store_true", help="tells each step, and how long it took")
+    given = parser.parse_args(words)
+    tabs, late, covered = Tabs(chromium() or "chromium"), Lateness(), Covered(given.tell)
+    try:
+        return _walk_on(given, tabs, late, covered)
+    finally:
+        tabs.close()
+        late.close()
+        print(covered, flush=True)
+
+
+def _walk_on(given: argparse.Namespace, tabs: Tabs, late: Lateness, covered: Covered) -> int:
+    until, seed, count = time.monotonic() + given.seconds, given.seed, 0
+    if given.again:
+        steps = [tuple(json.loads(line)) for line in Path(given.again).read_text().splitlines()]
+        failure = walked(tabs, late, covered, steps, len(steps), until)
+        print(told(failure, failure.steps) if failure else "nothing was wrong", flush=True)
+        return int(failure is not None)
+    while time.monotonic() < until:
+        failure = walked(tabs, late, covered, seed, given.steps, until)
+        if failure:
+            count += 1
+            steps = failure.steps if given.keep_on else shortened(tabs, late, failure, 120)
+            print(told(failure, steps), flush=True)
+            if not given.keep_on:
+                break
+        seed += 1
+    return int(count > 0)
+
+
+def told(failure: Failure, steps: list[Step]) -> str:
+    """A failure in words."""
+    lines = "\n".join(json.dumps(step, ensure_ascii=False) for step in steps)
+    return f"seed {failure.seed}: {failure.says}\n  by these steps of {len(failure.steps)}:\n{lines}\n"
+
+
+if __name__ == "__main__":
+    with suppress(KeyboardInterrupt):
+        sys.exit(main(sys.argv[1:]))

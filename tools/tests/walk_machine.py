@@ -1,0 +1,333 @@
+"""The machine of the walk by chance: a mill as `machine_world.c` has it, in which all that a player made is told, its
+processes, and how late this computer is for what others run on it.
+
+The machine's coordinates are those of the world: its switches stand where the machine's file says."""
+import mmap
+import os
+import re
+import signal
+import socket
+import struct
+import subprocess
+import sys
+import threading
+import time
+from collections import deque
+from collections.abc import Iterator
+from contextlib import suppress
+from dataclasses import dataclass
+from pathlib import Path
+
+from player_support import SOURCES, built
+from session_support import PATIENCE_S, TOOLS, ngc
+from test_moves import DOOR, PROBE, STOP, World
+
+STEP_MM = 0.005
+ACCEL_MM_S2 = 500.0
+SETTINGS = """step_nm = [5000, 5000, 5000]
+low_nm = [-9000000, -9000000, -60000000]
+high_nm = [60000000, 60000000, 4500000]
+traverse_nm_per_min = 3000000000
+period_us = 50
+tools_nm = [20000000, 30000000]
+"""
+MACHINE = """[motion]
+accel_mm_s2 = [500, 500, 500]
+most_percent = 150
+
+[spindle]
+max_rpm = 12000
+
+[setter]
+height_um = -40000
+
+[inputs]
+emergency_stop = 0
+limits_low = [1, 2, -1]
+limits_high = [7, -1, 3]
+door = 4
+probe = 6
+on_while_low = [0]
+
+[home]
+order = [2, 3, 1]
+switch = [1, 2, 3]
+direction = [-1, -1, 1]
+fast_mm_min = [1500, 1500, 1500]
+slow_mm_min = [120, 120, 120]
+pull_off_um = [1000, 1000, 500]
+at_um = [-9000, -9000, 4500]
+way_mm = [80, 80, 80]
+agree_um = 40
+"""
+_MADE, _PULSE, _LAST = struct.Struct("=8Q"), struct.Struct("=q3b5x"), 1 << 17
+_KEPT_S = 60.0
+Point = tuple[float, float, float]
+
+
+@dataclass(frozen=True, slots=True)
+class Outputs:
+    """The outputs as the pins have them; the speed in turns a minute."""
+
+    spindle: int
+    speed: float
+    mist: int
+    flood: int
+    slot: int
+
+
+class Lateness:
+    """How late a thread that wants to be woken each few milliseconds is woken on this computer now."""
+
+    _EACH_S = 0.004
+
+    def __init__(self) -> None:
+        self._found: deque[tuple[float, float]] = deque(maxlen=int(_KEPT_S / self._EACH_S))
+        self._over = threading.Event()
+        self._thread = threading.Thread(target=self._look, daemon=True)
+        self._thread.start()
+
+    def _look(self) -> None:
+        while not self._over.is_set():
+            due = time.monotonic() + self._EACH_S
+            time.sleep(self._EACH_S)
+            self._found.append((due, time.monotonic() - due))
+
+    def worst_s(self, since: float) -> float:
+        """The worst since a moment of the monotonic clock."""
+        return max((late for due, late in list(self._found) if due >= since - self._EACH_S), default=0.0)
+
+    def close(self) -> None:
+        """Ends it."""
+        self._over.set()
+        self._thread.join()
+
+
+class Mill(World):
+    """The simulated machine, in millimetres of the machine's coordinates, and what its motors made."""
+
+    def __init__(self) -> None:
+        with open("made", "wb") as file:
+            file.truncate(_MADE.size + _LAST * _PULSE.size)
+        with open("made", "r+b") as file:
+            self._made = mmap.mmap(file.fileno(), 0)
+        super().__init__()
+        for number, (high, axis, sign, at_mm) in enumerate(((1, 0, -1, -10), (2, 1, -1, -10), (3, 2, 1, 5))):
+            self.switch(number, high, axis, sign, round(at_mm / STEP_MM))
+        self.switch(3, PROBE, 2, -1, round(-20 / STEP_MM))
+
+    @property
+    def pulses(self) -> int:
+        """How many were made."""
+        return int(_MADE.unpack_from(self._made)[0])
+
+    @property
+    def outputs(self) -> Outputs:
+        """The outputs now."""
+        _, spindle, speed, mist, flood, slot, _, _ = _MADE.unpack_from(self._made)
+        return Outputs(spindle, speed / 1e6, mist, flood, slot)
+
+    @property
+    def turns_since(self) -> float:
+        """When the spindle began to turn last, by the monotonic clock."""
+        return float(_MADE.unpack_from(self._made)[6]) / 1e9
+
+    @property
+    def switched_at(self) -> float:
+        """When an output changed last."""
+        return float(_MADE.unpack_from(self._made)[7]) / 1e9
+
+    def lose_power(self) -> None:
+        """Nothing turns, and nothing flows."""
+        _MADE.pack_into(self._made, 0, self.pulses, 0, 0, 0, 0, self.outputs.slot, 0, time.monotonic_ns())
+
+    @property
+    def at_mm(self) -> Point:
+        """Where the machine is."""
+        x, y, z = self.place
+        return x * STEP_MM, y * STEP_MM, z * STEP_MM
+
+    def last(self, count: int) -> Iterator[tuple[float, tuple[int, int, int]]]:
+        """The last pulses, the newest first: when each was made, and the steps of its axes."""
+        end = self.pulses
+        for number in range(end - 1, max(-1, end - 1 - min(count, _LAST // 2)), -1):
+            at_ns, *step = _PULSE.unpack_from(self._made, _MADE.size + number % _LAST * _PULSE.size)
+            yield at_ns / 1e9, (step[0], step[1], step[2])
+
+    def last_pulse_at(self) -> float:
+        """When the last pulse was made; 0 for none."""
+        return next((at for at, _ in self.last(1)), 0.0)
+
+    def moved_since(self, pulses: int) -> dict[str, int]:
+        """The axes that moved since so many pulses were made, as `X+`, with how many steps."""
+        found: dict[str, int] = {}
+        for _, step in self.last(self.pulses - pulses):
+            for axis, way in zip("XYZ", step):
+                if way:
+                    name = f"{axis}{'+' if way > 0 else '-'}"
+                    found[name] = found.get(name, 0) + 1
+        return found
+
+    def places_since(self, since: float) -> Iterator[Point]:
+        """Where it was, from now back to a moment."""
+        at = list(self.place)
+        yield at[0] * STEP_MM, at[1] * STEP_MM, at[2] * STEP_MM
+        for when, step in self.last(_LAST):
+            at = [one - way for one, way in zip(at, step)]
+            yield at[0] * STEP_MM, at[1] * STEP_MM, at[2] * STEP_MM
+            if when < since:
+                return
+
+    def rate_mm_s(self, at: float, within_s: float = 0.02) -> float:
+        """The greatest rate of the motors shortly before a moment, of an axis."""
+        counts: dict[str, int] = {}
+        for when, step in self.last(_LAST):
+            if when < at - within_s:
+                break
+            if when <= at:
+                for axis, way in zip("XYZ", step):
+                    counts[axis] = counts.get(axis, 0) + abs(way)
+        return max(counts.values(), default=0) * STEP_MM / within_s
+
+    def pauses_ms(self, since: float, least_s: float = 0.03) -> list[tuple[int, int]]:
+        """Where no pulse came for a while since a moment: when that began, and how long it was."""
+        found, later = [], 0.0
+        for when, _ in self.last(_LAST):
+            if later and later - when > least_s:
+                found.append((round(1000 * (when - since)), round(1000 * (later - when))))
+            if when < since:
+                break
+            later = when
+        return found[::-1]
+
+    def steps_between(self, begin: float, end: float) -> tuple[float, float]:
+        """How far an axis went at most between two moments, in mm, and when the last pulse before the second was."""
+        counts, latest = {"X": 0, "Y": 0, "Z": 0}, 0.0
+        for when, step in self.last(_LAST):
+            if when < begin:
+                break
+            if when <= end:
+                latest = max(latest, when)
+                for axis, way in zip("XYZ", step):
+                    counts[axis] += abs(way)
+        return max(counts.values()) * STEP_MM, latest
+
+    def close(self) -> None:
+        """Lets go of its files."""
+        super().close()
+        self._made.close()
+
+
+def player_program() -> str:
+    """The player over the simulated machine, as fast as it goes."""
+    sources = tuple(path for path in SOURCES if path.name not in ("pins.c", "input_pins.c"))
+    return built("-O2", sources=(*sources, TOOLS / "tests/machine_world.c"))
+
+
+class Bench:
+    """The folder of a machine, and the processes in it: the player, the page's server, and `ngc` below that."""
+
+    def __init__(self) -> None:
+        """In the working folder; nothing is started yet."""
+        Path("first.toml").write_text(SETTINGS)
+        Path("motion.toml").write_text(MACHINE)
+        Path("out").touch()
+        subprocess.run([ngc(), "format", "mill.dev"], check=True, capture_output=True)
+        subprocess.run([ngc(), "run", "mill.dev", "first.toml", "out"], input="tool 1 20\ntool 2 30\n", text=True,
+                       check=True, capture_output=True)
+        self.mill = Mill()
+        self.player: subprocess.Popen | None = None
+        self.server: subprocess.Popen | None = None
+        with socket.socket() as found:
+            found.bind(("127.0.0.1", 0))
+            self.port = found.getsockname()[1]
+        self.key = "walk-by-chance-is-no-secret"
+        self.address = f"http://127.0.0.1:{self.port}/{self.key}/"
+        self.program, self.complaints = player_program(), open("complaints", "wb")
+        self.serves = TOOLS / "ngc-page"
+
+    def start_player(self) -> None:
+        """Starts the player, and waits until it listens."""
+        with suppress(FileNotFoundError):
+            os.unlink("progress")
+        words = ["-f", "-s", "progress", "-m", "motion.toml", "out", "first.toml", "position"]
+        self.player = subprocess.Popen([self.program, *words], stdin=subprocess.DEVNULL, stdout=self.complaints,
+                                       stderr=self.complaints)
+        until = time.monotonic() + PATIENCE_S
+        while not os.path.exists("progress"):
+            if self.player.poll() is not None or time.monotonic() > until:
+                raise AssertionError(f"the player doesn't start: {self.said()}")
+            time.sleep(0.005)
+
+    def start_server(self) -> None:
+        """Starts the page's server, and waits until it serves."""
+        if self.server is not None:
+            self.server.stdout.close()
+        words = ["mill.dev", "first.toml", "out", "--player", "progress", "--machine", "motion.toml", "--ngc", ngc(),
+                 "--listen", f"127.0.0.1:{self.port}"]
+        self.server = subprocess.Popen([sys.executable, self.serves, *words], stdin=subprocess.DEVNULL,
+                                       stdout=subprocess.PIPE, stderr=self.complaints, text=True,
+                                       env=os.environ | {"NGC_PAGE_KEY": self.key})
+        if self.server.stdout.readline().strip() != self.address:
+            raise AssertionError(f"the page isn't served: {self.said()}")
+
+    def said(self) -> str:
+        """What was complained of."""
+        return Path("complaints").read_text(errors="replace")[-2000:]
+
+    def has_player(self) -> bool:
+        """Whether a player runs."""
+        return self.player is not None and self.player.poll() is None
+
+    def has_server(self) -> bool:
+        """Whether the page is served."""
+        return self.server is not None and self.server.poll() is None
+
+    def kill(self, *names: str) -> None:
+        """Kills `player`, `server` or `ngc`."""
+        children = self.children()
+        for child, name in ((self.player, "player"), (self.server, "server")):
+            if name in names and child is not None:
+                child.kill()
+        for pid in children if "ngc" in names else ():
+            with suppress(ProcessLookupError):
+                os.kill(pid, signal.SIGKILL)
+        for child, name in ((self.player, "player"), (self.server, "server")):
+            if name in names and child is not None:
+                child.wait()
+
+    def children(self) -> list[int]:
+        """The processes of `ngc` that the server started."""
+        if self.server is None:
+            return []
+        found = []
+        for path in Path(f"/proc/{self.server.pid}/task").glob("*/children"):
+            with suppress(OSError):
+                found += [int(pid) for pid in path.read_text().split()]
+        return [pid for pid in found if _is_ngc(pid)]
+
+    def input(self, name: str, is_on: bool) -> None:
+        """Opens or shuts the door, or presses or frees the emergency stop."""
+        if name == "door":
+            self.mill.put(DOOR, is_on)
+        else:
+            self.mill.put(STOP, not is_on)
+
+    def recorded_mm(self) -> Point | None:
+        """Where the player's record on the disk has the machine."""
+        match = re.search(r"^reference (\S+) (\S+) (\S+)$", Path("position").read_text(errors="replace"), re.MULTILINE)
+        return (float(match[1]), float(match[2]), float(match[3])) if match else None
+
+    def close(self) -> None:
+        """Ends all."""
+        self.kill("player", "server", "ngc")
+        if self.server is not None:
+            self.server.stdout.close()
+        self.mill.close()
+        self.complaints.close()
+
+
+def _is_ngc(pid: int) -> bool:
+    with suppress(OSError):
+        return Path(f"/proc/{pid}/exe").resolve() == Path(ngc()).resolve()
+    return False

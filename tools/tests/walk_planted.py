@@ -1,0 +1,78 @@
+"""Serves the page as `ngc-page` does, with a fault in it that the file `planted` names: what the walk by chance has to
+find."""
+import sys
+import time
+from collections.abc import Callable
+from pathlib import Path
+
+sys.path.insert(0, str(Path(__file__).resolve().parents[1]))
+
+from ngc_tools.cli.page import main  # noqa: E402
+from ngc_tools.operator.face import REFUSED  # noqa: E402
+from ngc_tools.page import deeds, server  # noqa: E402
+from ngc_tools.page.session import PageSession  # noqa: E402
+
+STATE_OF, HOLD = server.state_of, PageSession.hold
+
+
+def planted() -> str:
+    """The fault that is wanted now."""
+    return Path("planted").read_text() if Path("planted").exists() else ""
+
+
+def state_of(*given: object) -> dict:
+    """The state, with a lie in it."""
+    said = STATE_OF(*given)
+    match planted():
+        case "place" if said["motors"]:
+            said["motors"] = [f"{float(said['motors'][0]) + 0.005:.6f}", *said["motors"][1:]]
+        case "work" if said["work"]:
+            said["work"] = [*said["work"][:2], f"{float(said['work'][2]) + 20:.6f}"]
+        case "tool":
+            said["slot"] = said["slot"] - 1
+        case "spindle":
+            said["spindle"] = 0
+        case "coolant":
+            said["flood"] = 1 - said["flood"]
+        case "runs" if said["tone"] == "hold":
+            said |= {"word": "Running", "tone": "run", "detail": "line 3 of 11"}
+        case "rests" if said["tone"] == "run":
+            said |= {"word": "Idle", "tone": "idle", "detail": "Ready"}
+    return said
+
+
+def dead(given: deeds.Given) -> dict | None:
+    """A button that does nothing."""
+    return None if planted() == "dead" else deeds_switch(given)
+
+
+def moves(given: deeds.Given) -> dict | None:
+    """One that moves an axis, which nobody asked for."""
+    if planted() != "moves":
+        return deeds_loss(given)
+    given.session.type("jog X+ 600 for 0.1")
+    return deeds_loss(given)
+
+
+def refuses(given: deeds.Given) -> dict | None:
+    """One that is refused in Log alone."""
+    if planted() != "silent":
+        return deeds_zero(given)
+    given.session.face.say("zero: it isn't taken for some reason", REFUSED)
+    given.session.face.refusal = ""
+    return None
+
+
+def hold(session: PageSession, *given: object) -> None:
+    """A hold that comes late."""
+    time.sleep(2.0 if planted() == "late" else 0)
+    HOLD(session, *given)
+
+
+deeds_switch, deeds_loss, deeds_zero = (deeds.DEEDS[name] for name in ("switch", "loss", "zero"))
+PLANTS: dict[str, Callable[[deeds.Given], dict | None]] = {"switch": dead, "loss": moves, "zero": refuses}
+
+if __name__ == "__main__":
+    server.state_of, PageSession.hold = state_of, hold
+    deeds.DEEDS.update(PLANTS)
+    sys.exit(main())

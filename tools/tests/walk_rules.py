@@ -1,0 +1,256 @@
+"""What must hold at each step of the walk by chance: what the page says is what the machine's model has, nothing moves
+that nobody asked for, and each touch is answered where it was made."""
+import re
+import time
+from collections.abc import Iterator
+from dataclasses import dataclass
+
+from walk_machine import ACCEL_MM_S2, Bench, Lateness, Outputs, Point
+from walk_page import Seen
+
+FRESH_S = 0.8
+"""What the page says may be so old."""
+HOPS = 6
+"""A touch, and what it changes, goes through so many threads, each of which may be woken late."""
+HOLD_S = 0.1
+AGED_S = 30.0
+"""A place that is shown with its age may be one of so long ago."""
+REST_S = 2.0
+"""So long a page may say that the machine moves while it rests."""
+NEAR_MM = {"mm": 0.0011, "in": 0.0026}
+_UNITS = {"mm": 1.0, "in": 25.4}
+_TURNS = {"\u21bb": 1, "\u21ba": 2}
+_NUMBER = re.compile(r"[-\u2212]?\d[\d,]*(?:\.\d+)?")
+UNKNOWN = ("\u2013", "-", "\u2014", "?", "")
+
+
+class Wrong(AssertionError):
+    """Something that must not be: the name of the rule, and what was seen."""
+
+    def __init__(self, rule: str, says: str) -> None:
+        super().__init__(f"{rule}: {says}")
+        self.rule = rule
+
+
+def number(text: str) -> float | None:
+    """The first number of a text, as people write it."""
+    match = _NUMBER.search(text)
+    return float(match[0].replace(",", "").replace("\u2212", "-")) if match else None
+
+
+def point(texts: list[str]) -> Point | None:
+    """Three numbers; None where one isn't shown."""
+    found = [number(text) for text in texts]
+    if len(found) != 3 or None in found:
+        return None
+    x, y, z = found
+    return x, y, z
+
+
+@dataclass
+class Truth:
+    """What the person at the machine knows: which tool is in, by how much the page's numbers were told wrong, which
+    axes may move as was asked, and whether a half-done block is being taken up. `zero` is what the page showed between
+    motors and work."""
+
+    tool: int | None = 0
+    offset: Point = (0.0, 0.0, 0.0)
+    is_place_known: bool = True
+    may_move: bool = False
+    ways: set[str] | None = None  # the axes that may move, as X+; None for all
+    zero: Point | None = None
+    is_zero_asked: bool = True
+    without_lines: bool = False
+    touched_at: float = 0.0
+    is_recovering: bool = False
+    quiet_pulses: int = 0
+
+
+class Judge:
+    """Looks at what a page shows, beside what the machine has."""
+
+    def __init__(self, bench: Bench, late: Lateness) -> None:
+        self.bench, self.late, self.truth = bench, late, Truth()
+        self.checked: dict[str, int] = {}
+        self._runs_at_rest_since = 0.0
+        self._rests_in_motion_since = 0.0
+
+    def _count(self, name: str) -> None:
+        self.checked[name] = self.checked.get(name, 0) + 1
+
+    def slack_s(self, since: float) -> float:
+        """What the load of this computer makes of times that began then."""
+        return HOPS * self.late.worst_s(since)
+
+    def all(self, seen: Seen) -> None:
+        """Raises Wrong."""
+        self.moves()
+        if seen.isLost:
+            return
+        now = time.monotonic()
+        fresh = FRESH_S + self.slack_s(now - 3)
+        if time.time() - seen.now > 1.5 + fresh:
+            return  # an old page: it will say so
+        is_still = self.bench.mill.last_pulse_at() < now - fresh
+        self.says_rest(seen, now, is_still)
+        self.place(seen, now - fresh - 0.7, is_still)
+        if self.bench.mill.switched_at < now - fresh - 0.3:
+            self.outputs(seen, self.bench.mill.outputs)
+            self.tool(seen)
+        self.looks(seen)
+        self.words(seen, is_still)
+
+    # what moves
+
+    def moves(self) -> None:
+        """Nothing moves that nobody asked for, nor along another axis, nor before somebody looked."""
+        mill, truth = self.bench.mill, self.truth
+        pulses = mill.pulses
+        ways = mill.moved_since(truth.quiet_pulses) if pulses > truth.quiet_pulses else {}
+        truth.quiet_pulses = pulses
+        self._count("moves")
+        if ways and not truth.may_move:
+            raise Wrong("moved unasked", f"{ways}")
+        if truth.ways is not None and (others := {way: n for way, n in ways.items() if way not in truth.ways}):
+            raise Wrong("moved another axis", f"{others}, asked for was {sorted(truth.ways)}")
+        if ways and truth.is_recovering and mill.turns_since > truth.touched_at:
+            raise Wrong("moved before the look", f"the spindle came on, and {ways} followed without a touch")
+
+    def says_rest(self, seen: Seen, now: float, is_still: bool) -> None:
+        """What moves is said to move, and what rests to rest."""
+        self._count("state")
+        last = self.bench.mill.last_pulse_at()
+        if not seen.runs or not is_still:
+            self._runs_at_rest_since = 0.0
+        elif not self._runs_at_rest_since:
+            self._runs_at_rest_since = now
+        elif now - self._runs_at_rest_since > REST_S + self.slack_s(now - REST_S):
+            raise Wrong("says it runs", f"{seen.word}: {seen.detail}; the motors rest for {now - last:.1f} s")
+        if seen.tone not in ("idle", "hold") or last < seen.at - 0.1:
+            self._rests_in_motion_since = 0.0
+        elif not self._rests_in_motion_since:
+            self._rests_in_motion_since = now
+        elif now - self._rests_in_motion_since > 1.2 + self.slack_s(now - 2):
+            raise Wrong("says it rests", f"{seen.word}: {seen.detail}; the motors move")
+
+    # what stands on the page
+
+    def place(self, seen: Seen, since: float, is_still: bool) -> None:
+        """The machine's place is one where it was just now; the work's follows it."""
+        truth, unit = self.truth, seen.units[0]
+        motors, work = _scaled(point(seen.motors), unit), _scaled(point(seen.work), unit)
+        if motors is None and work is not None and truth.zero is not None and not truth.is_zero_asked:
+            motors = _sum(work, truth.zero)
+        is_said = truth.is_place_known or seen.tone in ("idle", "run") and not seen.blind
+        if motors is None or not is_said:
+            return
+        self._count("place")
+        wanted, is_aged = _difference(motors, truth.offset), seen.blind and seen.risk
+        begin = min(since, self.bench.mill.last_pulse_at() - (AGED_S if is_aged else 1.0)) if seen.blind else since
+        if not any(_is_near(wanted, at, unit) for at in self.bench.mill.places_since(begin)):
+            raise Wrong("place", f"{seen.word}: shown is {motors}, told wrong by {truth.offset}; the machine is at"
+                                 f" {self.bench.mill.at_mm}")
+        if is_still and work is not None and point(seen.motors) is not None:
+            self._zero(seen, motors, work)
+
+    def _zero(self, seen: Seen, motors: Point, work: Point) -> None:
+        """What lies between machine and work stays, where nobody asked for another zero."""
+        zero, truth = _difference(motors, work), self.truth
+        is_same = truth.zero is None or _is_near(zero, truth.zero, "in")
+        if not truth.is_zero_asked and not is_same and not seen.busy:
+            raise Wrong("work zero", f"it was {truth.zero}, and is {zero}: nobody asked for that")
+        truth.zero = zero
+        truth.is_zero_asked = truth.is_zero_asked and bool(seen.busy)
+
+    def outputs(self, seen: Seen, now: Outputs) -> None:
+        """Spindle and coolant as the pins have them, or said not to be known."""
+        if "not known" not in seen.spindle and seen.spindle not in UNKNOWN:
+            self._count("outputs")
+            turns = next((way for sign, way in _TURNS.items() if sign in seen.spindle), 0)
+            if turns != now.spindle:
+                raise Wrong("spindle", f"shown is {seen.spindle!r}; the pins have {now}")
+            speed = number(seen.spindle)
+            percent = re.search(r"(\d+) %", seen.spindle)
+            speed = speed * (float(percent[1]) if percent else 100) / 100 if speed is not None else None
+            if turns and (speed is None or abs(min(speed, 12_000) - now.speed) > 1):
+                raise Wrong("spindle speed", f"shown is {seen.spindle!r}; the pins have {now}")
+        if "not known" not in seen.coolant and seen.coolant not in UNKNOWN:
+            shown = ("mist" in seen.coolant, "flood" in seen.coolant)
+            if shown != (bool(now.mist), bool(now.flood)):
+                raise Wrong("coolant", f"shown is {seen.coolant!r}; the pins have {now}")
+
+    def tool(self, seen: Seen) -> None:
+        """The tool is the one that a person put in, or said not to be known."""
+        tool = self.truth.tool
+        if tool is None or "not known" in seen.tool or seen.tool in UNKNOWN:
+            return
+        self._count("tool")
+        shown = number(seen.tool.split("\n")[0].removeprefix("T")) if seen.tool.startswith("T") else 0
+        if shown != tool:
+            raise Wrong("tool", f"shown is {seen.tool!r}; in the spindle is {tool}")
+
+    def looks(self, seen: Seen) -> None:
+        """Nobody can agree to go on at a look before each thing was looked at."""
+        question = seen.question
+        if not question or question.get("purpose") != "look" or not seen.yours:
+            return
+        self._count("look")
+        can_go = any(is_enabled for _, is_enabled in seen.goes)
+        if can_go and (not seen.looks or "false" in seen.looks):
+            raise Wrong("look unticked", f"it can be agreed to, and ticked is {seen.looks}")
+
+    def words(self, seen: Seen, is_still: bool) -> None:
+        """No word of a run before, nor of lines while something else moves."""
+        if seen.runs and seen.share == "Done":
+            raise Wrong("done while it runs", f"{seen.word}: {seen.detail}")
+        if self.truth.without_lines and seen.runs and not is_still and re.search(r"\bline \d", seen.detail):
+            raise Wrong("says lines run", f"{seen.word}: {seen.detail}; what moves is home, a jog or a seek")
+        if not all(unit in _UNITS for unit in seen.units):
+            raise Wrong("no unit", f"the place has no unit: {seen.place!r}")
+
+    # how Hold is answered
+
+    def hold(self, touched: float, pulses: int) -> None:
+        """After a touch of Hold at a moment the motors rest within v^2/2a, and what they go in 100 ms."""
+        mill, now = self.bench.mill, time.monotonic
+        if mill.last_pulse_at() < touched - 0.3:
+            time.sleep(0.05)
+            return
+        while now() < touched + HOLD_S + 0.4 + self.slack_s(touched):
+            time.sleep(0.01)
+        slack_s = self.slack_s(touched)
+        way_mm, last = mill.steps_between(touched, now())
+        # it may go faster until it is heeded, as at the beginning of a move
+        rate = max(mill.rate_mm_s(touched + ms / 1000) for ms in range(0, 10 + round(1000 * (HOLD_S + slack_s)), 10))
+        ramp_s, stop_mm = rate / ACCEL_MM_S2, rate * rate / (2 * ACCEL_MM_S2)
+        self._count("hold")
+        if last - touched > ramp_s + HOLD_S + slack_s:
+            raise Wrong("hold too late", f"at {rate:.1f} mm/s they rest {1000 * (last - touched):.0f} ms after it,"
+                        f" {way_mm:.3f} mm on; allowed are {1000 * (ramp_s + HOLD_S):.0f} ms, and"
+                        f" {1000 * slack_s:.0f} ms for the load; pauses in ms: {mill.pauses_ms(touched)}")
+        if way_mm > stop_mm + rate * (HOLD_S + slack_s) + 0.05:
+            raise Wrong("hold too far", f"{way_mm:.3f} mm at {rate:.1f} mm/s")
+
+
+def _difference(a: Point, b: Point) -> Point:
+    return a[0] - b[0], a[1] - b[1], a[2] - b[2]
+
+
+def _sum(a: Point, b: Point) -> Point:
+    return a[0] + b[0], a[1] + b[1], a[2] + b[2]
+
+
+def _scaled(at: Point | None, unit: str) -> Point | None:
+    """A point that is shown in a unit, in millimetres."""
+    factor = _UNITS.get(unit, 1.0)
+    return at and (at[0] * factor, at[1] * factor, at[2] * factor)
+
+
+def _is_near(a: Point, b: Point, unit: str) -> bool:
+    return max(abs(p - q) for p, q in zip(a, b)) < NEAR_MM.get(unit, NEAR_MM["mm"])
+
+
+def changes(before: Seen, after: Seen) -> Iterator[str]:
+    """What stands otherwise on the page: names of what a person sees."""
+    skipped = {"now", "clock", "posts", "clicks", "logs", "log"}
+    yield from (name for name in before.said if name not in skipped and before.said[name] != after.said[name])
