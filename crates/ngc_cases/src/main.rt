@@ -1,17 +1,24 @@
 //! Runs the cases of data/ as `ngc` does, and compares what is written, answered, handed out and stored with what each
 //! case says. docs/CASES.md describes the format. A file's name says what its cases are: `.dry` programs for a dry run,
-//! `.refused` lines that are refused one by one, `.run` sessions of an operator, `.words` command lines.
+//! `.refused` lines that are refused one by one, `.run` sessions of an operator, `.words` command lines, `.trials`
+//! sessions in which each call fails or power is cut.
 #![tactic(auto)]
 
 mod cases;
 mod compare;
+mod disk;
 mod dry_runs;
 mod escapes;
 mod files;
 mod refusals;
+mod rehearsal;
 mod sectors;
+mod standing;
 mod steps;
+mod talking;
 mod tally;
+mod terminal;
+mod trials;
 mod workspace;
 
 use anyhow::{Context, Result, ensure};
@@ -42,9 +49,23 @@ where
                 return Ok(wrong);
             }
         }
-        Kind::Refused | Kind::Words => {}
+        Kind::Refused | Kind::Words | Kind::Trials => {}
     }
     steps::wrong_of(rt, workspace, case)
+}
+
+/// Does a case of trials, and counts it.
+fn count_trials<R: AllocGlobal + Eprint>(rt: &R, case: &Case<'_>, tally: &mut Tally) -> Result<()> {
+    match rehearsal::done(rt.alloc(), case) {
+        Ok(sessions) => {
+            tally.sessions = tally.sessions.saturating_add(sessions);
+            tally.count(rt, case.title, None)
+        }
+        Err(error) => {
+            let wrong = format!(in rt.alloc(); "{error:#}")?;
+            tally.count(rt, case.title, Some(wrong))
+        }
+    }
 }
 
 /// Runs a case in a folder of its own, and counts it.
@@ -61,6 +82,7 @@ where
     workspace.open(rt)?;
     match kind {
         Kind::Refused => refusals::count_rows(rt, workspace, case, tally)?,
+        Kind::Trials => count_trials(rt, case, tally)?,
         _ => tally.count(rt, case.title, wrong_of(rt, workspace, kind, case)?)?,
     }
     workspace.clear(rt)
@@ -98,7 +120,11 @@ where
     let mut all_right = true;
     for name in names {
         let tally = run_file(rt, workspace, name.as_str()).context(format_args!("{name}"))?;
-        println!(rt; "{name}: {} of {}", tally.right, tally.all)?;
+        print!(rt; "{name}: {} of {}", tally.right, tally.all)?;
+        if tally.sessions > 0 {
+            print!(rt; " by {} sessions", tally.sessions)?;
+        }
+        println!(rt;)?;
         all_right = all_right && tally.right == tally.all;
     }
     Ok(all_right)
