@@ -73,6 +73,14 @@ fn sweep_of(name: &str) -> Result<Sweep> {
     })
 }
 
+/// How many sectors a device has: a large one, or as many as are named.
+fn sectors_of(name: &str) -> Result<usize> {
+    match name {
+        "large" => Ok(LARGE),
+        _ => Ok(name.strip_suffix(" sectors").context("no size")?.parse()?),
+    }
+}
+
 /// Whether storage of this kind takes for written what a sync couldn't write.
 fn forgets(name: &str) -> Result<bool> {
     match name {
@@ -152,7 +160,7 @@ impl<'a> Rehearsal<'a> {
     /// Adds a part without a text.
     fn put_way(&mut self, verb: &str, name: &str) -> Result<()> {
         match verb {
-            "device" if name == "large" => self.sectors = LARGE,
+            "device" => self.sectors = sectors_of(name)?,
             "grow" if name.is_empty() => self.grows = true,
             "grow" => self.ways.push(Way::Grow(forgets(name)?))?,
             "lose" if name == "each sector" => self.loses_each = true,
@@ -227,6 +235,7 @@ impl<'a> Rehearsal<'a> {
             loses_each: self.loses_each,
             cuts_power_on: self.cuts_power_on,
             named: Vec::new(alloc),
+            lost: None,
             count: 0,
         };
         let answer = tried.check_whole()?;

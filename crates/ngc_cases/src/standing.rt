@@ -5,7 +5,7 @@ use anyhow::{Context, Result};
 use std::alloc::Global;
 
 /// The marks of a session from one number to another.
-#[derive(Clone, Copy)]
+#[derive(Clone, Copy, PartialEq, Eq)]
 pub struct Range {
     pub first: usize,
     pub last: usize,

@@ -44,6 +44,9 @@ pub struct Tried<'a> {
     pub cuts_power_on: bool,
     /// For each mark what the header named where it was found first.
     pub named: Vec<Option<Vec<u8>>>,
+    /// The last stop that was tried with all lost, since the device began anew: after how many syncs, and what it had
+    /// to stand for.
+    pub lost: Option<(usize, Range)>,
     /// How many sessions there were.
     pub count: usize,
 }
@@ -144,6 +147,17 @@ impl<'a> Tried<'a> {
         Ok(())
     }
 
+    /// Powers on over what a cut of power leaves with all lost that wasn't synced. That is the same until a sync
+    /// succeeds.
+    fn check_lost(&mut self, disk: &Disk, syncs: usize, range: Range) -> Result<()> {
+        let lost = Some((syncs, range));
+        if self.lost != lost {
+            self.check_stop(disk, Kept::None, range)?;
+            self.lost = lost;
+        }
+        Ok(())
+    }
+
     /// Cuts power after each write of the power on over an image.
     fn check_power_on(&mut self, image: Vec<u8>, mark: usize) -> Result<()> {
         let device = Disk::of(self.alloc, image);
@@ -163,17 +177,19 @@ impl<'a> Tried<'a> {
         Ok(())
     }
 
-    /// Cuts power where a session ended after so many bytes of answers.
-    fn check_stops(&mut self, disk: &Disk, answered: usize) -> Result<()> {
+    /// Cuts power where a session ended after so many syncs and so many bytes of answers.
+    fn check_stops(&mut self, disk: &Disk, syncs: usize, answered: usize) -> Result<()> {
         let range = Range::after(self.part.marks.as_slice(), answered);
-        self.check_stop(disk, Kept::None, range)?;
+        self.check_lost(disk, syncs, range)?;
         let unsynced = disk.unsynced();
         if unsynced == 0 {
             return Ok(());
         }
         let range = range.or_next();
         self.check_stop(disk, Kept::All, range)?;
-        self.check_stop(disk, Kept::Only(unsynced.saturating_sub(1)), range)?;
+        if unsynced > 1 {
+            self.check_stop(disk, Kept::Only(unsynced.saturating_sub(1)), range)?;
+        }
         if self.loses_each {
             for n in 0..unsynced {
                 self.check_stop(disk, Kept::AllBut(n), range)?;
@@ -203,6 +219,7 @@ impl<'a> Tried<'a> {
 
     /// Lets each of these calls fail.
     pub fn check_calls(&mut self, sweep: Sweep) -> Result<()> {
+        self.lost = None;
         for calls in (sweep.first..=sweep.last).step_by(sweep.step) {
             let mut disk = self.device.copy()?;
             let answer = self.answer(&mut disk, Limits { calls, ..WHOLE });
@@ -213,7 +230,7 @@ impl<'a> Tried<'a> {
             let answered = self
                 .answered(&answer)
                 .context(format_args!("call {calls}"))?;
-            self.check_stops(&disk, answered)
+            self.check_stops(&disk, answer.calls.syncs, answered)
                 .context(format_args!("call {calls}"))?;
         }
         Ok(())
@@ -286,6 +303,7 @@ impl<'a> Tried<'a> {
 
     /// Cuts power after each write and sync of the next session, in which this is asked.
     fn check_next(&mut self, device: &Disk, answered: usize, asked: &[u8]) -> Result<()> {
+        self.lost = None;
         let mut changes = None;
         for calls in 0..MOST {
             let mut disk = device.copy()?;
@@ -308,12 +326,13 @@ impl<'a> Tried<'a> {
         let more = text.split_once(FAILURE).map_or(text, |(before, _)| before);
         let answered = answered.saturating_add(more.len());
         let range = Range::after(self.part.marks.as_slice(), answered).or_next();
-        self.check_stop(disk, Kept::None, range)?;
+        self.check_lost(disk, next.calls.syncs, range)?;
         self.check_stop(disk, Kept::All, range)
     }
 
     /// Lets the reader fail after each number of bytes: the commands that were read are answered, and no other is.
     pub fn check_reader(&mut self) -> Result<()> {
+        self.lost = None;
         for asked in 0..=self.part.asked.len() {
             let mut disk = self.device.copy()?;
             let answer = self.answer(&mut disk, Limits { asked, ..WHOLE });
@@ -329,6 +348,7 @@ impl<'a> Tried<'a> {
 
     /// Lets the writer fail after each number of bytes: what it took is how the answers begin.
     pub fn check_writer(&mut self) -> Result<()> {
+        self.lost = None;
         for written in 0..self.part.text.len() {
             let mut disk = self.device.copy()?;
             let answer = self.answer(&mut disk, Limits { written, ..WHOLE });
@@ -345,6 +365,6 @@ impl<'a> Tried<'a> {
         ensure!(answer.status == FAILED, "the status is {}", answer.status);
         self.check_handed(answer.handed.as_slice(), false)?;
         let range = Range::after(self.part.marks.as_slice(), wanted.len()).or_next();
-        self.check_stop(disk, Kept::None, range)
+        self.check_lost(disk, answer.calls.syncs, range)
     }
 }
