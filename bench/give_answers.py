@@ -237,7 +237,8 @@ def keep(crate: Crate, functions: list[Function], write: bool) -> None:
         counts = ", ".join(f"{sum(goal.tactic == tactic for goal in given)} {tactic}" for tactic in TACTICS)
         quicker = after_s is not None and after_s < min(function.before_s * 0.95, function.before_s - 0.5)
         kept = bool(given and proved and quicker)
-        print(f"{function.name}: {function.before_s:.1f} s to {after_s if after_s is None else round(after_s, 1)} s; of "
+        took = "no time" if after_s is None else f"{after_s:.1f} s"
+        print(f"{function.name}: {function.before_s:.1f} s to {took}; of "
               f"{len(function.goals)} goals {counts}; {'kept' if kept else 'left' if proved else 'NOT PROVED, left'}",
               flush=True)
         if kept and write:

@@ -164,7 +164,8 @@ class Moves(Core):
                 if said in heard and self.link.lazy:
                     self.face.given = ["release"]
                 waits = self.link.lazy and said == failed and spindle not in heard
-                return replace(before(), word="waits spindle" if waits else "works", is_held=self.link.lazy and not waits)
+                word = "waits spindle" if waits else "works"
+                return replace(before(), word=word, is_held=self.link.lazy and not waits)
 
             self.link.ask = ask
             self.assertIn(said, self.do(f"G0 X{x}"))

@@ -1,4 +1,4 @@
-"""Stop, `off`, `From line 1` and the way back from an alarm, by touch. In Chromium, or in Firefox where NGC_BROWSER says
+"""Stop, `off`, `From line 1` and the way back from an alarm, by touch: in Chromium, or in Firefox if NGC_BROWSER says
 so; skipped where it isn't installed."""
 import sys
 import unittest

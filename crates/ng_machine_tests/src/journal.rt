@@ -1,5 +1,5 @@
-//! The journal over devices in memory: how often it calls the device, and what a call that fails or is the last before a
-//! cut leaves.
+//! The journal over devices in memory: how often it calls the device, and what is left by a call that fails, or that is
+//! the last before a cut.
 ghost use Rattle.std.specs.Prelude.{◌≡◌, ◌≤◌, ◌+◌, false, IsSome, IfSome};
 ghost use Rattle.ng_layout.specs.Storable.{IsStorableHalf, IsStorable};
 ghost use Rattle.ng_offsets.specs.Tools.{AreTools, IsOneSlotFrom, IsToolLength};
