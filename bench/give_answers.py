@@ -1,5 +1,5 @@
 #!/usr/bin/env python3
-"""Gives the goals of dear functions the narrowest tactic that proves them, where that makes a check quicker.
+"""Gives the goals of slow functions the narrowest tactic that proves them, where that makes a check quicker.
 
     bench/give_answers.py CRATE.. [--from SECONDS] [--only FUNCTION].. [--write] [--test] [--libraries FOLDER]
 
@@ -42,7 +42,7 @@ class Goal:
 
 @dataclass
 class Function:
-    """A function that is dear to prove: its path, where its answers stand, what it took, and its open goals."""
+    """A function that is slow to prove: its path, where its answers stand, what it took, and its open goals."""
     name: str
     before_s: float
     answers: str = ""
@@ -248,7 +248,7 @@ def keep(crate: Crate, functions: list[Function], write: bool) -> None:
 
 
 def sweep(crate: Crate, asked: argparse.Namespace, scratch: Path) -> None:
-    """Gives answers to the dear functions of a crate."""
+    """Gives answers to the slow functions of a crate."""
     crate.find_beginning()
     only = [word for name in asked.only for word in ("--only", name)]
     said, took_s = crate.check("--progress", *only)
@@ -281,7 +281,7 @@ def words() -> argparse.Namespace:
     parser.add_argument("crates", nargs="+", metavar="CRATE")
     parser.add_argument("--from", dest="least", type=float, default=3.0, metavar="SECONDS", help="3 without it")
     parser.add_argument("--only", action="append", default=[], metavar="FUNCTION", help="this function of the crate")
-    parser.add_argument("--list", action="store_true", help="only list what each dear function takes")
+    parser.add_argument("--list", action="store_true", help="only list what each slow function takes")
     parser.add_argument("--write", action="store_true", help="write the answers into the crate")
     parser.add_argument("--test", action="store_true", help="with the crate's tests")
     parser.add_argument("--libraries", type=Path, default=TOP / "crates", metavar="FOLDER")
