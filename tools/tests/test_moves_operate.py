@@ -92,7 +92,8 @@ class Moves(Core):
         self.assertEqual(self.do("home")[:3], [f"home: {why}", "reference 0.000000 0.000000 0.000000", "done 1"])
         self.axes.fails = "the probe isn't touched within 1.000 mm"
         self.assertEqual(self.do("seek Z- 60 within 1")[0], "seek Z-: the probe isn't touched within 1.000 mm")
-        untouched = "the probe wasn't touched since the machine moved last, or its place was used: seek Z- RATE within MM"
+        untouched = ("the probe wasn't touched since the machine moved last, or its place was used:"
+                     " seek Z- RATE within MM")
         self.assertEqual(self.do("zero Z probe"), [untouched])
         self.face.looks, self.face.holds_at = 0, 2
         self.assertEqual(self.do("jog X+ 600 for 10")[0], "jog X+: stopped")

@@ -65,7 +65,7 @@ class Started(InFolder):
         self.assertIn("\nngc-page: the player ended: ngc-player: other.toml: ", "\n" + wrong)
 
     def test_words(self) -> None:
-        """What is no command, what can't be started, and a command without a socket."""
+        """What is not a command, what can't be started, and a command without a socket."""
         for words, why in ((("--start-player", "player"), "--start-player COMMAND goes with --player SOCKET"),
                            (("--player", "progress", "--start-player", "'player"),
                             "--start-player: No closing quotation"),

@@ -29,7 +29,7 @@ _ASIDE = re.compile(rb"\([^()]*\)|[ \t]")
 _RANKS = {fault.code: rank for rank, fault in enumerate(FAULTS, 1)} | {"E2": 0}
 _MOST_PAIRED = 12  # pieces of a line that are tried two at a time
 _LONGEST = 512  # bytes of a line whose pieces are looked at; a line has 256 at most
-_MOST_PIECES = 60  # of a line that are looked at: what has more is no line of words
+_MOST_PIECES = 60  # of a line that are looked at; a line with more pieces is not one of words
 _UNREADABLE = 10  # lines, so many of the first twice as many, that make a text none of G-code
 
 
