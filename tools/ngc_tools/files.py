@@ -12,7 +12,9 @@ from typing import BinaryIO
 from ngc_tools.failure import Failure
 from ngc_tools.formats.text import shown
 
-MOST = 2**30  # bytes that are read of a file: of /dev/zero there is no end
+MOST = 2**30  # bytes that are read of a file, or of standard input
+MOST_SETTINGS = 2**20
+"""Bytes that settings, or a machine's file, may have."""
 
 _BEGIN = 65_536  # bytes that tell what a file is
 _MARK = b"RS274NGC"  # of a device's header, docs/DEVICE.md
@@ -44,33 +46,43 @@ def naming(path: str | Path) -> Iterator[None]:
         raise OSError(error.errno, error.strerror or str(error), str(path)) from None
 
 
-def read(path: str | Path) -> bytes:
-    """All bytes of a file. Raises OSError with its path, also where it has more than a program could be."""
-    with naming(path), open(path, "rb") as file:
-        return _all(file)
+def read(path: str | Path, most: int | None = None) -> bytes:
+    """All bytes of a file. Raises OSError with its path, also where it has more than `most`, as a rule more than a
+    program could have, and where it is no file: of a pipe nothing may ever come, and of /dev/zero there is no end."""
+    with naming(path), open(path, "rb", opener=open_without_waiting) as file:
+        mode = os.fstat(file.fileno()).st_mode
+        if not stat.S_ISREG(mode):
+            raise OSError(errno.EINVAL, f"no file, but {_what(mode)}")
+        return _all(file, MOST if most is None else most)
 
 
 def read_input() -> bytes:
-    """The same of standard input."""
+    """The same of standard input, which may be a pipe."""
     with naming("standard input"):
-        return _all(sys.stdin.buffer)
+        return _all(sys.stdin.buffer, MOST)
+
+
+def read_settings(path: str | Path) -> bytes:
+    """The same of settings, or of a machine's file."""
+    return read(path, MOST_SETTINGS)
 
 
 def read_regular(path: str | Path) -> bytes:
-    """The same of a file alone: of a pipe nothing may ever come, and whoever waits for it can't do anything else."""
+    """The same by a name that somebody typed."""
     if "\0" in str(path):
         raise OSError(errno.EINVAL, "no name of a file has a byte 0 in it", str(path))
-    with naming(path):
-        mode = os.stat(path).st_mode
-        if not stat.S_ISREG(mode) and not stat.S_ISDIR(mode):
-            raise OSError(errno.EINVAL, f"no file, but {_what(mode)}")
     return read(path)
 
 
-def _all(file: BinaryIO) -> bytes:
-    data = file.read(MOST + 1)
-    if len(data) > MOST:
-        raise OSError(errno.EFBIG, f"it has more than {MOST:,} bytes")
+def open_without_waiting(path: str, flags: int) -> int:
+    """Opens a file, as the `opener` of `open`; of a pipe it doesn't wait for a writer. Raises OSError."""
+    return os.open(path, flags | os.O_NONBLOCK | os.O_NOCTTY | os.O_CLOEXEC)
+
+
+def _all(file: BinaryIO, most: int) -> bytes:
+    data = file.read(most + 1)
+    if len(data) > most:
+        raise OSError(errno.EFBIG, f"it has more than {most:,} bytes")
     return data
 
 

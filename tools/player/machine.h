@@ -10,7 +10,14 @@
 #include "home.h"
 #include "inputs.h"
 #include "pace.h"
-#include "sink_settings.h"
+
+enum { SINK_LINE_ROOM = 256 };
+
+/* Where the step sink is. */
+struct sink_settings {
+    char line[SINK_LINE_ROOM]; /* the path of its serial line; "" where there is no sink */
+    int baud;
+};
 
 struct machine {
     struct pace_limits limits;
@@ -23,9 +30,8 @@ struct machine {
     struct home home;
 };
 
-/* Reads the tables [motion], in millimetres, which it turns into steps, rounded down, so that nothing is exceeded,
- * [window], [wait], [spindle], [backlash], [sink], [inputs] and [home]. Other tables are others'. Returns false, with
- * the cause, which names the key. */
+/* Reads a machine's file. What [motion] has in millimetres it turns into steps, rounded down, so that nothing is
+ * exceeded. Returns false, with the cause, which names the table or the key. */
 bool machine_read(const char *path, const int64_t step_nm[3], struct machine *machine, struct cause *why);
 
 #endif

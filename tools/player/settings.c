@@ -1,9 +1,7 @@
 #include "settings.h"
 
-#include <stdio.h>
 #include <string.h>
 
-#include "scan.h"
 #include "toml.h"
 
 enum { KEYS = 6 };
@@ -33,29 +31,23 @@ static const struct key keys[KEYS] = {
 struct table {
     bool is_there[KEYS];
     struct value values[KEYS];
-    struct scan unknown; /* a key that is none of the six, if there is one */
+    struct scan unknown; /* a name that is none of the six, if there is one */
     struct value other;  /* and its value */
 };
 
 /* The number of a key; KEYS for one that is none of the six. */
-static int number_of(const struct scan *key) {
-    size_t size = (size_t)(key->end - key->at);
+static int number_of(const struct name *name) {
     int number = 0;
-    while (number < KEYS && (strlen(keys[number].name) != size || memcmp(keys[number].name, key->at, size) != 0)) {
+    while (number < KEYS && (has_table(name) || !is_named(&name->key, keys[number].name))) {
         number++;
     }
     return number;
 }
 
-static bool read_entry(struct toml *toml, struct table *table) {
-    struct scan key;
-    if (!toml_read_key(toml, &key)) {
-        return false;
-    }
-    int number = number_of(&key);
+static bool read_entry(struct toml *toml, const struct name *name, struct table *table) {
+    int number = number_of(name);
     if (number == KEYS) {
-        table->unknown = key;
-        memset(&table->other, 0, sizeof table->other);
+        table->unknown = has_table(name) ? name->table : name->key;
         return toml_read_value(toml, &table->other);
     }
     if (table->is_there[number]) {
@@ -65,12 +57,27 @@ static bool read_entry(struct toml *toml, struct table *table) {
     return toml_read_value(toml, &table->values[number]);
 }
 
+static bool read_all(struct toml *toml, struct table *table) {
+    struct name name;
+    bool is_right = true;
+    enum next next = toml_next(toml, &name);
+    while (is_right && (next == NEXT_TABLE || next == NEXT_KEY)) {
+        if (next == NEXT_TABLE) {
+            table->unknown = name.table;
+        } else {
+            is_right = read_entry(toml, &name, table);
+        }
+        next = is_right ? toml_next(toml, &name) : NEXT_WRONG;
+    }
+    return next == NEXT_END;
+}
+
 /* Whether the value is of its key's type. */
 static bool has_type(const struct key *key, const struct value *value) {
     if (key->values == 1) {
-        return !value->is_array;
+        return value->kind == NUMBER;
     }
-    return value->is_array && (key->values == MOST_VALUES || value->count == key->values);
+    return value->kind == NUMBERS && (key->values == MOST_VALUES || value->count == key->values);
 }
 
 static bool is_in_limits(const struct key *key, const struct value *value) {
@@ -117,15 +124,8 @@ static bool check(const struct toml *toml, const struct table *table) {
 bool settings_read(const char *path, struct settings *settings, struct cause *why) {
     static struct table table;
     struct toml toml;
-    if (!toml_open(&toml, path, why) || !toml_pass_space(&toml)) {
-        return false;
-    }
-    while (!scan_is_over(&toml.scan)) {
-        if (!read_entry(&toml, &table) || !toml_pass_space(&toml)) {
-            return false;
-        }
-    }
-    if (!check(&toml, &table)) {
+    memset(&table, 0, sizeof table);
+    if (!toml_open(&toml, path, why) || !read_all(&toml, &table) || !check(&toml, &table)) {
         return false;
     }
     memcpy(settings->step_nm, table.values[STEP].numbers, sizeof settings->step_nm);

@@ -1,4 +1,6 @@
-/* A file of lines KEY = NUMBER and KEY = [NUMBER, NUMBER], and of tables of them: as much of TOML as settings need. */
+/* A file of settings: keys with whole numbers, arrays of them, or text in quotes, at its begin or in tables. It is read
+ * as TOML has it, or refused: what else TOML has, as tables in tables, is refused by its name, and nothing is passed
+ * over. */
 #ifndef TOML_H
 #define TOML_H
 
@@ -12,19 +14,31 @@ enum { MOST_VALUES = 128 };
 
 struct toml {
     struct scan scan;
+    struct scan table; /* in which the reader is; none before the first one */
     int line;
     const char *path;
     struct cause *why; /* why something can't be read */
 };
 
-/* A value: a number, or an array of them. */
+/* The name of a table, which has no key, or of a key, with the table that it is in; no table at the file's begin. */
+struct name {
+    struct scan table;
+    struct scan key;
+};
+
+enum value_kind { NUMBER, NUMBERS, WORDS };
+
+/* A number, an array of numbers, or what stands in quotes. */
 struct value {
     struct scan text; /* as it stands there */
-    bool is_array;
+    enum value_kind kind;
     bool is_too_long; /* more numbers than MOST_VALUES */
     int count;
     int64_t numbers[MOST_VALUES];
+    struct scan words;
 };
+
+enum next { NEXT_TABLE, NEXT_KEY, NEXT_END, NEXT_WRONG };
 
 /* Reads a file, over the one that was open before. Returns false, with the cause. */
 bool toml_open(struct toml *toml, const char *path, struct cause *why);
@@ -32,20 +46,16 @@ bool toml_open(struct toml *toml, const char *path, struct cause *why);
 /* Says what is wrong with the line at which the reader is; returns false. */
 bool toml_refuse(const struct toml *toml, const char *what);
 
-/* Passes blanks, comments and line ends. The other functions return false, with the cause, at anything else than what
- * they read, and so does this one at a comment that is none. */
-bool toml_pass_space(struct toml *toml);
+/* Reads the next name, with the line's end behind a table's, and with the = behind a key. NEXT_WRONG has its cause. */
+enum next toml_next(struct toml *toml, struct name *name);
 
-/* Reads a key and the = behind it. */
-bool toml_read_key(struct toml *toml, struct scan *key);
-
-/* Reads a value and the end of its line. */
+/* Reads the value behind a key, and its line's end. Returns false, with the cause. */
 bool toml_read_value(struct toml *toml, struct value *value);
 
-/* Reads the name of a table and the end of its line; the [ before it is passed. */
-bool toml_read_table(struct toml *toml, struct scan *name);
+/* Whether a name is this one. */
+bool is_named(const struct scan *name, const char *word);
 
-/* Passes what is left of a line, whatever it says. */
-void toml_pass_line(struct toml *toml);
+/* Whether a table is a name's. */
+bool has_table(const struct name *name);
 
 #endif

@@ -28,14 +28,14 @@ lines = 0
 
 [wait]
 spindle_s = 0
-
-[page] # of others
-order = ["Z", "XY"]
 """
 LONG = "P 1 0 0 50\n" * 4000  # 10 mm at 3,000 mm a minute, 400 steps a mm: 0.2 s at full rate, 0.1 s in ramps
+NO_TABLE = ("isn't one of the nine tables of a machine's file: motion, window, wait, spindle, backlash, sink, inputs,"
+            " home, setter")
 REFUSED = {
     "": "the table [motion] is missing: it says what the motors allow",
-    "[motions]\n": "the table [motion] is missing: it says what the motors allow",
+    "[motions]\n": f"motions {NO_TABLE}", "[Motion]\n": f"Motion {NO_TABLE}", "[ page ]\n": f"page {NO_TABLE}",
+    "a = 1\n": f"a {NO_TABLE}", "motion = 1\n": "motion isn't a table: [motion], and its keys below it",
     "[motion]\n": "motion: accel_mm_s2 is missing: three whole numbers from 1 to 1000000",
     "[motion]\naccel = [1, 1, 1]\n": "motion has a key that isn't one of its five: accel",
     "[motion]\naccel_mm_s2 = [1, 1]\n": "motion: accel_mm_s2 takes three whole numbers from 1 to 1000000",

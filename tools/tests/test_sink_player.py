@@ -139,8 +139,9 @@ class Whole(InC, OverSink, unittest.TestCase):
     def test_words(self) -> None:
         """What the machine's file may say of a sink, and what is refused."""
         Path("out").write_text(LONG)
-        wrong = {"line = 3\n": 'sink: line takes a path of at most 255 bytes in "quotes", without \\',
-                 "baud = 115200\n": "sink: line is missing: the path of the sink's serial line",
+        path = 'the path of the sink\'s serial line in "quotes", of at most 255 bytes'
+        wrong = {"line = 3\n": f"sink: line takes {path}", f'line = "{"x" * 256}"\n': f"sink: line takes {path}",
+                 "baud = 115200\n": f"sink: line is missing: {path}",
                  'line = "x"\nbaud = 9600\n': "sink: baud takes one of the rates of a serial line, 115200 to 4000000",
                  'line = "x"\nrate = 1\n': "sink has a key that isn't line or baud: rate"}
         for text, said in wrong.items():

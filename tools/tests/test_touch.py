@@ -16,7 +16,6 @@ from test_operator import Core, FileLink  # noqa: E402
 from ngc_tools.cli.operate import main  # noqa: E402
 from ngc_tools.operator.numbers import length_of, nanometres_of  # noqa: E402
 from ngc_tools.operator.setter import Setter as TouchingOff  # noqa: E402
-from ngc_tools.operator.setter import read_setter  # noqa: E402
 
 WHICH = "zero X Y Z: which axes are 0 here? zero Z 10 for another coordinate than 0"
 LENGTH_0 = "Z is that of a tool of length 0: no tool length is in force"
@@ -344,11 +343,10 @@ class Setter(InFolder):
     """The table `[setter]`."""
 
     def test_read(self) -> None:
-        """Its height; none without the table; other tables are others'."""
-        Path("motion.toml").write_text("[motion]\naccel_mm_s2 = 5\n")
-        self.assertIsNone(read_setter("motion.toml"))
-        Path("motion.toml").write_text("[motion]\n[setter]\nheight_um = -81_250  # by a ring gauge\n")
-        self.assertEqual(read_setter("motion.toml"), -81_250_000)
+        """Its height; none without the table."""
+        Path("motion.toml").write_text("[motion]\naccel_mm_s2 = [5, 5, 5]\n")
+        self.assertEqual(TouchingOff.read("motion.toml"), TouchingOff(None, False))
+        Path("motion.toml").write_text("[window]\n[setter]\nheight_um = -81_250  # by a ring gauge\n")
         self.assertEqual(TouchingOff.read("motion.toml"), TouchingOff(-81_250_000, False))
         Path("motion.toml").write_text("[inputs]\nprobe = 6\n[setter]\nheight_um = 5\n")
         self.assertEqual(TouchingOff.read("motion.toml"), TouchingOff(5000, True))
@@ -357,8 +355,9 @@ class Setter(InFolder):
         """What can't be used is named, before anything is started."""
         self.device()
         takes = "setter: height_um takes a whole number of micrometres from -10000000 to 10000000"
-        for text, wanted in (("setter = 5\n", "setter isn't a table: [setter], and height_um below it"),
-                             ("[setter]\n", takes), ("[setter]\nheight_um = 1.5\n", takes),
+        for text, wanted in (("setter = 5\n", "setter isn't a table: [setter], and its keys below it"),
+                             ("[setter]\n", takes.replace(" takes ", " is missing: ")),
+                             ("[setter]\nheight_um = 1.5\n", takes),
                              ("[setter]\nheight_um = true\n", takes), ("[setter]\nheight_um = 10000001\n", takes),
                              ("[setter]\nheight_mm = 1\n", "setter has a key that isn't height_um: height_mm")):
             Path("m.toml").write_text(text)

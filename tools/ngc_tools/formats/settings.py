@@ -7,7 +7,7 @@ from pathlib import Path
 from typing import Any
 
 from ngc_tools.failure import Failure
-from ngc_tools.files import read
+from ngc_tools.files import read_settings
 from ngc_tools.formats.device import LENGTHS, SLOTS
 from ngc_tools.formats.text import shown
 
@@ -69,7 +69,7 @@ DEFAULT = Settings((1000,) * 3, (-1_000_000_000,) * 3, (1_000_000_000,) * 3, 6_0
 
 def read_table(path: str | Path) -> dict[str, Any]:
     """The keys of the file and their values. Raises BadSettings if it isn't TOML, or OSError."""
-    text = read(path)
+    text = read_settings(path)
     for number, line in enumerate(text.split(b"\n"), 1):
         if len(line) > _LONGEST:  # Python's reader takes hours for a key of many parts
             raise BadSettings(f"{path}: line {number} has more than {_LONGEST:,} bytes")

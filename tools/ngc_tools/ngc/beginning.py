@@ -11,7 +11,7 @@ from io import RawIOBase
 from pathlib import Path
 
 from ngc_tools.failure import Failure
-from ngc_tools.files import naming
+from ngc_tools.files import naming, open_without_waiting
 from ngc_tools.formats.canonical import read_commands
 from ngc_tools.formats.device import LARGE_SIZE, Device, Held, NoDevice, State
 from ngc_tools.formats.lines import percent_lines, program_lines
@@ -173,18 +173,13 @@ def _image(path: str | Path) -> bytes:
     """The sectors of a device as they stood at one moment: what two readings in a row give. A session may write
     meanwhile, and never leaves the same bytes twice, since epochs and records count up. Raises Held if it writes each
     time, OSError."""
-    with naming(path), open(path, "rb", buffering=0, opener=_open_without_waiting) as file:
+    with naming(path), open(path, "rb", buffering=0, opener=open_without_waiting) as file:
         image = _sectors(file)
         for _ in range(_READINGS):
             last, image = image, _sectors(file)
             if image == last:
                 return image
     raise Held(errno.EBUSY, "a session writes to the device all the time: ask again once it stands still", str(path))
-
-
-def _open_without_waiting(path: str, flags: int) -> int:
-    """Opens a file; of a pipe it doesn't wait for a writer."""
-    return os.open(path, flags | os.O_NONBLOCK | os.O_CLOEXEC)
 
 
 def _sectors(file: RawIOBase) -> bytes:

@@ -6,11 +6,12 @@ from collections.abc import Iterator
 from dataclasses import dataclass
 from pathlib import Path
 
-from ngc_tools.files import read
+from ngc_tools.files import read_settings
+from ngc_tools.formats.machine import MOST_LINES, BadMachine
 from ngc_tools.formats.settings import AXES, Settings, read_table
 from ngc_tools.ngc.settings_report import number
-from ngc_tools.player.machine import BadMachine, Machine, read_machine
-from ngc_tools.player.window import MOST, lines_for
+from ngc_tools.player.machine import Machine, read_machine
+from ngc_tools.player.window import lines_for
 
 LIKELY = range(10, 20_001)  # mm/s2
 _FULL_STEP_NM = 25_000  # of a screw of 5 mm a turn and a motor of 200 steps
@@ -33,7 +34,7 @@ class Motion:
     def read(ngc: str, path: str | Path, settings_path: str | Path) -> "Motion":
         """Reads a machine's file. Raises BadMachine, with the key and its range, if it is refused; BadSettings if it
         isn't TOML, OSError."""
-        read(path)
+        read_settings(path)
         words = [ngc, "pace", str(settings_path), str(path), "--total"]
         done = subprocess.run(words, stdin=subprocess.DEVNULL, stdout=subprocess.PIPE, check=False)
         said = done.stdout.decode("latin-1").strip()
@@ -72,12 +73,13 @@ class Motion:
     def is_short(self, axis: int, nm_per_min: int) -> bool:
         """Whether a rate along an axis wants more lines in hand than the player's window has."""
         window = self.machine.window_lines
-        return self.wanted(axis, nm_per_min) > window if window else self.wanted(axis, nm_per_min) == MOST
+        return self.wanted(axis, nm_per_min) > window if window else self.wanted(axis, nm_per_min) == MOST_LINES
 
     @property
     def beyond(self) -> str:
         """What is said of a rate that is short of lines."""
-        return (f"That wants more lines in hand than the {self.machine.window_lines or MOST:,} of the player's window,"
+        most = self.machine.window_lines or MOST_LINES
+        return (f"That wants more lines in hand than the {most:,} of the player's window,"
                 " so it never gets so fast")
 
 
@@ -89,7 +91,7 @@ def report(motion: Motion) -> list[str]:
             f"rate      {_axes([f'{rate:,}' if rate else 'any' for rate in motion.rate_mm_min])} mm/min at most",
             f"start     {_axes([f'{start:,}' for start in motion.start_mm_min])} mm/min at once",
             f"slack     {_axes([number(motion.slack_steps * step, 6) for step in step_nm])} mm",
-            f"window    {f'{lines:,} lines' if lines else f'as many lines as are needed, at most {MOST:,}'}",
+            f"window    {f'{lines:,} lines' if lines else f'as many lines as are needed, at most {MOST_LINES:,}'}",
             f"wait      {motion.machine.spindle_s:,} s for the spindle"]
     if any(backlash := motion.machine.backlash):
         lengths = [number(steps * step, 6) for steps, step in zip(backlash, step_nm, strict=True)]

@@ -3,11 +3,11 @@ import time
 from collections.abc import Callable
 from math import isqrt
 
+from ngc_tools.formats.machine import MOST_PERCENTS
 from ngc_tools.formats.settings import Settings
 from ngc_tools.job.figures import millimetres as rounded
 from ngc_tools.operator.face import REFUSED, WARNING, WHERE
 from ngc_tools.operator.session import ALARM, BROKEN, Session
-from ngc_tools.player.machine import MOST_PERCENTS
 from ngc_tools.player.progress import NoAnswer, Report
 from ngc_tools.player.spindle import PERCENTS as SPINDLE_PERCENTS
 

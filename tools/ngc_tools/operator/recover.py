@@ -5,6 +5,7 @@ too. It is sent by a datagram that names bytes of OUT, and takes that only at re
 it reads itself. So no word of a console can make it leave the lines that were handed out, but for legs, which go up
 first, and the straight line of `resume`, which goes at a feed."""
 from ngc_tools.formats.device import Device
+from ngc_tools.formats.machine import MOST_PERCENTS
 from ngc_tools.formats.position import Position, millimetres, nanometres
 from ngc_tools.job.figures import millimetres as rounded
 from ngc_tools.job.moves import distance
@@ -18,7 +19,6 @@ from ngc_tools.operator.recovery import OutFound, Recovery
 from ngc_tools.operator.rehearsing import segment_begins
 from ngc_tools.operator.session import Session
 from ngc_tools.operator.way_back import WayBack
-from ngc_tools.player.machine import MOST_PERCENTS
 from ngc_tools.player.progress import Report
 from ngc_tools.player.way import count_lines
 

@@ -11,7 +11,6 @@ from ngc_tools.formats.out import Line, Pulse
 from ngc_tools.player.pace_path import Axes
 
 UNKNOWN, DOWN, UP = 0, 999, 1000  # DOWN: all of the backlash is left, so the table follows down; UP: none is left
-MOST_BACKLASH = 999
 _WORDS = {UNKNOWN: "?", DOWN: "-", UP: "+"}
 _SCREWS = {word: screw for screw, word in _WORDS.items()}
 

@@ -2,10 +2,10 @@
 what is in hand is lost with the power. tools/player has the same integers."""
 from collections import deque
 
+from ngc_tools.formats.machine import MOST_LINES
 from ngc_tools.formats.out import Line, Pulse
 from ngc_tools.player.pace_path import Axes, Limits
 
-MOST = 8000  # what a pacer has room for, less a margin
 _LATENESS = 50  # parts of a second in which more comes
 _PERCENT_US = 10_000  # of a second
 
@@ -15,7 +15,7 @@ def lines_for(limits: Limits, period_us: int, step: Axes) -> int:
     their greatest rate takes v^2 / 2a, to which a fifth is added for a plan that isn't of the last moment."""
     rate = _PERCENT_US * limits.most_percent // max(period_us, 1)
     accel = min(accel for accel, moves in zip(limits.accel, step) if moves or not any(step))
-    return min(3 * rate * rate // (5 * accel) + rate // _LATENESS + least(limits), MOST)
+    return min(3 * rate * rate // (5 * accel) + rate // _LATENESS + least(limits), MOST_LINES)
 
 
 def least(limits: Limits) -> int:
@@ -50,7 +50,7 @@ class Window:
             self._greatest.popleft()
 
     def lines(self) -> int:
-        """How many lines are wanted in hand, 1 to MOST."""
+        """How many lines are wanted in hand, 1 to MOST_LINES."""
         if self._fixed:
             return self._fixed
         return self._greatest[0][1] if self._greatest else least(self._limits)
