@@ -23,6 +23,9 @@ static bool where_to_begin(const struct player *player, const struct options *op
     bool holds = source_holds(&player->source, found->bytes);
     struct file_mark there = source_mark(&player->source, found->bytes);
     bool is_same = holds && mark_is_same(&there, &found->mark);
+    if (source_error() != 0) {
+        return because(why, "%s: %s", out, strerror(source_error()));
+    }
     if (strcmp(found->out, player->out) != 0) {
         *goes_on = is_same && there.born_ns != 0;
         if (*goes_on) {

@@ -111,6 +111,9 @@ enum end await_more(struct play *play, bool *has_ended) {
         eventfd_t events;
         eventfd_read(shared->wake, &events);
     }
+    if (source_error() != 0) {
+        return AT_OUTS_END; /* that isn't OUT's end: it is looked for before each line */
+    }
     if (has_errand(play)) {
         return do_errand(play);
     }
@@ -153,6 +156,9 @@ static enum end next_line(struct play *play, char *line, size_t *size) {
 }
 
 enum end stop_at_line(struct play *play, const struct cause *what) {
+    if (source_error() != 0 && has_to_stop(play)) {
+        return STOPPED;
+    }
     note_stop(play, "line");
     because(&play->why, ":%" PRIu64 ": %.*s; stopped,", play->player->lines + 1, CAUSE_ROOM - 64, what->text);
     return STOPPED;
@@ -284,5 +290,5 @@ int play_out(struct play *play) {
     }
     bool is_at_line = play->why.text[0] == ':';
     say("%s%s%s spindle and coolant off", play->options->out, is_at_line ? "" : ": ", play->why.text);
-    return 1;
+    return source_error() != 0 ? 2 : 1;
 }

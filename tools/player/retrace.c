@@ -195,7 +195,7 @@ static enum end go_paced(struct play *play) {
         if (!is_ready(play)) {
             return STOPPED;
         }
-        if (take(play, &is_all, &what) == NO_LINE) {
+        if (take(play, &is_all, &what) == NO_LINE && source_error() == 0) { /* else it comes to rest first */
             return stop_at_line(play, &what);
         }
         if (!play->is_moving) {

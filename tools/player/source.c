@@ -3,12 +3,27 @@
 
 #include <errno.h>
 #include <fcntl.h>
+#include <stdatomic.h>
 #include <string.h>
 #include <sys/ioctl.h>
 #include <sys/stat.h>
 #include <unistd.h>
 
 enum { TAIL_BYTES = 4096, LEAST_PIPE = 4096 };
+
+static atomic_int error; /* why OUT can't be read any more; 0 */
+
+int source_error(void) {
+    return atomic_load(&error);
+}
+
+/* Notes why a read failed, if no other did before. */
+static void note_error(void) {
+    int none = 0;
+    if (errno != EAGAIN && errno != EWOULDBLOCK) {
+        atomic_compare_exchange_strong(&error, &none, errno);
+    }
+}
 
 /* Asks for a pipe of so many bytes; says so where one in which more waits stays as it is. */
 static void resize(const struct source *source, int bytes) {
@@ -28,7 +43,11 @@ static ssize_t read_at(int file, char *to, size_t size, uint64_t from) {
     size_t done = 0;
     while (done < size) {
         ssize_t got = pread(file, to + done, size - done, (off_t)(from + done));
-        if (got == 0 || (got < 0 && errno != EINTR)) {
+        if (got < 0 && errno != EINTR) {
+            note_error();
+            break;
+        }
+        if (got == 0) {
             break;
         }
         done += got > 0 ? (size_t)got : 0;
@@ -59,7 +78,7 @@ bool source_open(struct source *source, const char *path, int pipe_bytes, bool f
 }
 
 bool source_ends(const struct source *source) {
-    return !source->is_pipe && !source->follows;
+    return !source->is_pipe && !source->follows && source_error() == 0;
 }
 
 void source_go_to(struct source *source, uint64_t lines, uint64_t bytes) {
@@ -119,6 +138,7 @@ struct file_mark source_mark(const struct source *source, uint64_t bytes) {
         mark.born_ns = (uint64_t)what.stx_btime.tv_sec * UINT64_C(1000000000) + what.stx_btime.tv_nsec;
     }
     mark.digest = crc32_of(tail, (size_t)read_at(source->file, tail, size, bytes - size));
+    mark.is_known = source_error() == 0; /* else the digest may be of fewer bytes */
     return mark;
 }
 
@@ -156,6 +176,9 @@ bool source_read(struct source *source, size_t most) {
     do {
         got = read(source->file, source->hand + source->end, most < room ? most : room);
     } while (got < 0 && errno == EINTR);
+    if (got < 0) {
+        note_error();
+    }
     for (ssize_t at = 0; at < got; at++) {
         source->received += source->hand[source->end] == '\n';
         source->end++;

@@ -31,7 +31,10 @@ struct source {
 /* Opens a file, which may be followed, or a named pipe, which gets so many bytes. Returns false, with the cause. */
 bool source_open(struct source *source, const char *path, int pipe_bytes, bool follows, struct cause *why);
 
-/* Whether OUT ends where no more stands in it. */
+/* Why OUT can't be read any more, as the number of an error; 0 while it can. What was read is whole lines as before. */
+int source_error(void);
+
+/* Whether OUT ends where no more stands in it: not where that can't be read. */
 bool source_ends(const struct source *source);
 
 /* Goes on, or back, to behind so many lines and bytes of a file; what is in hand is let go. */

@@ -35,7 +35,7 @@ void note_stop(struct play *play, const char *word) {
 }
 
 bool is_rest_asked(const struct play *play) {
-    return atomic_load(&stops) > 0 || atomic_load(&play->player->record_error) != 0;
+    return atomic_load(&stops) > 0 || atomic_load(&play->player->record_error) != 0 || source_error() != 0;
 }
 
 bool has_to_stop(struct play *play) {
@@ -54,6 +54,11 @@ bool has_to_stop(struct play *play) {
     if (atomic_load(&play->player->record_error) != 0) {
         note_stop(play, "record");
         return !because(&play->why, "stopped after line %" PRIu64 ": the record can't be kept;", play->player->lines);
+    }
+    if (source_error() != 0) {
+        note_stop(play, "out");
+        return !because(&play->why, "stopped after line %" PRIu64 ": it can't be read: %s;", play->player->lines,
+                        strerror(source_error()));
     }
     if (anew_is_wanted(play->player)) {
         return !because(&play->why, "another session follows, after line %" PRIu64 ";", play->player->lines);

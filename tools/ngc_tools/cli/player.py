@@ -227,7 +227,7 @@ def play(player: Player, args: argparse.Namespace, voice: Voice) -> int:
         status = 1
     except Stopped as error:
         voice.say(f"{args.out}: {error}; spindle and coolant off")
-        status = 1
+        status = 2 if player.source.failed else 1
     finally:
         over.set()
         if player.answers:

@@ -92,7 +92,8 @@ class PacedPlayer(Player):
         while most > 0 and is_there and not self._is_all and not self._pace.is_full():
             is_there = self._read_one()
             most -= 1
-        is_end = not is_there and self.source.is_file and not self.source.follow and self.errand is None
+        ends = self.source.is_file and not self.source.follow and not self.source.failed
+        is_end = not is_there and ends and self.errand is None
         if not self._is_all and (is_end or self._bad):
             self._is_all = True
             self._end_here()

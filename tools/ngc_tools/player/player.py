@@ -77,9 +77,9 @@ class Player(Goes):
         except BadLine:
             self.stopped_by = "line"
             raise
-        except OSError:
-            self.stopped_by = "pins"
-            raise
+        except OSError as error:  # of OUT as it is read along a way; that of the pins names them
+            self.stopped_by = "pins" if error.filename else "out"
+            raise OSError(error.errno, error.strerror, error.filename or self.source.path) from None
         finally:
             self._switch_off()
 
@@ -268,13 +268,13 @@ class Player(Goes):
         if self._wake in ready:
             os.eventfd_read(self._wake)
         self._heed()
-        if self._does_errand():
+        if self.source.failed or self._does_errand():
             return False
         if not self._is_left(ready.get(self.source.file, 0)):
             self._left_ns = 0
             return False
         with self._lock:
-            if self.source.has_line() or self.source.read():
+            if self.source.has_line() or self.source.read() or self.source.failed:
                 return False
         return self._is_session_over()
 
@@ -308,11 +308,12 @@ class Player(Goes):
 
     def _is_rest_asked(self) -> bool:
         """Whether it is to come to rest and stop then."""
-        return self.stops > 0 or self._wants_anew or bool(self.keeper and self.keeper.failed)
+        has_failed = self.source.failed or self.keeper and self.keeper.failed
+        return self.stops > 0 or self._wants_anew or bool(has_failed)
 
     def _heed(self) -> None:
-        """Raises Stopped if it is asked to stop, or can't keep its record any more: while it moves only if it is asked
-        once more. Sets the spindle's speed, where it is overridden otherwise; raises OSError if the pins fail."""
+        """Raises Stopped if it is asked to stop, or can't keep its record or read OUT any more: while it moves only if
+        it is asked once more. Sets the spindle's speed, where it is overridden otherwise; raises OSError if the pins fail."""
         if (outputs := self.spindle.changed()) is not None:
             self.pins.set(str(outputs).encode())
         if self._is_moving and self.stops < 2:
@@ -322,6 +323,8 @@ class Player(Goes):
             raise Stopped("signal", f"stopped after line {self.lines}")
         if self.keeper and self.keeper.failed:
             raise Stopped("record", f"stopped after line {self.lines}: the record can't be kept")
+        if why := self.source.failed:
+            raise Stopped("out", f"stopped after line {self.lines}: it can't be read: {why.strerror}")
         if self._wants_anew:
             raise Anew
         self._heed_off()

@@ -44,6 +44,7 @@ class Source:
             raise OSError(errno.EINVAL, "neither a file nor a named pipe", self.path)
         self.follow = follow and not self.is_pipe
         self.pipe_bytes = _resize(self.file, pipe_bytes) if self.is_pipe else 0
+        self.failed: OSError | None = None  # why it can't be read any more
         self.received = 0
         self.taken = 0  # bytes of OUT, with those of the lines that `next` gave
         self.limit: int | None = None  # of a file that is followed: it isn't read beyond so many bytes
@@ -73,16 +74,29 @@ class Source:
         return os.fstat(self.file).st_size
 
     def mark(self, size: int) -> FileMark | None:
-        """What tells a file apart by its first `size` bytes; None for a pipe."""
+        """What tells a file apart by its first `size` bytes; None for a pipe, and where they can't be read."""
         if not self.is_file:
             return None
         begin = max(0, size - TAIL_BYTES)
         inode = os.fstat(self.file).st_ino & (2**63 - 1)
-        return FileMark(inode, born_ns(self.file), zlib.crc32(os.pread(self.file, size - begin, begin)))
+        tail = self._read_at(begin, size - begin)
+        return FileMark(inode, born_ns(self.file), zlib.crc32(tail)) if self.failed is None else None
 
     def holds(self, size: int) -> bool:
         """Whether a file has so many bytes, and a line ends there."""
-        return size == 0 or os.pread(self.file, 1, size - 1) == b"\n"
+        return size == 0 or self._read_at(size - 1, 1) == b"\n"
+
+    def _read_at(self, begin: int, size: int) -> bytes:
+        """So many bytes of a file, fewer at its end, none where they can't be read."""
+        try:
+            return os.pread(self.file, size, begin)
+        except OSError as error:
+            self._note(error)
+            return b""
+
+    def _note(self, error: OSError) -> None:
+        """Notes why it can't be read, if no other cause came before."""
+        self.failed = self.failed or OSError(error.errno, error.strerror, self.path)
 
     def next(self) -> bytes | None:
         """The next whole line, without its newline, or None if none is in hand."""
@@ -106,6 +120,9 @@ class Source:
         try:
             got = os.read(self.file, self._allowed(most))
         except BlockingIOError:
+            return False
+        except OSError as error:
+            self._note(error)
             return False
         *whole, self._part = (self._part + got).split(b"\n")
         if len(self._part) > LONGEST_LINE:
@@ -153,13 +170,15 @@ def where_to_begin(record: Record | None, source: Source, anew: bool, restored: 
     """The record with which a player begins, by the one that it found, and what is to be said of it, if anything.
 
     `anew` begins with a file's first line. `restored`: a file is a copy of the one that the record speaks of. Raises
-    OtherFile if it can't be told how much of OUT is carried out."""
+    OtherFile if it can't be told how much of OUT is carried out, OSError if it can't be read."""
     out = os.path.realpath(source.path)
     begun = Record(out) if record is None else Record(out, 0, 0, record.outputs, record.at_nm, screws=record.screws)
     if record is None or anew or not source.is_file or record.size == 0:
         return begun, ""
     goes_on = replace(begun, lines=record.lines, size=record.size, is_off=record.is_off)
     there = source.mark(record.size) if source.holds(record.size) else None
+    if source.failed:
+        raise source.failed
     if record.out != out:
         is_renamed = there is not None and there.born_ns and there == record.mark
         return (goes_on, f"it was {record.out}: goes on after line {record.lines}") if is_renamed else (begun, "")
