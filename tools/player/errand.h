@@ -22,6 +22,7 @@ struct wish {
     uint64_t bytes; /* where so many bytes of OUT lead */
     bool is_on;     /* `on` is switched on before */
     struct outputs on;
+    bool asks_look; /* somebody at the player's terminal looks then, and agrees, before anything moves */
     bool is_switch;   /* that alone: nothing moves */
     bool is_by_legs;  /* up to `lift_nm`, over, and down to `nm` .. */
     bool is_straight; /* .. or in one line there */

@@ -47,7 +47,8 @@ static void print_on(char *text, size_t room, const struct outputs *outputs) {
              outputs->mist ? "mist" : "", outputs->mist && outputs->flood ? ", " : "", outputs->flood ? "flood" : "");
 }
 
-/* Asks, unless it is told not to; whether outputs are switched on first. False, with the cause, where nobody agrees. */
+/* Asks, unless it is told not to; whether outputs are switched on first, after which somebody has to look. False, with
+ * the cause, where nobody agrees. */
 static bool is_agreed(const struct play *play, struct wish *wish, struct cause *why) {
     char on[128];
     char question[256];
@@ -60,10 +61,12 @@ static bool is_agreed(const struct play *play, struct wish *wish, struct cause *
     if (wish->is_on) {
         snprintf(question, sizeof question, "on was, before line %" PRIu64 ": %s. yes switches it on first, no leaves"
                  " it off", play->player->lines + 1, on);
-        wish->is_on = agrees(question, &is_no);
+        wish->is_on = wish->asks_look = agrees(question, &is_no);
     }
-    bool goes = (wish->is_on || is_no || !outputs_are_on(&wish->on))
-        && agrees("yes goes there, anything else ends", &is_no);
+    bool goes = wish->asks_look
+        || ((is_no || !outputs_are_on(&wish->on))
+            && agrees("Nothing is switched, and nothing has moved. Look: are spindle, tool and way as they should be?"
+                      " yes goes there, anything else ends", &is_no));
     return goes || because(why, "nothing moved; --yes goes without a question");
 }
 

@@ -7,6 +7,11 @@
 /* Takes no notice of what was typed before. */
 void person_forget(void);
 
+enum answer { NO_ANSWER, YES, ANOTHER };
+
+/* What is answered, up to Enter, in so many milliseconds; ANOTHER too where nobody can answer any more. */
+enum answer person_answers(int milliseconds);
+
 /* Whether Enter is pressed in so many milliseconds. */
 bool person_has_pressed(int milliseconds);
 

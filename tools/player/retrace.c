@@ -276,6 +276,9 @@ enum end do_errand(struct play *play) {
     if (errand->wish.is_on) {
         end = switch_on(play, &errand->wish.on);
     }
+    if (end == AT_OUTS_END && errand->wish.asks_look && !await_look(play)) {
+        end = STOPPED;
+    }
     bool moves_back = errand->wish.is_by_legs || errand->bytes < player->bytes;
     if (end == AT_OUTS_END && !errand->wish.is_switch && moves_back) {
         moves_begin(&moves, play);

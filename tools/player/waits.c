@@ -158,6 +158,25 @@ static bool is_nobody_there(struct play *play, const char *what) {
                     what);
 }
 
+bool await_look(struct play *play) {
+    enum answer answer = NO_ANSWER;
+    person_forget();
+    say("The outputs are switched, and nothing has moved. Look: are spindle, tool and way as they should be? yes goes"
+        " there, anything else ends");
+    while (answer == NO_ANSWER) {
+        answer = person_answers(SLICE_MS);
+        if (has_to_stop(play)) {
+            return false;
+        }
+    }
+    if (answer != YES) {
+        note_stop(play, "look");
+        return because(&play->why, "nothing moved;");
+    }
+    schedule_pause(&play->schedule);
+    return true;
+}
+
 bool await_tool(struct play *play, unsigned slot) {
     char what[32] = "take the tool out";
     if (slot != 0) {

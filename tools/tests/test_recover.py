@@ -86,14 +86,40 @@ class Going:
     def test_asked(self) -> None:
         """Without a yes nothing moves, and the record stays; `no` leaves the spindle off."""
         before = record()
-        for text in ("", "no\n", "yes\nno\n", "YES\n", "go\n", "no\n\n"):
+        for text in ("", "no\n", "go\n", "no\n\n"):
             status, said = self.go("--go-to-line", "2", text=text)
             self.assertEqual((status, said.splitlines()[-1].partition(": ")[2], self.pins(), record()),
                              (2, "nothing moved; --yes goes without a question", [], before), text)
         status, said = self.go("--go-to-line", "5", text="no\nyes\n")
         self.assertEqual((status, self.pins()), (0, ["P -1 0 1 70"]))
-        self.assertEqual(said.splitlines()[1:], ["on was, before line 7: spindle clockwise at 900. yes switches it on"
-                                                 " first, no leaves it off", "yes goes there, anything else ends"])
+        self.assertEqual(said.splitlines()[1:], [
+            "on was, before line 7: spindle clockwise at 900. yes switches it on first, no leaves it off",
+            "Nothing is switched, and nothing has moved. Look: are spindle, tool and way as they should be? yes goes"
+            " there, anything else ends"])
+
+    def test_looked_at(self) -> None:
+        """What was on is switched on, nothing moves, and somebody looks: it goes there after another yes, and switches
+        it off after anything else. What was typed before the question is no answer."""
+        before, on = record(), "S 1 900.000000 0 0 0 0"
+        for text in ("yes\n", "YES\nyes\n", "yes\nno\n"):
+            Path("pins").unlink(missing_ok=True)
+            status, said = self.go("--go-to-line", "2", text=text)
+            self.assertEqual((status, said.splitlines()[-1], self.pins()),
+                             (1, "out: nothing moved; spindle and coolant off", [on, "off"]), text)
+            self.assertEqual(record(), before.replace("outputs S 1", "outputs S 0") + "stopped look\n")
+        for answer, pins in ((b"yes", [on, "P -1 0 1 200", "P 0 -1 0 200", "P -1 0 0 50", "off"]), (b"", [on, "off"])):
+            Path("pins").unlink()
+            child = self.begin("--untimed", "--no-ask-tool", "--pins", "pins", "--go-to-line", "2", "out", "first.toml",
+                               "position")
+            child.stdin.write("yes\n")
+            child.stdin.flush()
+            while "Look:" not in (line := child.stderr.readline()):
+                self.assertTrue(line)
+            self.assertTrue(line.startswith("The outputs are switched, and nothing has moved. Look: "), line)
+            time.sleep(0.1)
+            self.assertEqual(self.pins(), [on])
+            child.communicate(f"{answer.decode()}\n")
+            self.assertEqual(self.pins(), pins)
 
     def test_tool_stays(self) -> None:
         """Past a tool change it goes by a word alone. Back no tool is changed, so what is switched on later names the

@@ -9,9 +9,9 @@ from ngc_tools.formats.record import Record, machine_nm
 from ngc_tools.formats.settings import AXES, Settings
 from ngc_tools.job.figures import duration
 from ngc_tools.job.figures import millimetres as rounded
-from ngc_tools.player.person import Voice
+from ngc_tools.player.person import Person, Voice
 from ngc_tools.player.player import Player
-from ngc_tools.player.retrace import Point, Wish, leg_pulses, legs_to
+from ngc_tools.player.retrace import LOOK, Point, Wish, leg_pulses, legs_to
 from ngc_tools.player.way import CarriedLine, NoWay, Way, end_of_line, look, moves, outputs_at, tool_change
 
 _TURNS = ("", "spindle clockwise", "spindle counter-clockwise")
@@ -86,7 +86,9 @@ class Going:
         if at_nm is None or size > player.size:
             what = f"{'back' if size < player.size else 'on'} to line {self.args.go_to_line} of {self.args.out}"
             self.voice.say(way_words(self._look(size, position), what))
-        if why := player.take_errand(Wish(size, self._agreed(outputs), lift_nm, at_nm, most)):
+        on = self._agreed(outputs)
+        person = Person(sys.stdin, self.voice) if on and not self.args.yes else None
+        if why := player.take_errand(Wish(size, on, lift_nm, at_nm, most, person=person)):
             raise WontGo(f"{self.args.out}: {why}")
 
     def _look(self, size: int, position: Position) -> Way:
@@ -113,15 +115,16 @@ class Going:
         self.voice.say(way_words(way, f"by legs over Z {millimetres(lift_nm)} to {_point(end)}"))
 
     def _agreed(self, outputs: Switch) -> Switch | None:
-        """Asks, unless it is told not to; what is switched on first. Raises WontGo where the answer isn't yes."""
+        """Asks, unless it is told not to; what is switched on first, after which somebody has to look. Raises WontGo
+        where the answer isn't yes."""
         on = on_words(outputs)
         if self.args.yes:
             return outputs if on else None
         if on and self._answer(f"on was, before line {self.player.lines + 1}: {on}. yes switches it on first, no leaves"
-                               " it off", ("yes", "no")) == "no":
-            on = ""
-        self._answer("yes goes there, anything else ends", ("yes",))
-        return outputs if on else None
+                               " it off", ("yes", "no")) == "yes":
+            return outputs
+        self._answer(LOOK, ("yes",))
+        return None
 
     def _answer(self, question: str, answers: tuple[str, ...]) -> str:
         self.voice.say(question)

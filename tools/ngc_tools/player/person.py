@@ -45,12 +45,21 @@ class Person:
         self.is_gone = keys is None
         self._file = keys.fileno() if keys else -1
         self._voice = voice
+        self._answer = b""  # what is typed of one so far
 
     def ask(self, text: str) -> None:
         """Asks for something that Enter says is done; what was typed before is no answer."""
         while self._typed(0):
             pass
+        self._answer = b""
         self._voice.say(text)
+
+    def answer(self, seconds: float) -> str | None:
+        """What is answered, up to Enter, in so many seconds: None for nothing yet, "" where nobody can any more."""
+        self._answer += self._typed(seconds)
+        if b"\n" not in self._answer:
+            return "" if self.is_gone else None
+        return self._answer.partition(b"\n")[0].decode("latin-1").strip().lower()
 
     def has_pressed(self, seconds: float) -> bool:
         """Whether Enter is pressed in so many seconds."""

@@ -26,9 +26,10 @@ from ngc_tools.formats.record import machine_nm
 from ngc_tools.job.moves import distance
 from ngc_tools.player.backlash import Backlash
 from ngc_tools.player.keeper import Keeper
-from ngc_tools.player.manner import Manner
+from ngc_tools.player.manner import Manner, Stopped
 from ngc_tools.player.pace import Pace
 from ngc_tools.player.pace_path import Limits
+from ngc_tools.player.person import Person
 from ngc_tools.player.pins import Pins
 from ngc_tools.player.schedule import Schedule
 from ngc_tools.player.source import Source
@@ -36,6 +37,11 @@ from ngc_tools.player.way import CarriedLine, NoWay, count_lines, moves
 
 Point = tuple[int, int, int]
 _DOZE_S = 0.005
+_LOOK_S = 0.02
+_LOOK = "nothing has moved. Look: are spindle, tool and way as they should be? yes goes there, anything else ends"
+LOOK = f"Nothing is switched, and {_LOOK}"
+LOOK_SWITCHED = f"The outputs are switched, and {_LOOK}"
+"""What somebody at the player's terminal is asked before the motors go to a line."""
 _ERRAND = re.compile(r"(?:along|legs (\S+ \S+ \S+ \S+)|straight (\S+ \S+ \S+)) (\d{1,18})(?: feed (\S+))?(?: (S .*))?")
 _SWITCH = re.compile(r"switch (S .*)")
 
@@ -45,7 +51,8 @@ class Wish:
     """Where somebody sends the motors: along OUT to where its first `size` bytes lead. If `at_nm` is named, it is where
     they lead, or what is carried out if that is less, and legs over `lift_nm` go there first, or without that one
     straight line. The last leg, and a way back, goes at most at `nm_per_min`; None for no other rate than that of
-    traverses. `on` is switched on before; with `is_switch` that is all, and nothing moves."""
+    traverses. `on` is switched on before; with `is_switch` that is all, and nothing moves. `person` looks at it then, and
+    agrees, before anything moves; None for nobody at the player's own terminal."""
 
     size: int = 0
     on: Switch | None = None
@@ -53,6 +60,7 @@ class Wish:
     at_nm: Point | None = None
     nm_per_min: int | None = None
     is_switch: bool = False
+    person: Person | None = None
 
 
 @dataclass(frozen=True, slots=True)
@@ -210,6 +218,8 @@ class Goes:
         self.again = None  # an errand says itself what is on
         if errand.wish.on:
             self._switch_on(errand.wish.on)
+        if errand.wish.person:
+            self._await_look(errand.wish.person)
         if errand.legs:
             self._go(self._by_legs(errand))
         elif errand.size < self.size:
@@ -238,6 +248,17 @@ class Goes:
             self.outputs = outputs
         if turns:
             self._wait_until(time.monotonic_ns() + self.manner.spindle_us * 1000)
+        self.schedule.pause()
+
+    def _await_look(self, person: Person) -> None:
+        """Waits until a person says that what is switched on is as it should be. Raises Stopped where that isn't said.
+        """
+        person.ask(LOOK_SWITCHED)
+        while (answer := person.answer(_LOOK_S)) is None:
+            self._heed()
+        self._heed()
+        if answer != "yes":
+            raise Stopped("look", "nothing moved")
         self.schedule.pause()
 
     def _back(self, errand: Errand) -> Iterator[CarriedLine]:
