@@ -41,7 +41,7 @@ struct world {
 };
 
 /* What the pins were set to: outputs, when the spindle began to turn, and the last pulses, each with when it was made
- * by the monotonic clock. */
+ * by the monotonic clock, its steps, and where the table was after it. */
 struct made {
     uint64_t pulses;
     uint64_t spindle;
@@ -53,7 +53,8 @@ struct made {
     uint64_t switched_ns; /* when an output changed last */
     struct {
         int64_t at_ns;
-        int8_t step[8];
+        int32_t place[3];
+        int8_t step[4];
     } last[LAST_PULSES];
 };
 
@@ -90,6 +91,7 @@ static void tell_pulse(const struct line *line) {
     size_t place = made->pulses % LAST_PULSES;
     for (int axis = 0; axis < 3; axis++) {
         made->last[place].step[axis] = (int8_t)line->step[axis];
+        made->last[place].place[axis] = (int32_t)world->place[axis];
     }
     made->last[place].at_ns = now_ns();
     made->pulses++;

@@ -22,12 +22,13 @@ from page_support import CUT, OTHER, PAGE, SLOW, Page, Served, request  # noqa: 
 from session_support import FIRST, PATIENCE_S, TOOLS, InFolder, ngc, told  # noqa: E402
 
 from ngc_tools.cli.page import main  # noqa: E402
-from ngc_tools.ngc.console import Console  # noqa: E402
+from ngc_tools.ngc.console import Console, Status  # noqa: E402
 from ngc_tools.operator.face import REFUSED  # noqa: E402
 from ngc_tools.operator.sentences import SWITCHED  # noqa: E402
 from ngc_tools.operator.way_back import TYPE_GO  # noqa: E402
 from ngc_tools.page import server as server_module  # noqa: E402
 from ngc_tools.page.aside import Aside, NotDone  # noqa: E402
+from ngc_tools.page.band import Standing  # noqa: E402
 from ngc_tools.page.drawing import SWITCH, DrawingRequest, draw, draw_exactly, job_of  # noqa: E402
 from ngc_tools.page.face import PageFace  # noqa: E402
 from ngc_tools.page.jog import HeldJog  # noqa: E402
@@ -297,7 +298,7 @@ class Work(Served):
                 self.assertEqual((state["word"], state["program"]["lines"], state["ended"]), ("Refused", 0, ""), line)
 
     def test_quit_asks(self) -> None:
-        """What a session's end leaves on is asked about, and switched off."""
+        """What a session's end leaves on is asked about, and switched off. Switches are heeded while it is asked."""
         page = self.page()
         page.post("mdi", {"line": "M3 S100"})
         page.until("it turns", lambda state: state["spindle"] == 1 and not state["busy"])
@@ -306,6 +307,9 @@ class Work(Served):
         self.assertEqual((state["question"]["kind"], state["question"]["purpose"]), ("yes", ""))
         self.assertIn("still on: the spindle", state["question"]["text"])
         self.assertEqual(page.post("answer", {"question": 0, "yes": True})[1], {"taken": False})
+        self.assertEqual(page.post("switch", {"name": "single", "on": True}), (200, {}))
+        heeded = page.until("a switch is heeded meanwhile", lambda state: state["single"])
+        self.assertEqual(heeded["question"], state["question"])
         page.agree(state)
         self.assertEqual(page.last()["spindle"], 0)
         self.assertEqual(self.server.wait(PATIENCE_S), 0)
@@ -766,6 +770,25 @@ class PageWords(unittest.TestCase):
             face = PageFace()
             face.say(said, REFUSED)
             self.assertEqual((face.log[-1].text, face.refusal), (shown, shown))
+
+
+class Bands(unittest.TestCase):
+    """What the band says, of plain parts of a session."""
+
+    def band(self, word: str, own: str) -> tuple[str, str, str]:
+        """That of a command under way, with a line of one's own, in a program at its line 1."""
+        operator = SimpleNamespace(session=SimpleNamespace(own=own, is_door_open=False))
+        session = SimpleNamespace(ended="", stand=SimpleNamespace(gone=""), face=PageFace(), operator=operator,
+                                  under=SimpleNamespace(word=word))
+        status = Status(3, 0, ("0", "0", "0"), True, "none", 0, "idle")
+        return Standing(session, status, None, "line 1 of 4", "", "", "", False, PAGE).band()
+
+    def test_typed(self) -> None:
+        """Before a line of one's own begins, and after it, no line of the program is told to run."""
+        self.assertEqual(self.band("run", ""), ("Running", "run", "line 1 of 4"))
+        self.assertEqual(self.band("mdi", "G0 X1"), ("Running", "run", "G0 X1"))
+        for word in ("mdi", "restore"):
+            self.assertEqual(self.band(word, ""), ("Running", "run", ""))
 
 
 class Faces(unittest.TestCase):

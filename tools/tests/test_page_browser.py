@@ -490,7 +490,10 @@ class Moves(InBrowser):
         self.machine.axes.alarm("emergency_stop")
         browser.wait("ngc.state.word === 'ALARM'")
         self.look("an alarm")
+        browser.wait("!document.getElementById('over').hidden && document.getElementById('run').disabled")
+        browser.press("Back", "#over button")
         browser.press("Home all", "#run")
+        browser.wait("document.getElementById('run').disabled")  # what it opens is open
         self.assertTrue(browser.js("document.querySelector('#over .go').disabled"))
         self.machine.axes.release()
         browser.wait("!ngc.state.inputs.length && !document.querySelector('#over .go').disabled")
@@ -505,7 +508,6 @@ class Moves(InBrowser):
         axes.switches, axes.at_nm, axes.home_at[1] = "XZ", [0, 7_000_000, 0], 7_000_000
         axes.alarm("limits")
         browser.wait("ngc.state.word === 'ALARM'")
-        browser.press("Home all", "#run")
         browser.press("Home", "#over button")
         browser.wait("ngc.state.left === 'Y' && !ngc.state.busy")
         browser.press("Where is Y?", "#run")

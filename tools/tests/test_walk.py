@@ -13,7 +13,7 @@ sys.path.insert(0, str(Path(__file__).resolve().parent))
 from browser_support import chromium  # noqa: E402
 from session_support import InFolder  # noqa: E402
 from walk import Covered, Failure, Step, Walk, shortened, told, walked  # noqa: E402
-from walk_machine import Lateness  # noqa: E402
+from walk_late import Lateness  # noqa: E402
 from walk_page import Tabs  # noqa: E402
 from walk_rules import Wrong  # noqa: E402
 

@@ -27,13 +27,15 @@ sys.path.insert(0, str(Path(__file__).resolve().parent))
 
 from browser_support import Failed, chromium  # noqa: E402
 from session_support import PATIENCE_S, memory  # noqa: E402
-from walk_machine import Bench, Lateness  # noqa: E402
+from walk_late import Lateness  # noqa: E402
+from walk_machine import Bench  # noqa: E402
 from walk_page import Seen, Tabs  # noqa: E402
 from walk_rules import Judge, Truth, Wrong, changes, number  # noqa: E402
 
 STEPS = 50
 BEGINS_S = 1.0
-"""So soon what was asked for has begun."""
+"""So soon what was asked for has begun; what moves before may be just that. Of what a page asked for before it was
+loaded anew, or another one was used, nothing else tells when it was answered."""
 WAYS = 60
 """In so many steps a person has to get on, whatever came."""
 ANSWER_S = 2.0
@@ -160,7 +162,7 @@ class Walk:
             now, truth = time.monotonic(), self.truth
             is_still = self.bench.mill.last_pulse_at() < now - 0.15
             if is_still and now - begun > 0.12 and not self._is_busy():
-                if now > truth.touched_at + BEGINS_S + self.judge.slack_s(truth.touched_at):
+                if self._is_over(now):
                     truth.may_move, truth.ways, truth.without_lines = False, None, False
                 return
             if now - begun > (0.35 if not is_still else most_s):
@@ -173,6 +175,14 @@ class Walk:
         if seen is None or not self.bench.has_player():
             return False
         return bool(seen.busy or seen.runs) and not (seen.question or seen.waits)
+
+    def _is_over(self, now: float) -> bool:
+        """Whether what was asked for last is over, or nothing has come of it in the time in which it begins; and all
+        that moved was looked at."""
+        seen, truth = self.seen, self.truth
+        is_answered = seen is None or not seen.asks and seen.now > seen.answered
+        has_begun = now > truth.touched_at + BEGINS_S + self.judge.slack_s(truth.touched_at)
+        return is_answered and has_begun and self.bench.mill.pulses == truth.quiet_pulses
 
     def press(self, button: int, text: str) -> bool:
         """Presses a button, and sees that something comes of it; False where it isn't there any more."""
@@ -197,7 +207,7 @@ class Walk:
     def _stops(self) -> None:
         """After Stop the motors come to rest as after Hold, and spindle and coolant go off."""
         touched = self.truth.touched_at
-        self.judge.hold(touched, self.bench.mill.pulses)
+        self.judge.hold(touched)
         self._rests_now()
         while (on := self.bench.mill.outputs) and (on.spindle or on.mist or on.flood):
             if time.monotonic() > touched + ANSWER_S + self.judge.slack_s(touched):
@@ -233,23 +243,22 @@ class Walk:
 
     def _answered(self, text: str, says: str, before: Seen) -> None:
         """Something has to come of a touch of an enabled button, and a refusal has to be seen."""
-        until = time.monotonic() + ANSWER_S
-        said: list[str] = []
+        begun = time.monotonic()
+        until = begun + ANSWER_S
         while True:
-            after = self.tabs.see()
-            self.seen = after
-            clicks = self.tabs.clicks(before.clicks)
+            posts, clicks = self.tabs.posts(before.posts), self.tabs.clicks(before.clicks)
+            self.seen = after = self.tabs.see()
             if after.session != before.session or after.clicks < before.clicks:
                 return
             if not any(click["text"].strip() == says for click in clicks):
                 return  # it was made anew under the finger
-            said, posts = list(changes(before, after)), self.tabs.posts(before.posts)
             if any(post["ok"] is False and _is_told(_why(post), after) for post in posts):
                 return
-            if said or after.logs > before.logs and after.log[0][0] == "said":
+            if any(changes(before, after)) or after.logs > before.logs and after.log[0][0] == "said":
                 break
-            patience_s = PATIENCE_S if any(post["ok"] is None for post in posts) else 0
-            if time.monotonic() > until + patience_s + self.judge.slack_s(until - ANSWER_S):
+            if any(post["ok"] is None for post in posts):  # what is waited for may take its time
+                until = min(time.monotonic(), begun + PATIENCE_S) + ANSWER_S
+            if time.monotonic() > until + self.judge.slack_s(until):
                 self._refused(text, before, after)
                 raise Wrong("nothing comes of it", f"{text}, at {before.word}: {before.detail}; posted {posts}")
             time.sleep(0.03)
@@ -264,7 +273,7 @@ class Walk:
             silent = [says for says in told if not _is_told(says[8:], after)]
             if not silent:
                 return
-            if time.monotonic() > until + self.judge.slack_s(until - ANSWER_S):
+            if time.monotonic() > until + self.judge.slack_s(until):
                 raise Wrong("refused in Log alone", f"{text}, at {before.word}: {silent[0]!r}; the page says"
                                                     f" {after.word}: {after.detail}")
             time.sleep(0.05)
@@ -275,7 +284,7 @@ class Walk:
         truth = self.truth
         self.judge.moves()  # what was before it was before it
         if seen.waits and re.match(r"Tool .* (in|out)$", text):
-            truth.tool = int(seen.waitsTool)
+            truth.tool, truth.tool_told_at = int(seen.waitsTool), time.monotonic()
         if not _MOVING.match(text):
             self._zero_asked(text)
             return
@@ -361,6 +370,7 @@ class Walk:
         self.judge.moves()
         self.truth.may_move, self.truth.is_zero_asked = bool(axes), True
         self.truth.ways = {f"{axis}{way}" for axis in axes for way in "+-"}
+        self.truth.without_lines = True  # none of the program
         self.press(button, "Do")
 
     def _do_fill(self, label: str, value: str) -> None:
@@ -386,10 +396,10 @@ class Walk:
     def _until(self, holds: Callable[[Seen], object], most_s: float) -> None:
         """Waits until a page shows something."""
         until = time.monotonic() + most_s
-        while time.monotonic() < until:
+        while True:
             self.seen = self.tabs.see()
             self.judge.all(self.seen)
-            if holds(self.seen):
+            if holds(self.seen) or time.monotonic() > until:
                 return
             time.sleep(0.05)
 
@@ -402,7 +412,7 @@ class Walk:
         place = self.tabs.find("buttons", number_)
         if place is None:
             return
-        pulses, touched = self.bench.mill.pulses, time.monotonic()
+        touched = time.monotonic()
         if how == "space":
             self.tabs.space()
         else:
@@ -410,7 +420,7 @@ class Walk:
             self.tabs.up(*place)
         if before.isLost:
             return
-        self.judge.hold(touched, pulses)
+        self.judge.hold(touched)
         self._rests_now()
 
     def _rests_now(self) -> None:
@@ -440,19 +450,19 @@ class Walk:
     def _do_door(self, what: str) -> None:
         """Somebody opens or shuts the door."""
         self.has_door = what == "opens"
-        opened, pulses = time.monotonic(), self.bench.mill.pulses
+        opened = time.monotonic()
         self.bench.input("door", self.has_door)
         if self.has_door:
-            self.judge.hold(opened, pulses)
+            self.judge.hold(opened)
             self._rests_now()
 
     def _do_stop(self, what: str) -> None:
         """Somebody presses or frees the emergency stop."""
         self.has_stop = what == "pressed"
-        pressed, pulses = time.monotonic(), self.bench.mill.pulses
+        pressed = time.monotonic()
         self.bench.input("stop", self.has_stop)
         if self.has_stop:
-            self.judge.hold(pressed, pulses)
+            self.judge.hold(pressed)
             self._rests_now()
 
     def _do_kill(self, *names: str) -> None:
@@ -469,6 +479,8 @@ class Walk:
             self._rests_now()
             if is_moving:
                 self.truth.is_place_known = False
+            if time.monotonic() < self.truth.tool_told_at + BEGINS_S:  # it may not have heard of it
+                self.truth.tool = None
         if len(names) == 3:
             self.bench.mill.lose_power()
 
@@ -482,9 +494,11 @@ class Walk:
             self._chosen_again()
 
     def _chosen_again(self) -> None:
-        """What was chosen is in force again, or is named."""
+        """For a job that goes on what was chosen is in force again, or is named; for one that begins nothing is."""
         self.settle()
         seen = self.seen
+        if not seen.begun:
+            return
         lost = [name for name, is_on in self.chosen.items() if is_on and not _chosen(seen).get(name)]
         named = [name for name in lost if name.split(" ")[0].lower() in seen.all_words.lower()]
         if lost != named:
@@ -497,8 +511,10 @@ class Walk:
         takes a program. Raises Wrong."""
         for step in (("door", "shuts"), ("stop", "freed"), ("start", "player"), ("start", "server")):
             self.do(step)
+        until = time.monotonic() + PATIENCE_S
         for _ in range(WAYS):
-            self.seen = seen = self.tabs.see()
+            self._until(lambda seen: "\u2026" not in seen.sheet, until - time.monotonic())  # `ngc` is at work on it
+            seen = self.seen
             if any(one["id"] == "load" for one in seen.buttons) and not seen.sheet:
                 return
             self.do(self._way_on(seen))

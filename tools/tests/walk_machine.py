@@ -1,5 +1,5 @@
-"""The machine of the walk by chance: a mill as `machine_world.c` has it, in which all that a player made is told, its
-processes, and how late this computer is for what others run on it.
+"""The machine of the walk by chance: a mill as `machine_world.c` has it, in which all that a player made is told, and
+its processes.
 
 The machine's coordinates are those of the world: its switches stand where the machine's file says."""
 import mmap
@@ -10,9 +10,7 @@ import socket
 import struct
 import subprocess
 import sys
-import threading
 import time
-from collections import deque
 from collections.abc import Iterator
 from contextlib import suppress
 from dataclasses import dataclass
@@ -60,8 +58,7 @@ at_um = [-9000, -9000, 4500]
 way_mm = [80, 80, 80]
 agree_um = 40
 """
-_MADE, _PULSE, _LAST = struct.Struct("=8Q"), struct.Struct("=q3b5x"), 1 << 17
-_KEPT_S = 60.0
+_MADE, _PULSE, _LAST = struct.Struct("=8Q"), struct.Struct("=q3i3bx"), 1 << 17
 Point = tuple[float, float, float]
 
 
@@ -76,31 +73,20 @@ class Outputs:
     slot: int
 
 
-class Lateness:
-    """How late a thread that wants to be woken each few milliseconds is woken on this computer now."""
+@dataclass(frozen=True, slots=True)
+class Pulse:
+    """A pulse: when it was made by the monotonic clock, the steps of its axes, and where the table was after it, in
+    steps."""
 
-    _EACH_S = 0.004
+    at: float
+    step: tuple[int, int, int]
+    place: tuple[int, int, int]
 
-    def __init__(self) -> None:
-        self._found: deque[tuple[float, float]] = deque(maxlen=int(_KEPT_S / self._EACH_S))
-        self._over = threading.Event()
-        self._thread = threading.Thread(target=self._look, daemon=True)
-        self._thread.start()
-
-    def _look(self) -> None:
-        while not self._over.is_set():
-            due = time.monotonic() + self._EACH_S
-            time.sleep(self._EACH_S)
-            self._found.append((due, time.monotonic() - due))
-
-    def worst_s(self, since: float) -> float:
-        """The worst since a moment of the monotonic clock."""
-        return max((late for due, late in list(self._found) if due >= since - self._EACH_S), default=0.0)
-
-    def close(self) -> None:
-        """Ends it."""
-        self._over.set()
-        self._thread.join()
+    @property
+    def at_mm(self) -> Point:
+        """That place."""
+        x, y, z = self.place
+        return x * STEP_MM, y * STEP_MM, z * STEP_MM
 
 
 class Mill(World):
@@ -144,71 +130,72 @@ class Mill(World):
     @property
     def at_mm(self) -> Point:
         """Where the machine is."""
-        x, y, z = self.place
-        return x * STEP_MM, y * STEP_MM, z * STEP_MM
+        return next((pulse.at_mm for pulse in self.last(1)), (0.0, 0.0, 0.0))
 
-    def last(self, count: int) -> Iterator[tuple[float, tuple[int, int, int]]]:
-        """The last pulses, the newest first: when each was made, and the steps of its axes."""
-        end = self.pulses
-        for number in range(end - 1, max(-1, end - 1 - min(count, _LAST // 2)), -1):
-            at_ns, *step = _PULSE.unpack_from(self._made, _MADE.size + number % _LAST * _PULSE.size)
-            yield at_ns / 1e9, (step[0], step[1], step[2])
+    def last(self, count: int) -> Iterator[Pulse]:
+        """The last pulses, the newest first."""
+        return self.between(self.pulses - count, self.pulses)
+
+    def between(self, begin: int, end: int) -> Iterator[Pulse]:
+        """The pulses of these numbers, the newest first, as far as they are still told."""
+        for number in range(end - 1, max(0, begin, end - _LAST // 2) - 1, -1):
+            at_ns, *told = _PULSE.unpack_from(self._made, _MADE.size + number % _LAST * _PULSE.size)
+            yield Pulse(at_ns / 1e9, (told[3], told[4], told[5]), (told[0], told[1], told[2]))
 
     def last_pulse_at(self) -> float:
         """When the last pulse was made; 0 for none."""
-        return next((at for at, _ in self.last(1)), 0.0)
+        return next((pulse.at for pulse in self.last(1)), 0.0)
 
-    def moved_since(self, pulses: int) -> dict[str, int]:
-        """The axes that moved since so many pulses were made, as `X+`, with how many steps."""
+    def moved(self, begin: int, end: int) -> dict[str, int]:
+        """The axes that moved by the pulses of these numbers, as `X+`, with how many steps."""
         found: dict[str, int] = {}
-        for _, step in self.last(self.pulses - pulses):
-            for axis, way in zip("XYZ", step):
+        for pulse in self.between(begin, end):
+            for axis, way in zip("XYZ", pulse.step):
                 if way:
                     name = f"{axis}{'+' if way > 0 else '-'}"
                     found[name] = found.get(name, 0) + 1
         return found
 
-    def places_since(self, since: float) -> Iterator[Point]:
-        """Where it was, from now back to a moment."""
-        at = list(self.place)
-        yield at[0] * STEP_MM, at[1] * STEP_MM, at[2] * STEP_MM
-        for when, step in self.last(_LAST):
-            at = [one - way for one, way in zip(at, step)]
-            yield at[0] * STEP_MM, at[1] * STEP_MM, at[2] * STEP_MM
-            if when < since:
+    def places(self, begin: float, end: float) -> Iterator[Point]:
+        """Where it was between two moments, from the last one back."""
+        for pulse in self.last(_LAST):
+            if pulse.at <= end:
+                yield pulse.at_mm
+            if pulse.at <= begin:
                 return
+        yield 0.0, 0.0, 0.0
 
     def rate_mm_s(self, at: float, within_s: float = 0.02) -> float:
         """The greatest rate of the motors shortly before a moment, of an axis."""
         counts: dict[str, int] = {}
-        for when, step in self.last(_LAST):
-            if when < at - within_s:
+        for pulse in self.last(_LAST):
+            if pulse.at < at - within_s:
                 break
-            if when <= at:
-                for axis, way in zip("XYZ", step):
+            if pulse.at <= at:
+                for axis, way in zip("XYZ", pulse.step):
                     counts[axis] = counts.get(axis, 0) + abs(way)
         return max(counts.values(), default=0) * STEP_MM / within_s
 
     def pauses_ms(self, since: float, least_s: float = 0.03) -> list[tuple[int, int]]:
         """Where no pulse came for a while since a moment: when that began, and how long it was."""
         found, later = [], 0.0
-        for when, _ in self.last(_LAST):
-            if later and later - when > least_s:
-                found.append((round(1000 * (when - since)), round(1000 * (later - when))))
-            if when < since:
+        for pulse in self.last(_LAST):
+            if later and later - pulse.at > least_s:
+                found.append((round(1000 * (pulse.at - since)), round(1000 * (later - pulse.at))))
+            if pulse.at < since:
                 break
-            later = when
+            later = pulse.at
         return found[::-1]
 
     def steps_between(self, begin: float, end: float) -> tuple[float, float]:
         """How far an axis went at most between two moments, in mm, and when the last pulse before the second was."""
         counts, latest = {"X": 0, "Y": 0, "Z": 0}, 0.0
-        for when, step in self.last(_LAST):
-            if when < begin:
+        for pulse in self.last(_LAST):
+            if pulse.at < begin:
                 break
-            if when <= end:
-                latest = max(latest, when)
-                for axis, way in zip("XYZ", step):
+            if pulse.at <= end:
+                latest = max(latest, pulse.at)
+                for axis, way in zip("XYZ", pulse.step):
                     counts[axis] += abs(way)
         return max(counts.values()) * STEP_MM, latest
 

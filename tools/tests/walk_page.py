@@ -1,5 +1,6 @@
 """The pages of the walk by chance: tabs of one Chromium, what a person sees in them, and what comes of a touch."""
 import time
+from contextlib import suppress
 from dataclasses import dataclass, field
 
 from browser_support import Chromium, Failed
@@ -14,10 +15,11 @@ _WATCH = """(() => {
         window.walked.posts.push(post);
         try {
             const answer = await fetched(what, how);
-            post.ok = answer.ok;
             post.said = await answer.clone().text();
+            post.ok = answer.ok;
             return answer;
-        } catch (error) { post.ok = false; post.said = String(error); throw error; }
+        } catch (error) { post.ok = false; post.said = String(error); throw error;
+        } finally { post.answered = Date.now() / 1000; }
     };
     for (const kind of ['click', 'pointerdown']) {
         document.addEventListener(kind, event => {
@@ -74,7 +76,10 @@ _SEE = """(() => {
         alarm: s.alarm ?? '', waits: Boolean(s.waits), waitsTool: s.waits_tool ?? 0, yours: s.yours, ended: s.ended,
         gone: s.player_gone, question: s.question, held: Boolean(s.held_motors), broken: Boolean(s.broken),
         machine: s.machine ?? '', tools: s.tools, command: s.command?.word ?? '', inputs: s.inputs ?? [],
-        touched: s.touched, posts: window.walked.posts.length, clicks: window.walked.clicks.length,
+        touched: s.touched, past: s.past_mm, begun: s.place > 0 || s.half !== 'none',
+        asks: window.walked.posts.some(post => post.ok === null),
+        answered: Math.max(0, ...window.walked.posts.map(post => post.answered ?? 0)),
+        posts: window.walked.posts.length, clicks: window.walked.clicks.length,
         clock: performance.now(),
     };
 })()"""
@@ -122,9 +127,11 @@ class Tabs(Chromium):
     def __init__(self, path: str) -> None:
         super().__init__(path)
         self.sessions: list[tuple[str, str]] = []
+        self._address = ""
 
     def add(self, address: str) -> None:
         """Opens one more page, and uses it."""
+        self._address = address
         before, self._session = self._session, ""
         try:
             target = self.call("Target.createTarget", url="about:blank", newWindow=True)["targetId"]
@@ -172,8 +179,16 @@ class Tabs(Chromium):
                 said = None
             if said is not None:
                 return Seen(time.monotonic(), said)
+            self._load_again()
             time.sleep(0.02)
         raise Failed("the page shows nothing")
+
+    def _load_again(self) -> None:
+        """Where the server was gone as the page was loaded, the browser says so, and the person loads it again."""
+        with suppress(Failed):  # as while it is loaded anew
+            if self.js("location.protocol") == "chrome-error:":
+                time.sleep(0.5)
+                self.open(self._address)
 
     def find(self, kind: str, number: int) -> tuple[float, float] | None:
         """Where the middle of a button or an entry is, if it can be touched."""

@@ -5,16 +5,15 @@ import time
 from collections.abc import Iterator
 from dataclasses import dataclass
 
-from walk_machine import ACCEL_MM_S2, Bench, Lateness, Outputs, Point
+from walk_late import Lateness
+from walk_machine import ACCEL_MM_S2, STEP_MM, Bench, Outputs, Point
 from walk_page import Seen
 
 FRESH_S = 0.8
-"""What the page says may be so old."""
-HOPS = 6
-"""A touch, and what it changes, goes through so many threads, each of which may be woken late."""
+"""What a state says may be so much older than when it was told."""
+SILENT_S = 3.5
+"""A page that has heard nothing for so long says so, and shows no older state as if it were new."""
 HOLD_S = 0.1
-AGED_S = 30.0
-"""A place that is shown with its age may be one of so long ago."""
 REST_S = 2.0
 """So long a page may say that the machine moves while it rests."""
 NEAR_MM = {"mm": 0.0011, "in": 0.0026}
@@ -49,11 +48,12 @@ def point(texts: list[str]) -> Point | None:
 
 @dataclass
 class Truth:
-    """What the person at the machine knows: which tool is in, by how much the page's numbers were told wrong, which
-    axes may move as was asked, and whether a half-done block is being taken up. `zero` is what the page showed between
-    motors and work."""
+    """What the person at the machine knows: which tool is in, and since when that was told, by how much the page's
+    numbers were told wrong, which axes may move as was asked, and whether a half-done block is being taken up. `zero`
+    is what the page showed between motors and work."""
 
     tool: int | None = 0
+    tool_told_at: float = 0.0
     offset: Point = (0.0, 0.0, 0.0)
     is_place_known: bool = True
     may_move: bool = False
@@ -80,7 +80,7 @@ class Judge:
 
     def slack_s(self, since: float) -> float:
         """What the load of this computer makes of times that began then."""
-        return HOPS * self.late.worst_s(since)
+        return self.late.slack_s(since)
 
     def all(self, seen: Seen) -> None:
         """Raises Wrong."""
@@ -88,14 +88,18 @@ class Judge:
         if seen.isLost:
             return
         now = time.monotonic()
-        fresh = FRESH_S + self.slack_s(now - 3)
-        if time.time() - seen.now > 1.5 + fresh:
-            return  # an old page: it will say so
-        is_still = self.bench.mill.last_pulse_at() < now - fresh
+        told, slack_s = seen.now - time.time() + now, self.slack_s(now)
+        if now - told > SILENT_S + slack_s:
+            raise Wrong("an old page", f"{seen.word}: {seen.detail}; that was told {now - told:.1f} s ago")
+        since = told - FRESH_S - slack_s
+        is_still = self.bench.mill.last_pulse_at() < since
         self.says_rest(seen, now, is_still)
-        self.place(seen, now - fresh - 0.7, is_still)
-        if self.bench.mill.switched_at < now - fresh - 0.3:
+        self.place(seen, since, told)
+        if is_still:
+            self.zero(seen)
+        if self.bench.mill.switched_at < since:
             self.outputs(seen, self.bench.mill.outputs)
+        if max(self.bench.mill.switched_at, self.truth.tool_told_at) < since:
             self.tool(seen)
         self.looks(seen)
         self.words(seen, is_still)
@@ -106,7 +110,7 @@ class Judge:
         """Nothing moves that nobody asked for, nor along another axis, nor before somebody looked."""
         mill, truth = self.bench.mill, self.truth
         pulses = mill.pulses
-        ways = mill.moved_since(truth.quiet_pulses) if pulses > truth.quiet_pulses else {}
+        ways = mill.moved(truth.quiet_pulses, pulses)
         truth.quiet_pulses = pulses
         self._count("moves")
         if ways and not truth.may_move:
@@ -135,26 +139,51 @@ class Judge:
 
     # what stands on the page
 
-    def place(self, seen: Seen, since: float, is_still: bool) -> None:
-        """The machine's place is one where it was just now; the work's follows it."""
-        truth, unit = self.truth, seen.units[0]
-        motors, work = _scaled(point(seen.motors), unit), _scaled(point(seen.work), unit)
-        if motors is None and work is not None and truth.zero is not None and not truth.is_zero_asked:
-            motors = _sum(work, truth.zero)
-        is_said = truth.is_place_known or seen.tone in ("idle", "run") and not seen.blind
-        if motors is None or not is_said:
+    def place(self, seen: Seen, since: float, told: float) -> None:
+        """The machine's place is one where it was just now, or as long ago as is said; one by the record is off by as
+        much as is said beside it. What somebody told wrong is off by that."""
+        shown, unit = self._shown(seen), seen.units[0]
+        if shown is None:
             return
+        wanted, mill = _difference(shown, self.truth.offset), self.bench.mill
+        if seen.blind and seen.risk.startswith("By the record"):
+            off_mm = max(abs(p - q) for p, q in zip(wanted, mill.at_mm))
+            is_so = off_mm <= float(seen.past or 0) + NEAR_MM[unit]
+        elif seen.blind and not seen.risk.startswith("As counted"):
+            ago_s = _seconds(seen.risk)
+            is_so = ago_s is None or self._was_at(wanted, unit, since - ago_s, told - ago_s + 1)
+        else:
+            is_so = not self._is_known(seen) or self._was_at(wanted, unit, since, told + 1)
         self._count("place")
-        wanted, is_aged = _difference(motors, truth.offset), seen.blind and seen.risk
-        begin = min(since, self.bench.mill.last_pulse_at() - (AGED_S if is_aged else 1.0)) if seen.blind else since
-        if not any(_is_near(wanted, at, unit) for at in self.bench.mill.places_since(begin)):
-            raise Wrong("place", f"{seen.word}: shown is {motors}, told wrong by {truth.offset}; the machine is at"
-                                 f" {self.bench.mill.at_mm}")
-        if is_still and work is not None and point(seen.motors) is not None:
-            self._zero(seen, motors, work)
+        if not is_so:
+            raise Wrong("place", f"{seen.word}: shown is {shown}, told wrong by {self.truth.offset}; the machine is at"
+                                 f" {mill.at_mm}; it says {seen.risk!r}, {seen.past!r}")
 
-    def _zero(self, seen: Seen, motors: Point, work: Point) -> None:
-        """What lies between machine and work stays, where nobody asked for another zero."""
+    def _is_known(self, seen: Seen) -> bool:
+        """Whether the person knows where the machine is, or the page says that it does. Of a machine whose player was
+        killed as it moved nobody knows it, until somebody tells."""
+        return self.truth.is_place_known or seen.tone in ("idle", "run") and not seen.blind
+
+    def _shown(self, seen: Seen) -> Point | None:
+        """The place of the machine that is shown; where the work's alone is, that of it."""
+        motors, work = self._points(seen)
+        if motors is None and work is not None and self.truth.zero is not None and not self.truth.is_zero_asked:
+            return _sum(work, self.truth.zero)
+        return motors
+
+    @staticmethod
+    def _points(seen: Seen) -> tuple[Point | None, Point | None]:
+        unit = seen.units[0]
+        return _scaled(point(seen.motors), unit), _scaled(point(seen.work), unit)
+
+    def _was_at(self, wanted: Point, unit: str, begin: float, end: float) -> bool:
+        return any(_is_near(wanted, at, unit) for at in self.bench.mill.places(begin, end))
+
+    def zero(self, seen: Seen) -> None:
+        """What lies between machine and work stays at rest, where nobody asked for another zero."""
+        motors, work = self._points(seen)
+        if motors is None or work is None:
+            return
         zero, truth = _difference(motors, work), self.truth
         is_same = truth.zero is None or _is_near(zero, truth.zero, "in")
         if not truth.is_zero_asked and not is_same and not seen.busy:
@@ -182,7 +211,7 @@ class Judge:
     def tool(self, seen: Seen) -> None:
         """The tool is the one that a person put in, or said not to be known."""
         tool = self.truth.tool
-        if tool is None or "not known" in seen.tool or seen.tool in UNKNOWN:
+        if tool is None or seen.waits or "not known" in seen.tool or seen.tool in UNKNOWN:
             return
         self._count("tool")
         shown = number(seen.tool.split("\n")[0].removeprefix("T")) if seen.tool.startswith("T") else 0
@@ -204,32 +233,43 @@ class Judge:
         if seen.runs and seen.share == "Done":
             raise Wrong("done while it runs", f"{seen.word}: {seen.detail}")
         if self.truth.without_lines and seen.runs and not is_still and re.search(r"\bline \d", seen.detail):
-            raise Wrong("says lines run", f"{seen.word}: {seen.detail}; what moves is home, a jog or a seek")
+            raise Wrong("says lines run", f"{seen.word}: {seen.detail}; what moves is no line of the program")
         if not all(unit in _UNITS for unit in seen.units):
             raise Wrong("no unit", f"the place has no unit: {seen.place!r}")
 
     # how Hold is answered
 
-    def hold(self, touched: float, pulses: int) -> None:
-        """After a touch of Hold at a moment the motors rest within v^2/2a, and what they go in 100 ms."""
+    def hold(self, touched: float) -> None:
+        """After a touch of Hold at a moment the motors rest within v^2/2a, and what they go in 100 ms.
+
+        In these 100 ms the move goes on as it would, and gains what it would, as at its beginning. So v is the greatest
+        rate until then; what comes faster later is too late all the same."""
         mill, now = self.bench.mill, time.monotonic
         if mill.last_pulse_at() < touched - 0.3:
             time.sleep(0.05)
             return
         while now() < touched + HOLD_S + 0.4 + self.slack_s(touched):
             time.sleep(0.01)
-        slack_s = self.slack_s(touched)
+        heeded_s = HOLD_S + self.slack_s(touched)
         way_mm, last = mill.steps_between(touched, now())
-        # it may go faster until it is heeded, as at the beginning of a move
-        rate = max(mill.rate_mm_s(touched + ms / 1000) for ms in range(0, 10 + round(1000 * (HOLD_S + slack_s)), 10))
+        rate = max(mill.rate_mm_s(touched + ms / 1000) for ms in range(0, 10 + round(1000 * heeded_s), 10))
         ramp_s, stop_mm = rate / ACCEL_MM_S2, rate * rate / (2 * ACCEL_MM_S2)
         self._count("hold")
-        if last - touched > ramp_s + HOLD_S + slack_s:
+        if last - touched > ramp_s + heeded_s:
             raise Wrong("hold too late", f"at {rate:.1f} mm/s they rest {1000 * (last - touched):.0f} ms after it,"
                         f" {way_mm:.3f} mm on; allowed are {1000 * (ramp_s + HOLD_S):.0f} ms, and"
-                        f" {1000 * slack_s:.0f} ms for the load; pauses in ms: {mill.pauses_ms(touched)}")
-        if way_mm > stop_mm + rate * (HOLD_S + slack_s) + 0.05:
+                        f" {1000 * (heeded_s - HOLD_S):.0f} ms for the load; pauses in ms: {mill.pauses_ms(touched)}")
+        if way_mm > stop_mm + rate * heeded_s + 10 * STEP_MM:
             raise Wrong("hold too far", f"{way_mm:.3f} mm at {rate:.1f} mm/s")
+
+
+def _seconds(text: str) -> float | None:
+    """How long ago something was, as the page says it: `12.3 s ago`, `2:05 min ago`; None where it says nothing."""
+    match = re.search(r"(?:(\d+):)?(?:(\d+):)?(\d+(?:\.\d+)?) (?:s|min|h) ago", text)
+    if match is None:
+        return None
+    found = [float(one) for one in match.groups() if one is not None]
+    return sum(one * 60 ** power for power, one in enumerate(reversed(found)))
 
 
 def _difference(a: Point, b: Point) -> Point:
@@ -252,5 +292,5 @@ def _is_near(a: Point, b: Point, unit: str) -> bool:
 
 def changes(before: Seen, after: Seen) -> Iterator[str]:
     """What stands otherwise on the page: names of what a person sees."""
-    skipped = {"now", "clock", "posts", "clicks", "logs", "log"}
+    skipped = {"now", "clock", "asks", "answered", "posts", "clicks", "logs", "log"}
     yield from (name for name in before.said if name not in skipped and before.said[name] != after.said[name])

@@ -21,6 +21,8 @@ _HELD = {
 _HELD_BY_OTHER = "Somebody else holds the motors. Go on carries on"
 _MOVES = {"home": "Homing", "jog": "Jogging", "seek": "Seeking"}
 _SEEKS = "until the probe is touched"
+_TYPED = ("mdi", "restore")
+"""The commands that do lines of one's own: before one has begun, and after it, no line of the program runs."""
 _APART = "The motors aren't where the last line ended: tell which of the two is so, or home"
 
 
@@ -97,7 +99,8 @@ class Standing:
         if session.under and session.under.word in ("resume", "recover") and not session.face.has_looked:
             return "On the way", "run", "To where the line was cut off. Hold stops it"
         waits = ": the spindle isn't at its speed yet" if self.report and self.report.word == WAITS_SPINDLE else ""
-        return "Running", "run", (session.operator.session.own or self.here) + waits
+        line = session.operator.session.own or ("" if command.word in _TYPED else self.here)
+        return "Running", "run", line + waits
 
     def _held_by(self) -> str:
         """What holds the motors that nobody told to hold from here."""

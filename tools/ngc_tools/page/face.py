@@ -2,7 +2,7 @@
 import threading
 import time
 from collections import deque
-from collections.abc import Callable
+from collections.abc import Callable, Container
 from dataclasses import dataclass
 
 from ngc_tools.operator.face import MESSAGE, REFUSED, SAID, WARNING, WHERE, UnderWay
@@ -118,11 +118,12 @@ class PageFace:
         """Whether somebody wants to hold since the command was given."""
         return self.holds > self._heeded
 
-    def asides(self) -> list[str]:
-        """The commands that were given meanwhile, each once."""
-        found = []
-        while self._asides:
-            found.append(self._asides.popleft())
+    def asides(self, words: Container[str] | None = None) -> list[str]:
+        """The commands that were given meanwhile, each once; where words are named, those that begin with one of them.
+        """
+        given = [self._asides.popleft() for _ in range(len(self._asides))]
+        found = [line for line in given if words is None or line.split()[0] in words]
+        self._asides.extendleft(line for line in reversed(given) if line not in found)
         return found
 
     def is_gone(self) -> bool:

@@ -20,7 +20,7 @@ from ngc_tools.job.cam_homes import HomeAnswers
 from ngc_tools.ngc.console import Ended, Status
 from ngc_tools.operator.face import REFUSED, WARNING
 from ngc_tools.operator.motors import SPINDLE_PERCENTS, WHOLE
-from ngc_tools.operator.operator import Operator
+from ngc_tools.operator.operator import CHOSEN, Operator
 from ngc_tools.operator.sentences import explained
 from ngc_tools.operator.session import ALARM
 from ngc_tools.page.aside import Aside, Child, NotDone
@@ -42,7 +42,7 @@ LOST = "lost"
 """Stands for the page that held, where that was nobody: the one that commands was lost."""
 _LEAVE_S = 10.0
 _LOOK_S = 0.15  # how often it looks while nothing runs
-_ASIDES = {"percent", "spindle", "go", "optional", "delete", "single", "off"}
+_ASIDES = {"go", "off", *CHOSEN}
 
 
 class Busy(Failure):
@@ -154,7 +154,7 @@ class PageSession:
         self.stand, self.kept = Stand(console.status()), Kept(console.device)
         begun = as_begun(self.opened.found) if self.opened.found and self.stand.status.place else None
         self.drawer.begin(self._source_of(begun or self.kept.device))
-        self.face.look = self._look
+        self.face.look = self._look_meanwhile
         self._look()
         self._see_past()
         self._find_never_cut()
@@ -499,6 +499,15 @@ class PageSession:
         refusals = [explained(reply) for reply in ended.replies if reply.startswith("refused")]
         self.ended = f"ngc ended with status {ended.status}" + (f": {refusals[-1]}" if refusals else "")
         self.face.say(f"{self.ended}. What is stored stays", REFUSED)
+
+    def _look_meanwhile(self) -> None:
+        """While somebody is asked: overrides and switches are heeded, and how all stands is looked at."""
+        chosen = self.face.asides(CHOSEN)
+        for line in chosen:
+            self.operator.do(line)
+        self._look()
+        if chosen:
+            self.face.publish()
 
     def _look(self) -> None:
         """Looks how all stands."""

@@ -18,10 +18,11 @@ export class Alarm {
     this.isTold = Boolean(s.alarm) && (this.isTold || !s.busy && s.yours);
   }
 
-  // What the large button says, whether it is enabled, and what it does.
+  // What the large button says, whether it is enabled, and what it does. What it opens isn't open yet.
   button(s) {
     const isFree = s.yours && !s.busy;
-    return s.left ? [`Where is ${named(s.left)}?`, isFree, () => this.ask()] : ['Home all', isFree, () => this.home()];
+    if (s.left) return [`Where is ${named(s.left)}?`, isFree && !this.give?.isConnected, () => this.ask()];
+    return ['Home all', isFree && !this.frees?.isConnected, () => this.home()];
   }
 
   // The way back: what it came by, what has to be free, home, and what follows. Asked for, since the large button was

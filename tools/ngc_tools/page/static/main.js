@@ -23,6 +23,9 @@ const app = {
 };
 window.ngc = app; // for who looks at the page from outside, as tests do
 
+// The commands by which lines of the program run.
+const PROGRAM = ['run', 'resume', 'recover', 'release'];
+
 const log = new Log();
 const program = new Program();
 const readout = new Readout(asks);
@@ -60,16 +63,16 @@ function show(s) {
   app.isRest = !s.busy && s.half === 'none' && !s.ended && s.yours && !s.player_gone;
   app.isFree = s.yours && !s.ended && !s.player_gone && !s.alarm && !s.broken; // settings are taken
   app.isIdle = app.isRest && app.isFree && ['idle', 'stopped'].includes(s.does) && !s.recover?.left;
+  alarm.show(s);
   showWords(s);
   showControls(s);
   const reached = progress(s);
   readout.show(s, rate(s, reached));
-  program.follow(s.line, s.busy && !s.does_move || s.half === 'program', s.finished);
+  program.follow(s.line, s.half === 'program' || s.busy && PROGRAM.includes(s.command?.word), s.finished);
   setup.show(s, app.isIdle && !s.apart.some(Boolean));
   tools.show(s, app.isIdle, asks);
   log.show(s.log, noticed(s));
   recovery.show(s);
-  alarm.show(s);
   showQuestion(s);
   const isHalf = s.half !== 'none' && !s.busy && s.does === 'idle' && !s.ended;
   if (isHalf && !s.alarm && !recovery.isOpen && !recovery.isLater) recovery.begin();
