@@ -2,8 +2,11 @@
 import http.client
 import json
 import os
+import queue
 import re
 import signal
+import socket
+import threading
 import time
 from collections.abc import Callable
 from contextlib import suppress
@@ -15,6 +18,8 @@ from ngc_tools.formats.record import Record
 from ngc_tools.player.progress import Link
 
 PAGE, OTHER = "page-number-1", "page-number-2"
+BEAT_S = 0.4
+"""So often a page says at most which stamp it read."""
 SLOW = "G17 G21 G90 G94\nG0 X0 Y0 Z0\nG1 X2 F3\nM2\n"
 """Its line 3 is a cut of 40 s, which no test sees the end of."""
 CUT = "M3 S100\nG17 G21 G90 G94\nG0 X0 Y0 Z0\nG1 X2 F600\nG1 X0 Z-1 F12\nM2\n"
@@ -24,7 +29,8 @@ SHORT = "G17 G21 G90 G94\n" + "".join(f"G1 X{hundredths / 100:.2f} F3\n" for hun
 
 
 class Page:
-    """A page: what it asks for, and what it is told."""
+    """A page: what it asks for, and what it is told. In a thread of its own it takes what it is told, and says which
+    stamp it read, until `close`."""
 
     def __init__(self, address: str, name: str = PAGE) -> None:
         """Opens its stream."""
@@ -35,20 +41,53 @@ class Page:
         self.log: list[dict] = []
         self.answered: set[int] = set()
         self._posted = 0.0
+        self.stamp = ""
+        self._states: queue.SimpleQueue[dict | None] = queue.SimpleQueue()
         self._stream = http.client.HTTPConnection("127.0.0.1", self.port, timeout=PATIENCE_S)
         self._stream.request("GET", f"/{self.key}/events?page={name}")
+        self._socket = self._stream.sock
         self._events = self._stream.getresponse()
         if self._events.status != 200:
             raise AssertionError(f"no stream: {self._events.read()!r}")
+        self._reading = threading.Thread(target=self._read, daemon=True)
+        self._reading.start()
+
+    def _read(self) -> None:
+        """Takes what it is told, to the end of the stream."""
+        beats, told = http.client.HTTPConnection("127.0.0.1", self.port, timeout=PATIENCE_S), 0.0
+        with suppress(OSError, ValueError, http.client.HTTPException):
+            while line := self._events.readline():
+                if not line.startswith(b"data: "):
+                    continue
+                if line[6:7] == b"{":
+                    self._states.put(state := json.loads(line[6:]))
+                    self.newer(state["stamp"])
+                else:
+                    self.newer(line[6:].decode().strip())
+                if time.monotonic() > told + BEAT_S:
+                    told = time.monotonic()
+                    beats.request("POST", f"/{self.key}/beat", json.dumps({"stamp": self.stamp}), self._given())
+                    beats.getresponse().read()
+        self._states.put(None)
+        beats.close()
+
+    def newer(self, stamp: str) -> None:
+        """Takes a stamp, if it is newer than the last one."""
+        if not self.stamp or int(stamp.partition("-")[0]) >= int(self.stamp.partition("-")[0]):
+            self.stamp = stamp
+
+    def _given(self) -> dict[str, str]:
+        return {"Origin": f"http://127.0.0.1:{self.port}", "X-Page": self.name, "Content-Type": "application/json",
+                "X-Stamp": self.stamp}
 
     def next(self) -> dict:
         """The next state. Raises EOFError where the stream has ended."""
-        while line := self._events.readline():
-            if line.startswith(b"data: "):
-                state = json.loads(line[6:])
-                self.log += state["log"]
-                return state
-        raise EOFError
+        state = self._states.get(timeout=PATIENCE_S)
+        if state is None:
+            self._states.put(None)
+            raise EOFError
+        self.log += state["log"]
+        return state
 
     def until(self, what: str, holds: Callable[[dict], object]) -> dict:
         """The next state of which something holds, since what was asked for last."""
@@ -89,10 +128,12 @@ class Page:
 
     def post(self, what: str, body: object = None, **headers: str) -> tuple[int, dict]:
         """Asks for something: the status, and what is answered."""
-        given = {"Origin": f"http://127.0.0.1:{self.port}", "X_Page": self.name, "Content_Type": "application/json"}
+        given = self._given() | {name.replace("_", "-"): value for name, value in headers.items()}
         raw = body if isinstance(body, bytes) else json.dumps({} if body is None else body).encode()
-        status, text, _ = request(self.port, "POST", f"/{self.key}/{what}", raw, **given | headers)
+        status, text, answered = request(self.port, "POST", f"/{self.key}/{what}", raw, **given)
         self._posted = time.time()
+        if "X-Stamp" in answered:
+            self.newer(answered["X-Stamp"])
         return status, json.loads(text)
 
     def job(self) -> dict | None:
@@ -105,6 +146,9 @@ class Page:
 
     def close(self) -> None:
         """Goes."""
+        with suppress(OSError):
+            self._socket.shutdown(socket.SHUT_RDWR)
+        self._reading.join(PATIENCE_S)
         self._events.close()
         self._stream.close()
 

@@ -905,8 +905,7 @@ class HeldJogs(unittest.TestCase):
         jog.let_go(3)
         self.assertEqual((jog.is_wanted(), jog.wish("X+", "600", 3), jog.wish("X+", "600", 2)), (False, False, False))
         self.assertEqual((jog.wish("Y-", "60", 4), jog.is_wanted(), jog.way, jog.rate), (True, True, "Y-", "60"))
-        jog.forget()
-        self.assertEqual((jog.is_wanted(), jog.wish("X+", "600", 0)), (False, True))
+        self.assertEqual((jog.wish("X+", "600", 3), jog.way, jog.last), (False, "Y-", 4))
 
     def test_ends(self) -> None:
         """A hold ends a press, and so does a jog that ends by itself; the next press is another one."""

@@ -161,6 +161,9 @@ class Opener:
 
     def _opened(self, console: Console, face: PageFace, meter: Meter | None, before: tuple[Device | None, float],
                 out: OutFound | None, pipe: int | None) -> Opened:
+        console.starts = face.level.start
+        if meter:
+            meter.link.starts = face.level.start
         console.status()
         operator = Operator(console, face, meter)
         operator.recover.found = out

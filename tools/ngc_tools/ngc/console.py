@@ -7,7 +7,10 @@ from dataclasses import dataclass
 from pathlib import Path
 
 from ngc_tools.failure import Failure
+from ngc_tools.hold_level import Starts, start_at_once
 
+NO_TICK = "ticks 0"
+"""The reply to a tick that wasn't given, since somebody wants to hold."""
 _STATUS = re.compile(
     r"status entries (\d+) place (\d+) at (\S+) (\S+) (\S+) (known|unknown)"
     r" half (?:(none)|(program|mdi) (\d+)) (idle|running|stopped|held|broken)"
@@ -52,7 +55,8 @@ class Status:
 
 
 class Console:
-    """A session of `ngc run` over a device, with settings. It hides no reply and gives no command by itself.
+    """A session of `ngc run` over a device, with settings. It hides no reply and gives no command by itself. Ticks are
+    given by `starts`.
 
     `waiting` is called about every 0.2 s while a reply doesn't come, with the seconds waited so far."""
 
@@ -63,6 +67,7 @@ class Console:
         self.ngc, self.device, self.settings = str(ngc), str(device), str(settings)
         self._words = [self.ngc, "run", self.device, self.settings, str(out)]
         self.waiting = waiting
+        self.starts: Starts = start_at_once
         self.start()
 
     def start(self) -> None:
@@ -77,8 +82,9 @@ class Console:
         text = command.encode() if isinstance(command, str) else command
         if b"\n" in text:
             raise ValueError("a command is one line")
-        self._send(text + b"\n")
-        return self._replies(text.startswith(b"tick "))
+        is_tick = text.startswith(b"tick ")
+        starts = self.starts if is_tick else start_at_once
+        return self._replies(is_tick) if starts(lambda: self._send(text + b"\n")) else [NO_TICK]
 
     def load(self, text: bytes) -> str:
         """Gives a program to store, and returns the reply, `done N` or a refusal. Raises Ended."""

@@ -11,7 +11,7 @@ from ngc_tools.files import read_regular
 from ngc_tools.formats.device import Device
 from ngc_tools.formats.lines import Program
 from ngc_tools.formats.settings import Settings
-from ngc_tools.ngc.console import Console, Status
+from ngc_tools.ngc.console import NO_TICK, Console, Status
 from ngc_tools.operator.alarm import Alarm
 from ngc_tools.operator.causes import refused, taken
 from ngc_tools.operator.choices import Choices
@@ -433,7 +433,8 @@ class Operator:
         if not taken_up.is_switched:
             if not self.work.await_motors() or not self.work.room():
                 return False
-            if any(map(self.session.is_refusal, self.console.ask("tick 2"))):
+            replies = self.console.ask("tick 2")
+            if replies == [NO_TICK] or any(map(self.session.is_refusal, replies)):
                 return False
             taken_up.is_switched = True
         return self.work.await_motors()

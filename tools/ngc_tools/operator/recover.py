@@ -241,12 +241,12 @@ class Recover:
             return False
 
         def send() -> None:
-            """From here on OUT's end isn't where it was."""
-            found.sends()
-            if chosen:
-                link.legs(chosen[0], legs, size, chosen[1])
-            else:
-                link.along(size, trimmed(recovery.most_nm) if recovery.most_nm else "")
+            """From here on OUT's end isn't where it was, unless somebody held before that."""
+            with found.sends():
+                if chosen:
+                    link.legs(chosen[0], legs, size, chosen[1])
+                else:
+                    link.along(size, trimmed(recovery.most_nm) if recovery.most_nm else "")
 
         return self.way.goes(recovery.outputs, send, ends, recovery.line)
 

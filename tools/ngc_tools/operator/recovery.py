@@ -2,6 +2,8 @@
 
 Mended is what moves nothing: a part of a line at the end is cut off, and lines that were handed out before the open
 segment and are lost with the power are put behind it again."""
+from collections.abc import Iterator
+from contextlib import contextmanager
 from dataclasses import dataclass
 from functools import cached_property
 
@@ -19,7 +21,7 @@ from ngc_tools.ngc.handed_out import SegmentBeginning, Finder, FileRecord
 from ngc_tools.operator.display import outputs_on
 from ngc_tools.operator.feeds import cut_feed
 from ngc_tools.operator.synced import SyncedLink
-from ngc_tools.player.progress import Report
+from ngc_tools.player.progress import HeldBack, Report
 from ngc_tools.player.retrace import slowed
 from ngc_tools.player.way import Way, count_lines, is_switch_between, look, moves, switched_at
 
@@ -192,10 +194,16 @@ class OutFound:
         """Whether lines stand in OUT that no motor carried out, or are taken back. Raises OSError."""
         return self.is_sent or not self.link.is_following and self.link.size() > self.recovery.size
 
-    def sends(self) -> None:
-        """The motors are sent now: until they are there, nothing more of OUT is carried out."""
-        self.is_sent = True
-        self.link.is_following = False
+    @contextmanager
+    def sends(self) -> Iterator[None]:
+        """The motors are sent within it: until they are there, nothing more of OUT is carried out."""
+        before = self.is_sent, self.link.is_following
+        self.is_sent, self.link.is_following = True, False
+        try:
+            yield
+        except HeldBack:
+            self.is_sent, self.link.is_following = before
+            raise
 
     def cut(self, size: int) -> None:
         """Cuts off what stands behind so many bytes, where the motors are, and goes on from there. No record on a disk

@@ -94,7 +94,7 @@ class WayBack:
             return False
         if not session.agrees(LOOK_SWITCHED if is_switched else LOOK):
             if is_switched:
-                self._switches(before)
+                self._switches_back(before)
             return False
         self.looked = on_words(link.ask().outputs)
         send()
@@ -144,9 +144,19 @@ class WayBack:
     def _switches(self, outputs: Switch) -> bool:
         """Has the player switch outputs where it stands; whether it did. A wish to hold is heeded after that, since
         nothing moves."""
-        link, held = self.session.meter.link, 0
+        link = self.session.meter.link
         link.release()
         link.switch(outputs)
+        return self._is_switched(outputs)
+
+    def _switches_back(self, outputs: Switch) -> None:
+        """Has it switch outputs as they were, which a wish to hold doesn't keep from being done. Raises NoAnswer."""
+        self.session.meter.link.switch_back(outputs)
+        self._is_switched(outputs)
+
+    def _is_switched(self, outputs: Switch) -> bool:
+        """Waits until a switch is made; whether it was."""
+        link, held = self.session.meter.link, 0
         while (report := link.ask()).behind and not self.session.is_in(ALARM, BROKEN):
             self.session.take(report)
             held = held + 1 if report.is_held else 0

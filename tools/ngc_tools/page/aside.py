@@ -75,6 +75,30 @@ class Child:
             self._process.stdin.close()
 
 
+class Wanted:
+    """Whether somebody still wants a piece of work, which may not have begun yet."""
+
+    def __init__(self) -> None:
+        self._child: Child | None = None
+        self._is_over = False
+        self._lock = threading.Lock()
+
+    def by(self, child: Child) -> Child:
+        """This child does it."""
+        with self._lock:
+            self._child = child
+            if self._is_over:
+                child.give_up()
+        return child
+
+    def end(self) -> None:
+        """Nobody wants it any more."""
+        with self._lock:
+            self._is_over = True
+            if self._child:
+                self._child.give_up()
+
+
 class Aside:
     """What is at work now."""
 

@@ -11,7 +11,7 @@ from ngc_tools.formats.position import nanometres
 from ngc_tools.job.cam_homes import HomeAnswers
 from ngc_tools.operator.motors import PERCENTS, SPINDLE_PERCENTS
 from ngc_tools.page.http import RequestRefused
-from ngc_tools.page.pages import Pages
+from ngc_tools.page.pages import Pages, Stamp
 from ngc_tools.page.rehearse import rehearse
 from ngc_tools.page.session import PageSession
 from ngc_tools.page.state import LOOKED_AT
@@ -19,7 +19,7 @@ from ngc_tools.page.state import LOOKED_AT
 _NUMBER = re.compile(r"[-+]?(?:[0-9]{1,7}\.?[0-9]{0,6}|\.[0-9]{1,6})")
 _LONGEST_LINE = 256
 _LONGEST_ANSWER = 64
-_MOST_PRESSES = 10**9
+_MOST_PRESSES = 1000  # that are numbered before the server hears of one
 _MOST_KEPT = 2  # programs that were looked at and may be loaded
 
 
@@ -29,12 +29,14 @@ class BadWords(ValueError):
 
 @dataclass(slots=True)
 class Given:
-    """What a deed is done with: the session, its pages, the programs that were looked at, and the words."""
+    """What a deed is done with: the session, its pages, the programs that were looked at, the words, and how many
+    wishes to hold there had been as they came."""
 
     session: PageSession
     pages: Pages
     checked: dict[str, tuple[str, bytes]]
     words: dict
+    holds: int = 0
 
     def flag(self, name: str) -> bool:
         """Whether a word is true. Raises BadWords for what is neither true nor false."""
@@ -49,6 +51,10 @@ class Given:
         if not isinstance(value, int) or isinstance(value, bool) or not 0 <= value <= most:
             raise BadWords(f"{name}: a whole number from 0 to {most:,}")
         return value
+
+    def press(self) -> int:
+        """The number of a press of a button. Raises BadWords."""
+        return self.count("press", self.session.jogs.last + _MOST_PRESSES)
 
     def number(self, name: str) -> str:
         """A number in millimetres as `ngc` reads it. Raises BadWords."""
@@ -169,7 +175,9 @@ def _jog(given: Given) -> None:
     if given.words.get("length") is not None:
         given.session.type(f"jog {way} {rate} for {given.number('length')}")
     else:
-        given.session.jog(way, rate, given.count("press", _MOST_PRESSES))
+        if "down" in given.words:
+            given.pages.check_holds(Stamp.read(given.words["down"]))
+        given.session.jog(way, rate, given.press())
 
 
 def _seek(given: Given) -> None:
@@ -213,7 +221,7 @@ DEEDS: dict[str, Callable[[Given], dict | None]] = {
     "load": _load, "mdi": _mdi, "reference": _reference, "stands": _stands, "tool": _tool, "switch": _switch,
     "answer": _answer, "rehearse": _rehearse, "home": _home, "jog": _jog, "seek": _seek, "zero": _zero, "touch": _touch,
     "recover": _recover,
-    "jogstop": lambda given: given.session.jogs.let_go(given.count("press", _MOST_PRESSES)),
+    "jogstop": lambda given: given.session.jogs.let_go(given.press()),
     "undo": lambda given: given.session.type("undo"),
     "stop": lambda given: given.session.stop(given.pages.commands),
     "off": lambda given: given.session.off(given.pages.commands),
@@ -224,7 +232,7 @@ DEEDS: dict[str, Callable[[Given], dict | None]] = {
     "restore": lambda given: given.session.type("restore"),
     "release": lambda given: given.session.release(),
     "abandon": lambda given: given.session.tell("abandon"),
-    "go": lambda given: given.session.tell("go"),
+    "go": lambda given: given.session.tell("go", given.holds),
     "percent": lambda given: given.session.tell(f"percent {given.count('percent', PERCENTS[-1])}"),
     "spindle": lambda given: given.session.tell(f"spindle percent {given.count('percent', SPINDLE_PERCENTS[-1])}"),
     "loss": lambda given: given.pages.choose(given.flag("goes")),

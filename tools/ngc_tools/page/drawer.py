@@ -5,7 +5,7 @@ from dataclasses import replace
 from typing import Any
 
 from ngc_tools.formats.device import Device
-from ngc_tools.page.aside import Aside, Child, NotDone
+from ngc_tools.page.aside import Aside, Child, NotDone, Wanted
 from ngc_tools.page.drawing import Drawing, DrawingRequest, draw, draw_exactly, setup_of
 
 
@@ -33,10 +33,10 @@ class Drawer:
         self._setup, self._entries, self._program = setup_of(device), device.state.entries, device.program
         self._start(source)
 
-    def preview(self, source: DrawingRequest) -> Drawing:
+    def preview(self, source: DrawingRequest, wanted: Wanted) -> Drawing:
         """A program that isn't loaded, as it would be drawn, with times by length. Where it is loaded then, that isn't
         done again. Raises NotDone, OSError."""
-        self._preview = drawing = self._aside.call(draw, source)
+        self._preview = drawing = self._aside.finish(wanted.by(self._aside.begin(draw, source)))
         return drawing
 
     def _forget(self) -> None:

@@ -5,12 +5,15 @@ from collections import deque
 from collections.abc import Callable, Container
 from dataclasses import dataclass
 
+from ngc_tools.hold_level import HoldLevel
 from ngc_tools.operator.face import MESSAGE, REFUSED, SAID, WARNING, WHERE, UnderWay
 from ngc_tools.operator.sentences import GO_ON, LOOK, LOOK_AGAIN, LOOK_SWITCHED, SWITCHED, SWITCHED_THERE
 from ngc_tools.operator.way_back import TYPE_GO
 from ngc_tools.page.words import page_words
 from ngc_tools.player.progress import Report
 
+STARTS = ("release", "go")
+"""The commands by which motors go on that are given while something runs."""
 UNCUT = "uncut"
 """The kind of a warning of what was never cut: pages show that by themselves, too."""
 ENTRIES = 400
@@ -59,11 +62,10 @@ class PageFace:
         self.message = ""  # of the program, since it was started or went on
         self.refusal = ""  # since the last command
         self.question: Question | None = None
-        self.holds = 0  # how often somebody wanted to hold
+        self.level = HoldLevel()
         self.is_left = False  # nobody is there any more
         self.is_stuck = False  # nor does `ngc` answer, since nobody reads OUT
         self.has_looked = False  # somebody agreed to the last question before a cut, since the command began
-        self._heeded = 0  # the wishes that the command under way began with
         self._asides: deque[str] = deque()
         self._lock = threading.Condition()
         self._answer: str | None = None
@@ -114,16 +116,21 @@ class PageFace:
         self.has_looked = self.has_looked or agrees and question.strip() in _LAST
         return agrees
 
+    @property
+    def holds(self) -> int:
+        """How often somebody wanted to hold."""
+        return self.level.count
+
     def interrupted(self) -> bool:
         """Whether somebody wants to hold since the command was given."""
-        return self.holds > self._heeded
+        return self.level.is_up
 
     def asides(self, words: Container[str] | None = None) -> list[str]:
         """The commands that were given meanwhile, each once; where words are named, those that begin with one of them.
         """
-        given = [self._asides.popleft() for _ in range(len(self._asides))]
-        found = [line for line in given if words is None or line.split()[0] in words]
-        self._asides.extendleft(line for line in reversed(given) if line not in found)
+        with self._lock:
+            found = [line for line in self._asides if words is None or line.split()[0] in words]
+            self._asides = deque(line for line in self._asides if line not in found)
         return found
 
     def is_gone(self) -> bool:
@@ -153,9 +160,10 @@ class PageFace:
     # what pages give
 
     def hold(self) -> None:
-        """Somebody wants to hold."""
+        """Somebody wants to hold. What was given before, and would start something, isn't done any more."""
+        self.level.wish()
         with self._lock:
-            self.holds += 1
+            self._asides = deque(line for line in self._asides if line not in STARTS)
             self._lock.notify_all()
 
     def leave(self) -> None:
@@ -184,13 +192,14 @@ class PageFace:
 
     def give_aside(self, command: str) -> None:
         """A command that is taken while something runs."""
-        self._asides.append(command)
+        with self._lock:
+            self._asides.append(command)
 
     # the session
 
     def begin(self, heeded: int) -> None:
         """A command begins; whoever gave it had seen so many wishes to hold."""
-        self._heeded = heeded
+        self.level.begin(heeded)
         self.refusal, self.has_looked = "", False
         self._said.clear()
 

@@ -8,18 +8,25 @@ SILENCE_S = 0.3
 
 
 class HeldJog:
-    """The wish, as pages repeat it in any thread. Each press of a button has a number; one that was let go isn't taken
-    up by a wish that comes late. A jog that ended by something else, as by a hold or at a limit, ends its press too:
-    whoever still has a finger on the button has to press it again."""
+    """The wish, as pages repeat it in any thread. Each press of a button has a number, which is above those of all
+    presses before, as pages are told: one that was let go is never taken up, whatever page or stream comes again. A jog
+    that ended by something else, as by a hold or at a limit, ends its press too: whoever still has a finger on the
+    button has to press it again."""
 
     def __init__(self) -> None:
         self.way, self.rate = "", ""
-        self._press = self._let_go = -1
+        self._press = self._let_go = 0
         self._wished = 0.0
 
+    @property
+    def last(self) -> int:
+        """The highest number of a press so far."""
+        return max(self._press, self._let_go)
+
     def wish(self, way: str, rate: str, press: int) -> bool:
-        """Takes a wish, `X+` and a rate in mm a minute. False where its press was let go before."""
-        if press <= self._let_go:
+        """Takes a wish, `X+` and a rate in mm a minute. False where its press was let go before, or another one came.
+        """
+        if press <= self._let_go or press < self._press:
             return False
         self.way, self.rate, self._press, self._wished = way, rate, press, time.monotonic()
         return True
@@ -36,17 +43,13 @@ class HeldJog:
         """Whether it goes on."""
         return self._press > self._let_go and time.monotonic() < self._wished + SILENCE_S
 
-    def forget(self) -> None:
-        """A page begins anew: its presses count from 0 again."""
-        self._press = self._let_go = -1
-
     def go(self, moves: Moves) -> None:
         """Jogs until the wish is over, or is one for another way; `ngc` is told where that ended."""
         way, rate, press = self.way, self.rate, self._press
         if not self.is_wanted():
             return
         try:
-            moves.jog_while(way, rate, lambda: self.way == way and self.is_wanted())
+            moves.jog_while(way, rate, lambda: self._press == press and self.is_wanted())
         finally:
             if self.is_wanted():
                 self.let_go(press)

@@ -1,9 +1,10 @@
 """The server of `ngc-page`: who may ask, what is answered, and the streams by which pages are told what changes.
 
 One thread serves all connections in turn, none of which waits for another one: a wish to hold is taken however many are
-idle or slow. Where there are too many, the one goes that has been waiting for its next request longest. Whoever asks
-has to know the key in the path. No request names a file: what is served was read before, and a program comes by
-upload."""
+idle or slow. Each page keeps a line of its own for it, which has its place whatever comes. Of the other connections,
+where there are too many, one goes: of a stranger before one that has shown the key, that before one of a page that is
+there, the oldest first. Whoever asks has to know the key in the path. No request names a file: what is served was read
+before, and a program comes by upload."""
 import asyncio
 import hmac
 import json
@@ -22,9 +23,11 @@ from typing import Any
 from ngc_tools.failure import Failure
 from ngc_tools.files import cause
 from ngc_tools.formats.device import MOST_LARGE_PROGRAM
+from ngc_tools.page import websocket
+from ngc_tools.page.aside import Wanted
 from ngc_tools.page.deeds import DEEDS, WAITING, BadWords, Given, cam_answers, keep_checked
 from ngc_tools.page.http import MOST_HEAD, RequestRefused, Request, head_of, read_body, read_request
-from ngc_tools.page.pages import Pages
+from ngc_tools.page.pages import LOOK_S, LOST_S, Pages, Stamp
 from ngc_tools.page.session import Busy, PageSession, Unwanted
 from ngc_tools.page.state import state_of
 
@@ -40,12 +43,17 @@ _HEADERS = {"Cache-Control": "no-store", "Referrer-Policy": "no-referrer", "X-Co
             "Cross-Origin-Resource-Policy": "same-origin"}
 _UPLOADS = ("check", "draw")
 """What is asked with a program as it is."""
+_AT_ANY_AGE = ("hold", "stop", "jogstop")
+"""What ends motion, and is done however late it comes."""
 _PAGE = re.compile(r"[A-Za-z0-9-]{8,40}")
+_UNSENT = 1 << 17  # bytes that the system keeps of answers that nobody takes, of each connection
+_MOST_UNREAD = 4096  # bytes of answers on a line that a page doesn't take
 _MOST_WORDS = 4096  # bytes of a request that is no program
 _REQUEST_S = 20.0  # how long a request may take to come, and an answer to be taken
+_THERE_S = 0.2  # so often it is looked whether whoever waits for a program is still there
 _IDLE_S = 120.0  # how long a connection may wait for its next request
-_LOST_S = 3.0  # a page that takes nothing for so long is lost
-_EVERY_S = 1.0  # something is sent to each page at least so often
+_EVERY_S = 1.0  # the state is sent to each page at least so often
+_STAMP_S = 0.25  # and a stamp
 _AGAIN = b"retry: 500\n\n"  # a page whose stream breaks opens it again after so many ms
 _APART_S = 0.03  # and not more often than so
 
@@ -61,11 +69,8 @@ class Server:
         self._static = {str(path.relative_to(STATIC)): (path.read_bytes(), _KINDS[path.suffix])
                         for path in sorted(STATIC.rglob("*")) if path.suffix in _KINDS}
         self._checked: dict[str, tuple[str, bytes]] = {}
-        # connections that wait for a request, in the order in which they began to: those that never knew the key, and
-        # those of pages
-        self._strangers: dict[asyncio.Task, None] = {}
-        self._waiting: dict[asyncio.Task, None] = {}
-        self._all: set[asyncio.Task] = set()
+        self._all: dict[asyncio.Task, _Connection] = {}
+        self._count = 0
         self._new = asyncio.Event()
         self._uploads = asyncio.Semaphore(4)
         self._loop = asyncio.new_event_loop()
@@ -76,70 +81,80 @@ class Server:
     def listen(self, host: str, listening: socket.socket) -> None:
         """Begins to serve at a socket that listens at a host. Raises OSError."""
         self.port = listening.getsockname()[1]
+        listening.setsockopt(socket.SOL_SOCKET, socket.SO_SNDBUF, _UNSENT)
         self._origins |= {f"http://{name}:{self.port}" for name in (host, "127.0.0.1", "localhost")}
         self._names = {origin.partition("://")[2] for origin in self._origins}
         self._loop.set_exception_handler(lambda _, context: tell_bug(context.get("exception")))
         self._thread.start()
         self._call(asyncio.start_server(self._connected, sock=listening, limit=MOST_HEAD))
+        self._watch = asyncio.run_coroutine_threadsafe(self._look(), self._loop)
         self.session.face.changed = lambda: self._loop.call_soon_threadsafe(self._new.set)
 
     def close(self) -> None:
         """Tells pages how the session ended, and ends."""
         self.session.face.changed = lambda: None
         with suppress(TimeoutError):
-            self._call(self._end(), 2 * _LOST_S)
+            self._call(self._end(), 2 * LOST_S)
         self._loop.call_soon_threadsafe(self._loop.stop)
-        self._thread.join(_LOST_S)
+        self._thread.join(LOST_S)
 
     def _call(self, work: Coroutine, patience_s: float | None = None) -> Any:
         return asyncio.run_coroutine_threadsafe(work, self._loop).result(patience_s)
 
+    async def _look(self) -> None:
+        """Looks again and again which pages are lost."""
+        while True:
+            self.pages.look()
+            await asyncio.sleep(LOOK_S)
+
     async def _end(self) -> None:
+        self._watch.cancel()
         self._new.set()
-        await asyncio.wait(self._all, timeout=_LOST_S / 3) if self._all else None
-        for task in self._all:
+        streams = [task for task, one in self._all.items() if one.is_stream]
+        await asyncio.wait(streams, timeout=LOST_S / 3) if streams else None
+        for task in list(self._all):
             task.cancel()
 
     # connections
 
     async def _connected(self, reader: asyncio.StreamReader, writer: asyncio.StreamWriter) -> None:
         """Serves a connection to its end."""
-        task = asyncio.current_task()
-        if len(self._all) >= MOST_CONNECTIONS and not self._makes_room():
-            writer.close()
-            return
-        self._all.add(task)
+        task, connection = asyncio.current_task(), _Connection(self, reader, writer)
+        self.make_room(MOST_CONNECTIONS - 1)
+        self._all[task] = connection
         try:
-            await _Connection(self, reader, writer).serve()
+            await connection.serve()
         except (OSError, TimeoutError, asyncio.CancelledError):
             pass  # a connection that breaks is none
         except Exception as error:
             tell_bug(error)
         finally:
-            self._all.discard(task)
-            writer.close()
+            self._all.pop(task, None)
+            # what nobody takes isn't kept
+            writer.transport.abort() if writer.transport.get_write_buffer_size() else writer.close()
 
-    def _makes_room(self) -> bool:
-        """Ends the connection that has been waiting longest, one that never knew the key before others; whether there
-        is one."""
-        waiting = self._strangers or self._waiting
-        if not waiting:
+    def make_room(self, most: int) -> None:
+        """Ends connections, but for streams and lines, until there are so many at most."""
+        while len(going := [task for task, one in self._all.items() if not one.has_place]) > most:
+            task = min(going, key=lambda task: self._all[task].rank())
+            del self._all[task]
+            task.cancel()
+
+    def count(self) -> int:
+        """The next number of what connections do."""
+        self._count += 1
+        return self._count
+
+    def has_line(self, page: str, line: "_Connection") -> bool:
+        """Whether a page that is there may have this line. It takes the place of the one that it had."""
+        if not self.pages.is_there(page):
             return False
-        task = next(iter(waiting))
-        del waiting[task]
-        task.cancel()
+        for task, one in list(self._all.items()):
+            if one.is_line and one.page == page and one is not line:
+                del self._all[task]
+                task.cancel()
+        line.is_line = True
         return True
-
-    async def next_request(self, reader: asyncio.StreamReader, is_known: bool) -> Request | None:
-        """Waits for the next request of a connection, which has shown the key before or not; None at its end. Raises
-        Refused, OSError, TimeoutError."""
-        task, waiting = asyncio.current_task(), self._waiting if is_known else self._strangers
-        waiting[task] = None
-        try:
-            async with asyncio.timeout(_IDLE_S):
-                return await read_request(reader)
-        finally:
-            waiting.pop(task, None)
 
     def checked_path(self, request: Request) -> str:
         """The path after the key. Raises Refused for whoever doesn't know the key, comes by another name, as after DNS
@@ -182,25 +197,30 @@ class Server:
     def state(self, page: str, told: int) -> tuple[bytes, int]:
         """What a page shows, with the entries of the log behind the one that it was told last, and the last one now."""
         log = [asdict(entry) for entry in list(self.session.face.log) if entry.id > told]
-        pages = {"yours": self.pages.commands == page, "pages": len(self.pages), "on_loss": self.pages.on_loss}
+        pages = {"yours": self.pages.commands == page, "pages": len(self.pages), "on_loss": self.pages.on_loss,
+                 "stamp": str(self.pages.stamp())}
         said = state_of(self.session, page) | pages | {"log": log, "now": time.time()}
         return _json(said), log[-1]["id"] if log else told
 
     async def changed(self, seen: int) -> int:
-        """Waits until there is something new behind a version, for a second at most; returns the version."""
+        """Waits until there is something new behind a version, or a stamp is due; returns the version."""
         if self.session.face.version == seen:
             self._new.clear()
             with suppress(TimeoutError):
-                await asyncio.wait_for(self._new.wait(), _EVERY_S)
+                await asyncio.wait_for(self._new.wait(), _STAMP_S)
         return self.session.face.version
 
-    async def do(self, name: str, page: str, words: dict) -> dict:
-        """Does what a page asks for. Whoever sees that something is wrong may hold, a page that watches too. Raises
-        Refused, Busy, BadWords, Failure, OSError."""
+    async def do(self, name: str, page: str, words: dict, stamp: str) -> dict:
+        """Does what a page asks for, as it had read a stamp. Whoever sees that something is wrong may hold, a page that
+        watches too. Raises Refused, Busy, BadWords, Failure, OSError."""
         if name == "hold":
             self.session.hold(page)
             return {}
+        if name == "beat":
+            self.pages.read(page, Stamp.read(words.get("stamp")))
+            return {}
         if name == "takeover":
+            self.pages.check_age(Stamp.read(stamp))
             self.pages.take_over(page)
             return {}
         if name == "checking":
@@ -212,36 +232,46 @@ class Server:
             raise RequestRefused(HTTPStatus.FORBIDDEN, "another page commands: take over first")
         if name not in DEEDS:
             raise RequestRefused(HTTPStatus.NOT_FOUND)
-        given = Given(self.session, self.pages, self._checked, words)
+        if name not in _AT_ANY_AGE:
+            self.pages.check_age(Stamp.read(stamp))
+        given = Given(self.session, self.pages, self._checked, words, self.session.face.holds)
         done = await asyncio.to_thread(DEEDS[name], given) if name in WAITING else DEEDS[name](given)
         return done or {}
 
-    async def draw(self, request: Request, text: bytes) -> bytes:
+    async def upload(self, name: str, page: str, request: Request, text: bytes) -> bytes:
+        """Draws or checks a program, of which so many are taken at once. Where nobody waits for it any more, it ends.
+        Raises what these raise."""
+        wanted = Wanted()
+        try:
+            async with self._uploads:
+                if name == "check":
+                    return await self._check(page, request, text, wanted)
+                return await self._draw(request, text, wanted)
+        except asyncio.CancelledError:
+            wanted.end()
+            raise
+
+    async def _draw(self, request: Request, text: bytes, wanted: Wanted) -> bytes:
         """A program that isn't loaded, as it would be drawn; one that was looked at by its `id`. Raises
         RequestRefused, Failure, OSError."""
         if ident := request.headers.get("x-checked"):
             if ident not in self._checked:
                 raise RequestRefused(HTTPStatus.GONE, "check it again")
             text = self._checked[ident][1]
-        return await asyncio.to_thread(self.session.preview, text)
+        return await asyncio.to_thread(self.session.preview, text, wanted)
 
-    async def check(self, page: str, request: Request, text: bytes) -> bytes:
+    async def _check(self, page: str, request: Request, text: bytes, wanted: Wanted) -> bytes:
         """What is wrong with a program; it is loaded by the `id` that is answered, as it is written for `ngc`. One that
         is ended by the page says so. Raises BadWords, Failure, OSError."""
         answers = cam_answers(request.headers.get("x-answers", "{}"))
         name = _name(request.headers.get("x-name", ""))
         try:
-            found, meant = await asyncio.to_thread(self.session.check, page, text, answers)
+            found, meant = await asyncio.to_thread(self.session.check, page, text, answers, wanted)
         except Unwanted:
             return _json({"ended": True})
         ident = f"{time.monotonic_ns():x}"
         keep_checked(self._checked, name if meant == text else f"{name}, adapted", meant, ident)
         return _json(found | {"id": ident, "name": name, "bytes": len(text), "count": len(text.splitlines())})
-
-    @property
-    def uploads(self) -> asyncio.Semaphore:
-        """So many programs are taken at once."""
-        return self._uploads
 
 
 class _Connection:
@@ -249,23 +279,43 @@ class _Connection:
 
     def __init__(self, server: Server, reader: asyncio.StreamReader, writer: asyncio.StreamWriter) -> None:
         self.server, self.reader, self.writer = server, reader, writer
+        self.is_known = self.is_stream = self.is_line = False
+        self.page, self.since = "", server.count()
+
+    @property
+    def has_place(self) -> bool:
+        """Whether it is never ended for others: the stream of a page, or the line of one that is there."""
+        return self.is_stream or self.is_line and self.server.pages.is_there(self.page)
+
+    def rank(self) -> tuple[int, int]:
+        """The lower, the sooner it goes where there are too many: who it is, and when it began what it does."""
+        return self.is_known + self.server.pages.is_there(self.page), self.since
 
     async def serve(self) -> None:
         """Answers its requests. Raises OSError, TimeoutError."""
         self.writer.get_extra_info("socket").setsockopt(socket.IPPROTO_TCP, socket.TCP_NODELAY, 1)
-        is_known = False
+        self.writer.transport.set_write_buffer_limits(0)
         try:
-            while request := await self.server.next_request(self.reader, is_known):
+            while request := await self._next():
                 path = self.server.checked_path(request)
-                is_known = True
-                if request.method == "GET" and path.partition("?")[0] == "events":
-                    await self._stream(path)
+                self.is_known, self.since = True, self.server.count()
+                self.page = request.headers.get("x-page", "")
+                if request.method == "GET" and (name := path.partition("?")[0]) in ("events", "line"):
+                    self.page = _page_of(path)
+                    await (self._stream() if name == "events" else self._line(request))
                     return
                 async with asyncio.timeout(_REQUEST_S):
                     body = await self._body(request, path)
-                await self._send(*await self._answered(request, path, body))
+                status, content, kind = await self._answered(request, path, body)
+                await self._send(status, content, kind, {"X-Stamp": str(self.server.pages.stamp())})
+                self.since = self.server.count()
         except RequestRefused as error:
             await self._send(error.status, _json({"why": str(error)}), _JSON, {"Connection": "close"})
+
+    async def _next(self) -> Request | None:
+        """Waits for the next request; None at the end. Raises Refused, OSError, TimeoutError."""
+        async with asyncio.timeout(_IDLE_S):
+            return await read_request(self.reader)
 
     async def _body(self, request: Request, path: str) -> bytes:
         """The body of a request. Raises Refused."""
@@ -299,9 +349,7 @@ class _Connection:
         if not _PAGE.fullmatch(page):
             raise RequestRefused(HTTPStatus.BAD_REQUEST, "no page")
         if path in _UPLOADS:
-            async with self.server.uploads:
-                return await (self.server.check(page, request, body) if path == "check"
-                              else self.server.draw(request, body))
+            return await self._while_there(self.server.upload(path, page, request, body))
         if request.headers.get("content-type", "").partition(";")[0].strip() != _JSON:
             raise RequestRefused(HTTPStatus.UNSUPPORTED_MEDIA_TYPE)
         try:
@@ -310,32 +358,66 @@ class _Connection:
             raise RequestRefused(HTTPStatus.BAD_REQUEST, "no JSON") from None
         if not isinstance(words, dict):
             raise RequestRefused(HTTPStatus.BAD_REQUEST, "no object")
-        return _json(await self.server.do(path, page, words))
+        return _json(await self.server.do(path, page, words, request.headers.get("x-stamp", "")))
 
-    async def _stream(self, path: str) -> None:
+    async def _while_there(self, work: Coroutine[Any, Any, bytes]) -> bytes:
+        """The result of work that takes long, which ends where nobody waits for it any more. Raises OSError, and what
+        it raises."""
+        task = asyncio.ensure_future(work)
+        try:
+            while not task.done():
+                await asyncio.wait({task}, timeout=_THERE_S)
+                if self.reader.at_eof():
+                    raise ConnectionResetError
+            return task.result()
+        finally:
+            task.cancel()
+
+    async def _line(self, request: Request) -> None:
+        """Hears a page by its line: `hold`, which is answered, and `beat STAMP`."""
+        page, head = self.page, websocket.head_of(request)
+        if not self.server.has_line(page, self):
+            raise RequestRefused(HTTPStatus.SERVICE_UNAVAILABLE, "no page with a stream")
+        self.writer.write(head)
+        while text := await websocket.read_text(self.reader, self.writer):
+            word, _, stamp = text.partition(" ")
+            if word == "hold":
+                self.server.session.hold(page)
+                self.writer.write(websocket.frame_of(f"held {self.server.pages.stamp()}"))
+            elif word == "beat":
+                self.server.pages.read(page, Stamp.read(stamp))
+            else:
+                return
+            if self.writer.transport.get_write_buffer_size() > _MOST_UNREAD:
+                return
+
+    async def _stream(self) -> None:
         """Tells a page all that changes, as server-sent events."""
-        page = urllib.parse.parse_qs(path.partition("?")[2]).get("page", [""])[0]
-        if not _PAGE.fullmatch(page):
-            raise RequestRefused(HTTPStatus.BAD_REQUEST, "no page")
+        page = self.page
         if not self.server.pages.came(page):
             raise RequestRefused(HTTPStatus.SERVICE_UNAVAILABLE, "too many pages")
+        self.is_stream = True
         try:
             self.writer.get_extra_info("socket").setsockopt(socket.IPPROTO_TCP, socket.TCP_USER_TIMEOUT,
-                                                            int(1000 * _LOST_S))
-            self.writer.transport.set_write_buffer_limits(0)
+                                                            int(1000 * LOST_S))
             self.writer.write(head_of(HTTPStatus.OK, _HEADERS, "text/event-stream", None) + _AGAIN)
             await self._tell(page)
         finally:
             self.server.pages.went(page)
 
     async def _tell(self, page: str) -> None:
-        seen, told = -1, 0
-        while True:
-            seen = await self.server.changed(seen)
+        seen, told, due = -1, 0, 0.0
+        while self.server.pages.is_there(page):
+            version = await self.server.changed(seen)
             is_over = self.server.session.over.is_set()
-            text, told = self.server.state(page, told)
+            if version != seen or is_over or time.monotonic() > due:
+                seen, due = version, time.monotonic() + _EVERY_S
+                text, told = self.server.state(page, told)
+            else:
+                text = str(self.server.pages.stamp()).encode()
+                self.writer.write(b"event: stamp\n")
             self.writer.write(b"data: " + text + b"\n\n")
-            async with asyncio.timeout(_LOST_S):
+            async with asyncio.timeout(LOST_S):
                 await self.writer.drain()
             if is_over or self.reader.at_eof():
                 return
@@ -346,6 +428,14 @@ class _Connection:
         self.writer.write(head_of(status, _HEADERS | (more or {}), kind, len(content)) + content)
         async with asyncio.timeout(_REQUEST_S):
             await self.writer.drain()
+
+
+def _page_of(path: str) -> str:
+    """The page that asks for its stream or its line. Raises RequestRefused."""
+    page = urllib.parse.parse_qs(path.partition("?")[2]).get("page", [""])[0]
+    if not _PAGE.fullmatch(page):
+        raise RequestRefused(HTTPStatus.BAD_REQUEST, "no page")
+    return page
 
 
 def tell_bug(error: BaseException | None) -> None:

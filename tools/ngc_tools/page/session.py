@@ -23,10 +23,10 @@ from ngc_tools.operator.motors import SPINDLE_PERCENTS, WHOLE
 from ngc_tools.operator.operator import CHOSEN, Operator
 from ngc_tools.operator.sentences import explained
 from ngc_tools.operator.session import ALARM
-from ngc_tools.page.aside import Aside, Child, NotDone
+from ngc_tools.page.aside import Aside, Child, NotDone, Wanted
 from ngc_tools.page.drawer import Drawer
 from ngc_tools.page.drawing import DrawingRequest, as_begun
-from ngc_tools.page.face import PageFace
+from ngc_tools.page.face import STARTS, PageFace
 from ngc_tools.page.findings import Check, find
 from ngc_tools.page.never_cut import LossRequest, NeverCutSearch
 from ngc_tools.page.jog import HeldJog
@@ -199,21 +199,22 @@ class PageSession:
         """Whether a command is under way."""
         return self.under is not None or self._next is not None or self._stops
 
-    def give(self, word: str, does: Callable[[], Any]) -> SessionCommand:
-        """Gives the session's thread something to do. Raises Busy."""
+    def give(self, word: str, does: Callable[[], Any], holds: int | None = None) -> SessionCommand:
+        """Gives the session's thread something to do, which was asked for now, or when there had been so many wishes to
+        hold. Raises Busy."""
         with self._wake:
             if self.ended or self.over.is_set():
                 raise Busy(self.ended or "the session is over")
             if self.is_busy:
                 raise Busy("something runs: hold first")
-            command = self._next = self._command(word, does)
+            command = self._next = self._command(word, does, holds)
             if word in MOVES | {"load"}:
                 self.is_finished = False  # at once: no page is told that what runs is finished
             self._wake.notify_all()
         return command
 
-    def _command(self, word: str, does: Callable[[], Any]) -> SessionCommand:
-        return SessionCommand(word, does, self.face.holds, self.face.last_id())
+    def _command(self, word: str, does: Callable[[], Any], holds: int | None = None) -> SessionCommand:
+        return SessionCommand(word, does, self.face.holds if holds is None else holds, self.face.last_id())
 
     def ask(self, word: str, does: Callable[[], Any], patience_s: float = 10.0) -> Any:
         """Gives it something to do, and waits for the result. Raises Busy, and what it failed by."""
@@ -223,16 +224,18 @@ class PageSession:
         """Does a command of the operator's core, as a person types it. Raises Busy."""
         self.give(line.removeprefix("anyway ").split()[0], lambda: self.operator.do(line))
 
-    def tell(self, line: str) -> None:
-        """Does a short command, and waits for it; one that may come while something runs is given then. Raises Busy."""
+    def tell(self, line: str, holds: int | None = None) -> None:
+        """Does a short command, and waits for it; one that may come while something runs is given then. It was asked
+        for now, or when there had been so many wishes to hold. Raises Busy."""
         word, command = line.split()[0], None
         if word == "go" and self.face.says_go():
             return
         with self._wake:
             if word in _ASIDES and self.is_busy:
-                self.face.give_aside(line)
+                if word not in STARTS or holds in (None, self.face.holds):
+                    self.face.give_aside(line)
             else:
-                command = self.give(word, lambda: self.operator.do(line))
+                command = self.give(word, lambda: self.operator.do(line), holds)
         if command:
             command.awaited()
         if word == "delete":
@@ -330,13 +333,13 @@ class PageSession:
         """Has the stored program begin with its first line again; whether it does. Raises Busy."""
         return self.load(self.name, self.operator.session.program.text)
 
-    def check(self, page: str, text: bytes, answers: HomeAnswers) -> tuple[dict, bytes]:
+    def check(self, page: str, text: bytes, answers: HomeAnswers, wanted: Wanted) -> tuple[dict, bytes]:
         """What `ngc-check` and `ngc-adapt` find of a text, which begins as the device stands, and the text that is
-        meant. A page has one check under way. Raises Unwanted where that is ended, NotDone, OSError."""
+        meant, as long as it is wanted. A page has one check under way. Raises Unwanted where that is ended, NotDone, OSError."""
         console, session = self.operator.console, self.operator.session
         check = Check(console.ngc, console.settings, self.kept.device.image, session.delete, session.meter is not None,
                       answers)
-        child = self.aside.begin(find, check, text)
+        child = wanted.by(self.aside.begin(find, check, text))
         before, self._checks[page] = self._checks.get(page), child
         if before:
             before.give_up()
@@ -360,9 +363,11 @@ class PageSession:
         if child := self._checks.pop(page, None):
             child.give_up()
 
-    def preview(self, text: bytes) -> bytes:
-        """A program that isn't loaded as it would be drawn, in JSON. Raises NotDone, OSError."""
-        return self.drawer.preview(replace(self._source_of(self.kept.device), is_begun_there=True, other=text)).text
+    def preview(self, text: bytes, wanted: Wanted) -> bytes:
+        """A program that isn't loaded as it would be drawn, in JSON, as long as it is wanted. Raises NotDone, OSError.
+        """
+        source = replace(self._source_of(self.kept.device), is_begun_there=True, other=text)
+        return self.drawer.preview(source, wanted).text
 
     def restart(self) -> None:
         """Begins a session of `ngc run` anew, after it has ended, its device failed, or its player is gone or carries
@@ -432,8 +437,10 @@ class PageSession:
         if self._stops:
             self._stops = False
             return self._command("stop", lambda: self.operator.do("stop"))
-        lines = self.face.asides()
-        return self._command(lines[0].split()[0], lambda: list(map(self.operator.do, lines))) if lines else None
+        holds, lines = self.face.holds, self.face.asides()
+        if not lines:
+            return None
+        return self._command(lines[0].split()[0], lambda: list(map(self.operator.do, lines)), holds)
 
     def _do(self, command: SessionCommand) -> None:
         """Does a command, and sees how it ended."""

@@ -93,6 +93,7 @@ class Pictured:
                 "question": question, "message": face.message, "half_opened": state.opened,
                 "half_text": shown_line(state.half_text) if state.half else "",
                 "busy": self.session.is_busy, "moving": self._moves(), "does_move": self._does,
+                "press": self.session.jogs.last,
                 "apart": self._apart, "held_by": self._held_by, "door_open": self.operator.session.is_door_open,
                 "command": self.command and {"word": self.command.word, "since": self.command.since}}
 

@@ -68,6 +68,7 @@ from pathlib import Path
 from ngc_tools.failure import Failure
 from ngc_tools.files import naming
 from ngc_tools.formats.out import OFF, BadLine, Switch, read_line
+from ngc_tools.hold_level import Starts, start_at_once
 
 QUESTION = re.compile(rb"progress [0-9]{1,20}")
 SYNCED = re.compile(rb"synced ([0-9]{1,18})")
@@ -91,6 +92,13 @@ _MACHINE = re.compile(rf"does (stands|(?:home|jog|seek) \S+) homed ([XYZ]+|none)
 
 class NoAnswer(Failure):
     """The player is gone, or didn't answer in time; the text names the socket."""
+
+
+class HeldBack(NoAnswer):
+    """Somebody wants to hold, so what starts motors wasn't sent."""
+
+    def __init__(self) -> None:
+        super().__init__("held before it began: nothing was started")
 
 
 @dataclass(frozen=True, slots=True)
@@ -245,12 +253,13 @@ def _remove_stale(path: str) -> None:
 
 
 class Link:
-    """The other end: asks a player."""
+    """The other end: asks a player. What starts motors or a spindle is sent by `starts`."""
 
     def __init__(self, path: str | Path, patience_s: float = 5.0) -> None:
         """Raises NoAnswer if no player listens there. A question waits `patience_s` seconds for its answer."""
         self.path = str(path)
         self.patience_s = patience_s
+        self.starts: Starts = start_at_once
         self.count = 0
         self._moves = int.from_bytes(os.urandom(5), "big")  # the player takes a number for a move of whoever has it
         self.socket = socket.socket(socket.AF_UNIX, socket.SOCK_DGRAM)
@@ -292,12 +301,17 @@ class Link:
         except ValueError as error:
             raise NoAnswer(f"{self.path}: {error}; {_OTHER}") from None
 
-    def _send(self, text: bytes) -> None:
+    def _start(self, text: bytes) -> None:
+        """Sends what starts motors or a spindle. Raises HeldBack, NoAnswer."""
+        self._send(text, self.starts)
+
+    def _send(self, text: bytes, starts: Starts = start_at_once) -> None:
         """Sends a datagram, and waits for room for it. Raises NoAnswer."""
         until = time.monotonic() + self.patience_s
         while True:
             try:
-                self.socket.send(text)
+                if not starts(lambda: self.socket.send(text)):
+                    raise HeldBack
                 return
             except TimeoutError:
                 if time.monotonic() > until:
@@ -335,25 +349,30 @@ class Link:
 
     def switch(self, outputs: Switch) -> None:
         """Has spindle and coolant switched where the motors stand, with nothing in hand. Raises NoAnswer."""
+        self._start(f"switch {outputs}".encode())
+
+    def switch_back(self, outputs: Switch) -> None:
+        """Has them switched as they were, held or not: with nothing in hand nothing moves. Raises NoAnswer."""
+        self._send(b"release")
         self._send(f"switch {outputs}".encode())
 
     def along(self, size: int, feed: str = "") -> None:
         """Sends the motors along OUT to where so many bytes of it lead; back at most at a feed, in mm a minute. Raises
         NoAnswer."""
-        self._send(f"along {size}{f' feed {feed}' if feed else ''}".encode())
+        self._start(f"along {size}{f' feed {feed}' if feed else ''}".encode())
 
     def legs(self, lift: str, at: str, size: int, feed: str = "") -> None:
         """Sends the motors there by legs, the last one at a feed; heights and points are machine millimetres. Raises
         NoAnswer."""
-        self._send(f"legs {lift} {at} {size}{f' feed {feed}' if feed else ''}".encode())
+        self._start(f"legs {lift} {at} {size}{f' feed {feed}' if feed else ''}".encode())
 
     def straight(self, at: str, size: int, feed: str) -> None:
         """The same in one straight line, at a feed. Raises NoAnswer."""
-        self._send(f"straight {at} {size} feed {feed}".encode())
+        self._start(f"straight {at} {size} feed {feed}".encode())
 
     def go(self) -> None:
         """Tells a player that waits at a tool change that the tool is in. Raises NoAnswer."""
-        self._send(b"go")
+        self._start(b"go")
 
     def at(self, place: str) -> None:
         """Tells a player where the machine stands, as `7.21 0 0`. It takes that while nothing is behind, and the next
@@ -366,7 +385,7 @@ class Link:
 
     def release(self) -> None:
         """Tells a player that is held to go on. Raises NoAnswer."""
-        self._send(b"release")
+        self._start(b"release")
 
     def machine(self) -> MoveReport:
         """What moves without lines, which inputs are on, and how the last such move ended. Raises NoAnswer; so it does
@@ -402,7 +421,7 @@ class Link:
     def _move(self, verb: str, what: str) -> tuple[int, str]:
         self._moves += 1
         question = f"{verb} {self._moves}"
-        self._send(f"{question} {what}".rstrip().encode())
+        self._start(f"{question} {what}".rstrip().encode())
         answer = self._awaited(question.encode()).decode("utf-8", "replace")
         if answer != "taken" and not answer.startswith("refused "):
             raise NoAnswer(f"{self.path}: {_OTHER}")

@@ -2,6 +2,7 @@
 // where it says nothing any more. With a length it goes that far at each touch. A finger that begins to scroll there
 // moves nothing: it has to rest first, or, with a length, to be lifted where it came down.
 import { el } from './dom.js';
+import { now } from './link.js';
 
 const AGAIN_MS = 100;
 const REST_MS = 180, MOST_PX = 8;
@@ -13,11 +14,13 @@ const PAD = [['Y', 1, 'up'], ['X', -1, 'left'], ['X', 1, 'right'], ['Y', -1, 'do
 export class Jog {
   constructor(asks) {
     this.asks = asks;
+    this.told = 0;           // the highest press that the server knows
     this.rate = '600';
     this.length = null;
     this.timer = this.rests = 0;
     this.finger = null;      // where one came down that may be about to scroll
-    this.press = 0;          // grows with each, so that what comes late of one that was let go starts nothing
+    this.down = '';          // the stamp as it came: a hold after that ends its press
+    this.press = 0;          // grows with each, above what the server told: one that was let go starts nothing any more
     this.isOn = false;
     this.buttons = PAD.map(([axis, sign, where]) => this.button(axis, sign, where));
     this.rates = choices('Rate', RATES, rate => { this.rate = rate; }, this.rate);
@@ -39,6 +42,7 @@ export class Jog {
       }
       event.preventDefault();
       button.setPointerCapture(event.pointerId);
+      this.down = now();
       this.start(axis, sign);
     });
     button.addEventListener('pointermove', event => {
@@ -58,6 +62,7 @@ export class Jog {
   // A finger came down, or a pen: it may be about to scroll.
   comes(event, axis, sign) {
     this.finger = { x: event.clientX, y: event.clientY };
+    this.down = now();
     if (this.length === null) this.rests = setTimeout(() => this.start(axis, sign), REST_MS);
   }
 
@@ -73,9 +78,9 @@ export class Jog {
       this.asks('jog', { axis, sign, rate, length });
       return;
     }
-    this.press += 1;
+    this.press = Math.max(this.press, this.told) + 1;
     this.isOn = true;
-    const wish = { axis, sign, rate, press: this.press };
+    const wish = { axis, sign, rate, press: this.press, down: this.down };
     let isAsked = false; // one at a time: what waits in a slow network would come after the finger is gone
     const says = async () => {
       if (isAsked) return;

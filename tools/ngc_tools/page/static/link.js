@@ -1,7 +1,12 @@
-// The connection to the server: one stream of states in, requests out.
+// The connection to the server: one stream of states in, requests out, and a line of its own for Hold.
 const SILENT_MS = 2500;
+const BEAT_MS = 400;          // so often the server hears at most what came here last
+const HELD_MS = 250;          // without an answer for so long Hold is asked for once more
+const AGAIN_MS = 500;
 const MOST_BYTES = 1048576; // of a program on a large device
 const page = sessionStorage.page ??= named();
+let stamp = '0-0';            // the newest of the server's: it tells how old a request is
+let line = null, beaten = 0, beats = false;
 
 function named() {
   const bytes = crypto.getRandomValues(new Uint8Array(16));
@@ -11,14 +16,20 @@ function named() {
 // Opens the stream. `state` gets each state, `lost` is called once nothing comes any more, `back` once it does again.
 export function connect({ state, lost, back }) {
   let source, last = performance.now(), isLost = false, isOver = false;
+  const comes = said => {
+    last = performance.now();
+    if (isLost) back();
+    isLost = false;
+    newer(said);
+    beat(said);
+  };
   const open = () => {
     source?.close();
     source = new EventSource(`events?page=${page}`);
+    source.addEventListener('stamp', event => comes(event.data));
     source.onmessage = event => {
-      last = performance.now();
-      if (isLost) back();
-      isLost = false;
       const said = JSON.parse(event.data);
+      comes(said.stamp);
       isOver = Boolean(said.ended);
       state(said);
     };
@@ -30,11 +41,67 @@ export function connect({ state, lost, back }) {
     if (source.readyState === EventSource.CLOSED) open();
   };
   open();
+  openLine();
   setInterval(look, 250);
 }
 
+// The newest stamp that came here.
+export const now = () => stamp;
+
+const after = (one, other) => parseInt(one, 10) >= parseInt(other, 10);
+
+function newer(said) {
+  if (said && after(said, stamp)) stamp = said;
+}
+
+// ---- the line: it waits for no other request of this page, and says that the stream is read
+
+function openLine() {
+  line = new WebSocket(new URL(`line?page=${page}`, location).href.replace('http', 'ws'));
+  line.onmessage = event => {
+    const [word, said] = event.data.split(' ');
+    newer(said);
+    if (word === 'held') line.held?.();
+  };
+  line.onclose = () => setTimeout(openLine, AGAIN_MS);
+}
+
+const isOpen = () => line?.readyState === WebSocket.OPEN;
+
+function beat(said) {
+  if (beats || performance.now() - beaten < BEAT_MS) return;
+  beaten = performance.now();
+  if (isOpen()) {
+    line.send(`beat ${said}`);
+    return;
+  }
+  beats = true;
+  post('beat', { stamp: said }).catch(() => {}).finally(() => { beats = false; });
+}
+
+// Holds: by the line, and by requests until something answers. Throws an Error that says why it isn't done.
+export async function hold() {
+  let isHeld = false;
+  const answer = new Promise(done => { line.held = done; }).then(() => { isHeld = true; });
+  if (isOpen()) {
+    line.send('hold');
+    await Promise.race([answer, pause(HELD_MS)]);
+  }
+  for (let tries = 0; !isHeld; tries += 1) {
+    const asked = post('hold').then(() => { isHeld = true; }, error => error);
+    const error = await Promise.race([asked, answer, pause(AGAIN_MS)]);
+    if (error && tries > 20) throw error;
+    if (error) await Promise.race([answer, pause(AGAIN_MS)]);
+  }
+}
+
+const pause = ms => new Promise(done => { setTimeout(done, ms); });
+
+// ---- requests
+
 async function answered(request) {
   const answer = await request;
+  newer(answer.headers.get('X-Stamp'));
   let said = {};
   try { said = await answer.json(); } catch { said = { why: answer.statusText }; }
   if (!answer.ok) throw new Error(said.why || answer.statusText);
@@ -43,25 +110,30 @@ async function answered(request) {
 
 // Asks for something. Throws an Error that says why it isn't done.
 export function post(what, body = {}) {
-  const headers = { 'Content-Type': 'application/json', 'X-Page': page };
+  const headers = { 'Content-Type': 'application/json', 'X-Page': page, 'X-Stamp': stamp };
   return answered(fetch(what, { method: 'POST', headers, body: JSON.stringify(body) }));
 }
 
-// Sends a program, to be looked at by `check`, or drawn by `draw`; `answers` are what a person said of it.
-export function upload(what, file, answers = {}) {
+// Sends a program, to be looked at by `check`, or drawn by `draw`; `answers` are what a person said of it. Nobody wants
+// it any more once `signal` is given.
+export function upload(what, file, signal, answers = {}) {
   if (file.size > MOST_BYTES) {
     throw new Error(`${file.size.toLocaleString('en')} bytes: a program has at most 131,072, on a large device `
       + '1,048,576. ngc-split parts it.');
   }
-  return send(what, file, { 'X-Name': encodeURIComponent(file.name), 'X-Answers': JSON.stringify(answers) });
+  return send(what, file, { 'X-Name': encodeURIComponent(file.name), 'X-Answers': JSON.stringify(answers) }, signal);
 }
 
 // Asks for the drawing of a program that was looked at.
-export const drawChecked = id => send('draw', '', { 'X-Checked': id });
+export const drawChecked = (id, signal) => send('draw', '', { 'X-Checked': id }, signal);
 
-function send(what, body, more) {
+let before = Promise.resolve(); // one at a time: a browser has six connections, and commands need one
+
+function send(what, body, more, signal) {
   const headers = { 'Content-Type': 'application/octet-stream', 'X-Page': page, ...more };
-  return answered(fetch(what, { method: 'POST', body, headers }));
+  const mine = before.then(() => answered(fetch(what, { method: 'POST', body, headers, signal })));
+  before = mine.catch(() => {});
+  return mine;
 }
 
 export const get = what => answered(fetch(what));

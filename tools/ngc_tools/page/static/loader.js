@@ -15,21 +15,23 @@ const DOES = {
 };
 
 export async function load(file, app, asks, answers = {}) {
-  const sight = new Sight(), wait = waiting();
-  const cancel = () => {
-    wait.end();
-    post('uncheck').catch(() => {});
-    sheet.close();
-  };
-  const back = sheet.button('Cancel', cancel);
+  const sight = new Sight(), wait = waiting(), wanted = new AbortController();
+  const back = sheet.button('Cancel', sheet.close);
   const parts = sheet.open(`Load ${file.name}`, [wait.box], [sheet.gap(), back], sight.box);
+  sheet.ending(() => {
+    wait.end();
+    wanted.abort();
+    post('uncheck').catch(() => {});
+  });
   sight.look(true);
-  draw(() => upload('draw', file), app, sight.picture);
+  draw(() => upload('draw', file, wanted.signal), app, sight.picture);
   try {
-    const found = await upload('check', file, answers);
+    const found = await upload('check', file, wanted.signal, answers);
     if (wait.isOver || found.ended) return;
     show(found, parts, asks, answers, again => load(file, app, asks, again));
-    if (found.adapted && !found.adapted.needs.length) draw(() => drawChecked(found.id), app, sight.picture);
+    if (found.adapted && !found.adapted.needs.length) {
+      draw(() => drawChecked(found.id, wanted.signal), app, sight.picture);
+    }
   } catch (error) {
     if (wait.isOver) return;
     parts.words.replaceChildren(sheet.warning(error.message, 'bad'));

@@ -2,7 +2,7 @@
 import { Alarm } from './alarm.js';
 import { $, el, grouped, lasting, micrometres, mm, point, text, zeroOf } from './dom.js';
 import { Job, TRAVERSE } from './job.js';
-import { connect, get, post } from './link.js';
+import { connect, get, hold as asksHold, post } from './link.js';
 import { load } from './loader.js';
 import { Log } from './log.js';
 import { Picture } from './picture.js';
@@ -292,7 +292,7 @@ async function goOn(s, title) {
 function hold() {
   app.pressed = performance.now();
   setup.jog.stop();
-  asks('hold');
+  asksHold().catch(error => log.refuse(error.message));
 }
 
 function stop() {

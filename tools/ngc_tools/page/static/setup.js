@@ -57,6 +57,7 @@ export class Setup {
     text(this.system, systemName(s.system));
     const isHome = i => i === 0 || (s.homes ?? 'XYZ').includes(AXES[i - 1]);
     this.home.forEach((one, i) => { one.disabled = !isOff || s.busy || !isHome(i); });
+    this.jog.told = s.press;
     this.jog.enable(isFree && hasMoves && !s.alarm && (!s.busy || isJogging));
     for (const one of [...this.seeks, this.within]) one.disabled = !isOff || s.busy || Boolean(s.alarm);
     for (const one of [...this.zero, this.value, this.byProbe]) one.disabled = !isIdle;

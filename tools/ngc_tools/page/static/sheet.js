@@ -8,6 +8,19 @@ new MutationObserver(() => {
   if (!$('over').hidden) means($('over'), [...document.querySelectorAll(asked)].map(one => one.textContent).join('|'));
 }).observe($('over'), { childList: true, subtree: true, characterData: true });
 
+let ends = () => {}; // what is done for the sheet that is open ends
+
+// What has to be done as the sheet that is open is closed, or another one opens in its place.
+export function ending(does) {
+  ends = does;
+}
+
+function end() {
+  const does = ends;
+  ends = () => {};
+  does();
+}
+
 // Opens a sheet. Returns its parts, so that what is on it can be changed.
 export function open(name, content, buttons, beside = null) {
   const sheet = { head: el('div', { class: 'head' }, el('h1', {}, name)), words: el('div', { class: 'words' }),
@@ -16,12 +29,14 @@ export function open(name, content, buttons, beside = null) {
   sheet.foot.append(...buttons.filter(Boolean));
   const middle = beside ? el('div', { class: 'two' }, sheet.words, beside) : sheet.words;
   if ($('over').hidden) rest($('over'));
+  end();
   $('over').replaceChildren(sheet.head, middle, sheet.foot);
   $('over').hidden = false;
   return sheet;
 }
 
 export function close() {
+  end();
   if (!$('over').hidden) rest(...document.querySelectorAll('main > .place, main > .side'));
   $('over').hidden = true;
   $('over').replaceChildren();

@@ -1,0 +1,308 @@
+"""Who attacks the page's server, with the key or without it: Hold is taken all the same, and nothing is kept for ever."""
+import base64
+import http.client
+import os
+import socket
+import struct
+import sys
+import threading
+import time
+import unittest
+from pathlib import Path
+from types import SimpleNamespace
+from unittest import mock
+
+sys.path.insert(0, str(Path(__file__).resolve().parent))
+
+from page_support import OTHER, PAGE, Page  # noqa: E402
+from session_support import PATIENCE_S  # noqa: E402
+
+from ngc_tools.cli.page import listening  # noqa: E402
+from ngc_tools.page import server as server_module  # noqa: E402
+from ngc_tools.page.face import PageFace  # noqa: E402
+from ngc_tools.page.jog import HeldJog  # noqa: E402
+from ngc_tools.page.server import MOST_CONNECTIONS, Server  # noqa: E402
+
+KEY = "a-key-of-twenty-two-signs"
+
+
+class Session:
+    """A session of which pages hold something that runs."""
+
+    def __init__(self) -> None:
+        self.face, self.jogs, self.over, self.is_busy = PageFace(), HeldJog(), threading.Event(), False
+        self.held: list[str] = []
+        self.heard = threading.Event()
+        self.ended: list[str] = []
+        self.works = threading.Event()
+
+    def hold(self, page: str = "lost") -> None:
+        """Somebody holds."""
+        self.held.append(page)
+        self.face.hold()
+        self.heard.set()
+
+    def end_check(self, page: str) -> None:
+        """A page is lost."""
+        self.ended.append(page)
+
+    def check(self, page: str, text: bytes, _answers: object, wanted: object) -> tuple[dict, bytes]:
+        """Looks at a program for as long as that is wanted."""
+        over = threading.Event()
+        wanted.by(SimpleNamespace(give_up=over.set))
+        self.works.set()
+        over.wait(PATIENCE_S)
+        self.ended.append("check")
+        return {}, text
+
+
+class Served(unittest.TestCase):
+    """A server over such a session."""
+
+    def setUp(self) -> None:
+        """Starts it."""
+        self.enterContext(mock.patch.object(server_module, "state_of", lambda session, page: {"busy": session.is_busy}))
+        self.session = Session()
+        self.server = Server(KEY, self.session)
+        self.server._static["large.js"] = bytes(1 << 20), "text/javascript"
+        self.server.listen("127.0.0.1", listening("127.0.0.1", 0))
+        self.addCleanup(self.server.close)
+
+    def page(self, name: str = PAGE) -> Page:
+        """A page that is there."""
+        page = Page(f"http://127.0.0.1:{self.server.port}/{KEY}/", name)
+        self.addCleanup(page.close)
+        page.next()
+        return page
+
+    def connect(self, text: str = "") -> socket.socket:
+        """A connection that sends something, and takes little before it is read."""
+        link = socket.socket()
+        self.addCleanup(link.close)
+        link.settimeout(PATIENCE_S)
+        link.setsockopt(socket.SOL_SOCKET, socket.SO_RCVBUF, 4096)
+        link.connect(("127.0.0.1", self.server.port))
+        link.sendall(text.encode())
+        return link
+
+    def head(self, what: str, more: str = "", method: str = "POST", page: str = "page-number-8") -> str:
+        """The head of a request of somebody who has the key."""
+        return (f"{method} /{KEY}/{what} HTTP/1.1\r\nHost: 127.0.0.1:{self.server.port}\r\nOrigin: http://127.0.0.1:"
+                f"{self.server.port}\r\nX-Page: {page}\r\nContent-Type: application/json\r\n{more}\r\n")
+
+    def line(self, name: str = PAGE) -> "Line":
+        """The line of a page."""
+        upgrade = (f"Upgrade: websocket\r\nConnection: Upgrade\r\nSec-WebSocket-Version: 13\r\nSec-WebSocket-Key: "
+                   f"{base64.b64encode(bytes(16)).decode()}\r\n")
+        return Line(self.connect(self.head(f"line?page={name}", upgrade, "GET", name)))
+
+    def wait_for(self, what: str, holds: object) -> None:
+        """Waits until something holds."""
+        until = time.monotonic() + PATIENCE_S
+        while not holds():
+            self.assertLess(time.monotonic(), until, what)
+            time.sleep(0.005)
+
+
+class Line:
+    """The page's end of a line."""
+
+    def __init__(self, link: socket.socket) -> None:
+        """Waits until it is one. Its head is kept."""
+        self.link, self.head = link, b""
+        while not self.head.endswith(b"\r\n\r\n") and (piece := link.recv(1)):
+            self.head += piece
+
+    def say(self, text: str, kind: int = 0x81) -> None:
+        """Sends a text."""
+        mask, content = os.urandom(4), text.encode()
+        masked = bytes(byte ^ mask[index % 4] for index, byte in enumerate(content))
+        self.link.sendall(bytes([kind, 0x80 | len(content)]) + mask + masked)
+
+    def hear(self) -> str:
+        """The next text; nothing at its end."""
+        head = self.link.recv(2, socket.MSG_WAITALL)
+        return self.link.recv(head[1], socket.MSG_WAITALL).decode() if len(head) == 2 else ""
+
+
+class Lines(Served):
+    """The line of a page for Hold."""
+
+    def test_hold(self) -> None:
+        """RFC 6455's own example of its answer; Hold is taken and answered by a stamp, and pages say what they read."""
+        page, line = self.page(), self.line()
+        self.assertIn(b"HTTP/1.1 101 ", line.head)
+        name = "dGhlIHNhbXBsZSBub25jZQ=="  # RFC 6455, 1.3
+        sample = Line(self.connect(self.head(f"line?page={PAGE}", "Upgrade: websocket\r\nSec-WebSocket-Version: 13\r\n"
+                                             f"Sec-WebSocket-Key: {name}\r\n", "GET")))
+        self.assertIn(b"Sec-WebSocket-Accept: s3pPLMBiTxaQ9kYGzzhZRbK+xOo=\r\n", sample.head)
+        line = self.line()
+        line.say(f"beat {page.stamp}")
+        line.say("", 0x89)
+        line.say("hold")
+        self.assertEqual(line.link.recv(2, socket.MSG_WAITALL), b"\x8a\x00")  # a pong
+        word, stamp = line.hear().split(" ")
+        self.assertEqual((word, stamp.partition("-")[2], self.session.held), ("held", "1", [PAGE]))
+
+    def test_refused(self) -> None:
+        """Without a stream, from another site, without the key, or with other words there is none."""
+        self.assertIn(b" 503 ", self.line().head)
+        self.page()
+        upgrade = "Upgrade: websocket\r\nSec-WebSocket-Version: 13\r\nSec-WebSocket-Key: a\r\n"
+        head = self.head(f"line?page={PAGE}", upgrade, "GET")
+        for text, status in ((head.replace("Origin: http://127", "Origin: http://128"), 403), (head.replace("a-k", "b-k"), 404),
+                             (head.replace("Upgrade: w", "Upgrade: x"), 400), (head.replace(" 13", " 12"), 400),
+                             (head.replace("Origin:", "Other:"), 400), (head.replace("page=page", "page=<b>"), 400)):
+            self.assertIn(f" {status} ".encode(), Line(self.connect(text)).head)
+        for kind, text in ((0x82, "hold"), (0x01, "hold"), (0x81, "run"), (0x88, "")):
+            line = self.line()
+            line.say(text, kind)
+            self.assertEqual(line.hear(), "", (kind, text))
+        line = self.line()
+        line.link.sendall(struct.pack(">BBQ", 0x81, 0xFF, 1 << 40))
+        self.assertEqual((line.hear(), self.session.held), ("", []))
+
+    def test_answers_unread(self) -> None:
+        """Answers that a page doesn't take are no memory without bound: its line is ended."""
+        self.page()
+        line = self.line()
+        with self.assertRaises(OSError):
+            while True:
+                line.say("hold")
+
+
+class Floods(Served):
+    """Hold is taken, by the line that was there, and by a request that comes then."""
+
+    def holds(self, line: Line) -> None:
+        """Looks that it is taken both ways."""
+        before = len(self.session.held)
+        line.say("hold")
+        self.assertEqual(line.hear()[:4], "held")
+        answer = self.connect(self.head("hold", "Content-Length: 2\r\n") + "{}").recv(65536)
+        self.assertIn(b"200", answer[:13])
+        self.assertEqual(len(self.session.held), before + 2)
+
+    def flood(self, text: str) -> list[socket.socket]:
+        """More connections than there may be, each of which sends this."""
+        return [self.connect(text) for _ in range(2 * MOST_CONNECTIONS)]
+
+    def test_strangers(self) -> None:
+        """Idle ones, and heads that don't end."""
+        self.page()
+        line = self.line()
+        for text in ("", "POST / HTTP/1.1\r\nHost: a\r\nX: "):
+            self.flood(text)
+            self.holds(line)
+
+    def test_heads(self) -> None:
+        """Heads without bodies of somebody who has the key."""
+        self.page()
+        line = self.line()
+        for what, length in (("hold", 2), ("check", 1_000_000)):
+            self.flood(self.head(what, f"Content-Length: {length}\r\n"))
+            self.holds(line)
+
+    def test_unread(self) -> None:
+        """Answers that nobody reads, of somebody who has the key."""
+        self.page()
+        line = self.line()
+        self.flood(self.head("large.js", method="GET"))
+        self.holds(line)
+
+    def test_works(self) -> None:
+        """Programs that are looked at, or wait for that, of somebody who has the key; they end as he goes."""
+        self.page()
+        line = self.line()
+        links = self.flood(self.head("check", "Content-Length: 2\r\n") + "M2")
+        self.holds(line)
+        for link in links:
+            link.close()
+        self.assertTrue(self.session.works.wait(PATIENCE_S))
+        self.wait_for("all end", lambda: self.session.ended.count("check") >= 4)
+
+    def test_streams(self) -> None:
+        """Streams that nobody reads; each page but those four is refused, and the one that was there stays."""
+        page = self.page()
+        line = self.line()
+        for number in range(20):
+            self.connect(self.head(f"events?page=page-number-{number + 10}", method="GET"))
+        self.holds(line)
+        self.assertTrue(page.next())
+
+    def test_kept(self) -> None:
+        """A connection of a page that is there outlives those of others who have the key."""
+        self.page()
+        kept = http.client.HTTPConnection("127.0.0.1", self.server.port, timeout=PATIENCE_S)
+        self.addCleanup(kept.close)
+        given = {"Origin": f"http://127.0.0.1:{self.server.port}", "X-Page": PAGE, "Content-Type": "application/json"}
+        for _ in range(2):
+            kept.request("POST", f"/{KEY}/hold", b"{}", given)
+            self.assertEqual(kept.getresponse().read(), b"{}")
+            kept.auto_open = 0
+            self.flood(self.head("hold", "Content-Length: 2\r\n"))
+
+    def test_closed(self) -> None:
+        """What is ended for others is closed, though its answers wait to be taken."""
+        links = self.flood(self.head("large.js", method="GET"))
+        self.page()
+
+        def is_closed(link: socket.socket) -> bool:
+            link.setblocking(False)
+            try:
+                while link.recv(1 << 20):
+                    pass
+            except BlockingIOError:
+                return False
+            except OSError:
+                pass
+            return True
+
+        self.wait_for("they are closed", lambda: sum(map(is_closed, links)) >= MOST_CONNECTIONS)
+
+
+class Lost(Served):
+    """A page that is lost is a hold."""
+
+    def test_silent(self) -> None:
+        """One that goes on to take its stream, as a proxy does for a tablet that is gone, and says nothing: it holds
+        within two seconds, and a look more of a busy machine; its stream ends."""
+        self.session.is_busy = True
+        silent = self.connect(self.head(f"events?page={PAGE}", method="GET"))
+        came, taken = time.monotonic(), b""
+        while piece := silent.recv(65536):
+            taken += piece
+        self.assertEqual(self.session.held, ["lost"])
+        self.assertGreater(time.monotonic(), came + 1.5)
+        self.assertIn(b"event: stamp\ndata: ", taken)
+
+    def test_unread(self) -> None:
+        """One that reads nothing, and goes on to say that it did."""
+        self.session.is_busy = True
+        self.connect(self.head(f"events?page={PAGE}", method="GET"))
+        stamp = str(self.server.pages.stamp())
+        for _ in range(1000):
+            if self.session.heard.wait(0.02):
+                break
+            self.connect(self.head("beat", f"Content-Length: {len(stamp) + 12}\r\n", page=PAGE)
+                         + f'{{"stamp":"{stamp}"}}').recv(65536)
+        self.assertEqual(self.session.held, ["lost"])
+
+    def test_there(self) -> None:
+        """One that reads is there for longer than that, and what it asks for with an old stamp isn't done."""
+        page = self.page()
+        self.session.is_busy = True
+        stamp, begun = page.stamp, time.monotonic()
+        while time.monotonic() < begun + 3:
+            page.next()
+        self.assertEqual(self.session.held, [])
+        status, said = page.post("run", X_Stamp=stamp)
+        self.assertEqual((status, "more than a second ago" in said["why"]), (409, True))
+        self.page(OTHER).post("hold")
+        status, said = page.post("run", X_Stamp=f"{self.server.pages.stamp().ms}-0")
+        self.assertEqual((status, "somebody held" in said["why"]), (409, True))
+        self.assertEqual(page.post("run", X_Stamp="")[0], 400)
+
+
+if __name__ == "__main__":
+    unittest.main()
