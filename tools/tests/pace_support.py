@@ -5,6 +5,7 @@ import random
 import subprocess
 from collections.abc import Iterable, Iterator
 from functools import cache
+from pathlib import Path
 
 from player_support import SANITIZERS, SOURCES, built, has_sanitizers
 from session_support import TOOLS
@@ -36,14 +37,31 @@ def zigzag() -> str:
     return "".join(f"G91 G1 X{abs(size):.2f}\nY{size:.2f}\n" for size in corners)
 
 
+def by_turns() -> str:
+    """Traverses and feeds of a step of 3,125 nm each, by turns."""
+    return "G91\n" + "G0X.003125\nG1F600X.003125\n" * 1500 + "G90F3000\n"
+
+
+def fine_spline() -> str:
+    """A wave of lines of 0.004 mm: of one or two steps of 3,125 nm, whose periods differ."""
+    points = ((0.004 * k, 0.2 * math.sin(0.02 * k)) for k in range(1, 1501))
+    return "".join(f"X{x:.4f}Y{y:.4f}\n" for x, y in points)
+
+
 PROGRAMS = {"short segments": short_segments, "small circles": small_circles, "zigzag": zigzag}
+PULSES = {"traverse and feed by turns": by_turns, "fine spline": fine_spline}
 
 
-def with_pacer(name: str, *options: str) -> str:
-    """The path of a program of this folder with the pacer of tools/player."""
+def of_tests(*names: str) -> tuple[Path, ...]:
+    """Sources of this folder."""
+    return tuple(TOOLS / "tests" / name for name in names)
+
+
+def with_pacer(name: str, *options: str, beside: tuple[str, ...] = ()) -> str:
+    """The path of a program of this folder, and of sources beside it, with the pacer of tools/player."""
     parts = [path for path in SOURCES if path.stem.startswith("pace_")
              or path.stem in ("pace", "window", "line", "scan", "cause", "utf8")]
-    return built(*options, sources=(TOOLS / "tests" / name, *parts))
+    return built(*options, sources=(*of_tests(name, *beside), *parts))
 
 
 def paced_in_c(limits: Limits, events: Iterable[str]) -> list[str]:
@@ -153,8 +171,23 @@ def excess(due: Iterable[str] | bytes, accel: tuple[int, int, int]) -> float:
     steps and their times alone: `due` is what a file of --times has. Raises AssertionError where a line is sooner than
     OUT has it."""
     text = due if isinstance(due, bytes) else "".join(due).encode()
-    command = [built("-O2", sources=(TOOLS / "tests" / "follow_check.c",)), *map(str, accel)]
+    command = [built("-O2", sources=of_tests("follow_check.c")), *map(str, accel)]
     thousandths, early = map(int, subprocess.run(command, input=text, capture_output=True, check=True).stdout.split())
     if early:
         raise AssertionError(f"{early} lines are sooner than OUT has them")
     return thousandths / 1000
+
+
+def judgement(limits: Limits, lines: Iterable[str], due: str) -> str:
+    """What the judge says of lines of OUT, the last of which stands, at the times of `due`, which is what a file of
+    --times has; nothing where all is right."""
+    command = [built("-O2", sources=of_tests("judge_times.c", "judge_rates.c", "judge_motion.c")), "out.judged",
+               *map(str, (*limits.accel, *limits.rate, *limits.start, limits.slack, limits.most_percent))]
+    Path("out.judged").write_text("".join(f"{line}\n" for line in lines))
+    return subprocess.run(command, input=due, capture_output=True, text=True).stdout
+
+
+def lost_steps(due: str) -> list[int]:
+    """How many steps a motor of each axis loses at these times."""
+    done = subprocess.run([built("-O2", sources=of_tests("rotor.c"))], input=due, capture_output=True, text=True)
+    return [int(word) for word in done.stdout.split()[:3]]
