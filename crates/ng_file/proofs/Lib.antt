@@ -3,3 +3,4 @@ pub mod SectorLemmas
 pub mod RewriteLemmas
 pub mod ByteAppendLemmas
 pub mod ZeroAppendLemmas
+mod StopLemmas

@@ -2,7 +2,7 @@
 use Rattle.std.specs.Prelude.{ℕ, List, Option}
 use Rattle.ng_rig.specs.Rig.{Device}
 use Rattle.ng_file.specs.Promise.{Promise}
-use Rattle.ng_file.specs.Sectors.{AreHonest, trace_of}
+use Rattle.ng_file.specs.Sectors.{AreHonest, file_at, trace_of}
 use Rattle.ng_file.specs.declared.rig.FileRig.{FileRig}
 
 -- its number of sectors
@@ -16,6 +16,10 @@ failure_count rig = rig.failures
 -- the file that holds its sectors
 abbrev pub storage : {S W A : Type 0} → FileRig S W A → S
 storage rig = rig.sectors.file
+
+-- that file as it was at a moment of its trace; for a moment still to come, as it is
+abbrev pub storage_at : {S W A : Type 0} → ℕ → FileRig S W A → S
+storage_at t rig = file_at t rig.sectors
 
 -- the writer that it hands out to
 abbrev pub outlet : {S W A : Type 0} → FileRig S W A → W

@@ -142,6 +142,7 @@ impl<S: Storage + Drop> Sectors<S> {
     pub(crate) fn hand(&mut self, item: &Item)
         ensures file { (self.new.file ≡ self.old.file) × (begun self.new ≡ begun self.old) × (self.new.count ≡ self.old.count) }
         ensures trace { trace_of S.content self.new ≡ Handed item.now (trace_of S.content self.old) }
+        ensures honest { KeepsHonest S.content S.promise self.old self.new }
     {
         self.done = self.done.and(&Done::Hand(*item));
         self.files = self.files.and(&self.file);
