@@ -4,3 +4,4 @@ pub mod RewriteLemmas
 pub mod ByteAppendLemmas
 pub mod ZeroAppendLemmas
 mod StopLemmas
+pub mod HandOutLemmas

@@ -12,7 +12,7 @@ use Rattle.std.proofs.Math.Seq.{drop-append-add, drop-append_seam, get_or-append
 use Rattle.ng_canon.specs.declared.item.Item.{Item}
 use Rattle.ng_rig.specs.Calls.{WriteSpec}
 use Rattle.ng_rig.specs.Extent.{HasExtent}
-use Rattle.ng_rig.specs.Trace.{Trace, Began, Wrote, Perhaps, Synced, Handed, MayHold, reads, moment, trace_at}
+use Rattle.ng_rig.specs.Trace.{Trace, Began, Wrote, Perhaps, Synced, Handed, MayHold, reads, items, moment, trace_at}
 use Rattle.ng_file.specs.Bytes.{PutInPart, sector_of, with_bytes}
 use Rattle.ng_file.specs.Bytes.{Put as Puts}
 use Rattle.ng_file.specs.Promise.{Promise, IfPromised, HoldsNothingNew, IsDurable, MayHoldBesides}
@@ -34,6 +34,14 @@ module _ {S : Type 0} (content : S → Option (List ℕ)) where
       → trace_since content count (done ++ one ∷ []) (files ++ file ∷ []) ≡ trace_with content one file (trace_since content count done files)
   since-more count done [] one file same = absurd (omega (arith, same))
   since-more count done (first ∷ files) one file same = from-more (Began (image_of count (content first))) done files one file (omega (arith, same))
+
+  -- a write hands nothing out
+  pub items-put : (n : ℕ) (bytes : List ℕ) (file : S) (trace : Trace) → items (trace_with content (Put n bytes) file trace) ≡ items trace
+  items-put n bytes file trace = either (holds n bytes (content file))
+    where
+      either : (b : Bool) → items (if b then Wrote n bytes trace else Perhaps n bytes trace) ≡ items trace
+      either true = refl
+      either false = refl
 
 -- ---- one sector of bytes with another one put in
 

@@ -1,5 +1,5 @@
 -- A device in a file as its callers see it (own).
-use Rattle.std.specs.Prelude.{ℕ, List, Option}
+use Rattle.std.specs.Prelude.{ℕ, Bool, List, Option}
 use Rattle.ng_rig.specs.Rig.{Device}
 use Rattle.ng_file.specs.Promise.{Promise}
 use Rattle.ng_file.specs.Sectors.{AreHonest, file_at, trace_of}
@@ -24,6 +24,10 @@ storage_at t rig = file_at t rig.sectors
 -- the writer that it hands out to
 abbrev pub outlet : {S W A : Type 0} → FileRig S W A → W
 outlet rig = rig.out
+
+-- whether a hand-out has failed
+abbrev pub is_cut : {S W A : Type 0} → FileRig S W A → Bool
+is_cut rig = rig.cut
 
 -- the device as contracts see it: honest where the file does what it promises, and all was durable at first
 abbrev pub device_of : {S W A : Type 0} → (S → Option (List ℕ)) → (S → Promise) → FileRig S W A → Device

@@ -1,10 +1,11 @@
-use Rattle.std.proofs.Common.{◌*◌, ◌<◌, sym, subst}
+use Rattle.std.proofs.Common.{◌*◌, ◌<◌, ◌∙◌, ap, sym, subst}
 use Rattle.ng_rig.specs.Calls.{WriteSpec}
+use Rattle.ng_rig.specs.Trace.{items}
 use Rattle.ng_file.proofs.sectors.Sectors.write.Goals as goal
 use Rattle.ng_file.specs.Promise.{MayHoldBesides}
 use Rattle.ng_file.specs.Sectors.{AreHonest, KeepsHonest, trace_of}
 use Rattle.ng_file.specs.declared.done.Done.TheVariants.{Put}
-use Rattle.ng_file.proofs.SectorLemmas.{faithful-write, honest-now, invariant-now, model, spec-put, trace-now}
+use Rattle.ng_file.proofs.SectorLemmas.{faithful-write, honest-now, invariant-now, items-put, model, spec-put, trace-now}
 
 pub invariant_of-self : goal.invariant_of-self
 invariant_of-self g c =
@@ -42,3 +43,12 @@ returns-clause-honest g c =
     (Put c.args.sector c.args.bytes.now) c.and-self-inside.result.values c.and-self-inside-2.result.values c.and-self-inside.ensures c.and-self-inside-2.ensures
     (λ honest faithful fact. faithful-write c.put_at-put.result c.args.sector c.args.bytes.now faithful
     (subst (λ t. c.args.sector < t.count) (sym c.self.view_is) c.requires) fact c.told-bytes c.put_at-put.ensures.put c.put_at-put.ensures.part))
+
+pub returns-clause-items : goal.returns-clause-items
+returns-clause-items g c =
+    let s = model c.self.inside.file c.self.inside.count c.self.inside.done.values c.self.inside.files.values in
+    ap items (trace-now g.S.Storage.content g.S.Storage.promise s (Put c.args.sector c.args.bytes.now)
+    c.put_at-put.new.file c.and-self-inside.result.values c.and-self-inside-2.result.values
+    c.self.invariant.1 c.and-self-inside.ensures c.and-self-inside-2.ensures)
+    ∙ items-put g.S.Storage.content c.args.sector c.args.bytes.now c.put_at-put.new.file (trace_of g.S.Storage.content s)
+    ∙ ap (λ t. items (trace_of g.S.Storage.content t)) c.self.view_is
