@@ -3,3 +3,5 @@ pub mod SectorLemmas
 pub mod RewriteLemmas
 pub mod ByteAppendLemmas
 pub mod ZeroAppendLemmas
+mod StopLemmas
+pub mod HandOutLemmas

@@ -1,5 +1,5 @@
 -- The trace of a file's sectors, one call more, and what a read and a loss of power leave then.
-use Rattle.std.proofs.Common.{◌≡◌, ◌≢◌, ◌⊎◌, inl, inr, ℕ, ◌+◌, ◌-◌, ◌*◌, ◌<◌, ◌≤◌, ◌==◌, nat_lt, Bool, true, false}
+use Rattle.std.proofs.Common.{◌≡◌, ◌≢◌, ◌⊎◌, inl, inr, ℕ, zero, suc, ◌+◌, ◌-◌, ◌*◌, ◌<◌, ◌≤◌, ◌==◌, nat_lt, Bool, true, false}
 use Rattle.std.proofs.Common.{if◌then◌else◌, List, [], ◌∷◌, ◌++◌, Option, Some, IfSome, Result, Ok, Err, OnOk}
 use Rattle.std.proofs.Common.{OnErr, refl, sym, ◌∙◌, ap, subst, append_assoc, length, length-append, length-drop}
 use Rattle.std.proofs.Common.{take, drop, get_or, arith}
@@ -7,16 +7,18 @@ use Rattle.std.specs.Cmp.Lexicographic.{same_text, other_text}
 use Rattle.std.proofs.lemmas.Bool.{cases_eq}
 use Rattle.std.proofs.lemmas.Bool.Decides.{nat_tests}
 use Rattle.std.proofs.lemmas.List.{drop-append-le, drop-drop, drop-take, length-take-le, take-append-le, take-take}
-use Rattle.std.proofs.Math.Seq.{drop-append-add, drop-append_seam, take-append_seam}
+use Rattle.std.proofs.Math.ListN.{get_or-append}
+use Rattle.std.proofs.Math.Seq.{drop-append-add, drop-append_seam, get_or-append_seam, take-append_seam}
 use Rattle.ng_canon.specs.declared.item.Item.{Item}
 use Rattle.ng_rig.specs.Calls.{WriteSpec}
 use Rattle.ng_rig.specs.Extent.{HasExtent}
-use Rattle.ng_rig.specs.Trace.{Trace, Began, Wrote, Perhaps, Synced, Handed, reads}
+use Rattle.ng_rig.specs.Trace.{Trace, Began, Wrote, Perhaps, Synced, Handed, MayHold, reads, items, moment, trace_at}
 use Rattle.ng_file.specs.Bytes.{PutInPart, sector_of, with_bytes}
 use Rattle.ng_file.specs.Bytes.{Put as Puts}
 use Rattle.ng_file.specs.Promise.{Promise, IfPromised, HoldsNothingNew, IsDurable, MayHoldBesides}
-use Rattle.ng_file.specs.Sectors.{AreFaithful, AreHonest, IsFaithful, SectorsModel, begun, holds, image_of, trace_from, trace_of, trace_since, trace_with}
+use Rattle.ng_file.specs.Sectors.{AreFaithful, AreHonest, AreTraced, DoAsPromised, HaveStops, IsFaithful, KeepsHonest, SectorsModel, begun, holds, image_of, trace_from, trace_of, trace_since, trace_with}
 use Rattle.ng_file.specs.declared.done.Done.{Done}
+use Rattle.ng_file.specs.declared.done.Done.TheVariants.{Put, Sync, Hand}
 
 -- ---- the trace with one call more
 
@@ -32,6 +34,14 @@ module _ {S : Type 0} (content : S → Option (List ℕ)) where
       → trace_since content count (done ++ one ∷ []) (files ++ file ∷ []) ≡ trace_with content one file (trace_since content count done files)
   since-more count done [] one file same = absurd (omega (arith, same))
   since-more count done (first ∷ files) one file same = from-more (Began (image_of count (content first))) done files one file (omega (arith, same))
+
+  -- a write hands nothing out
+  pub items-put : (n : ℕ) (bytes : List ℕ) (file : S) (trace : Trace) → items (trace_with content (Put n bytes) file trace) ≡ items trace
+  items-put n bytes file trace = either (holds n bytes (content file))
+    where
+      either : (b : Bool) → items (if b then Wrote n bytes trace else Perhaps n bytes trace) ≡ items trace
+      either true = refl
+      either false = refl
 
 -- ---- one sector of bytes with another one put in
 
@@ -105,6 +115,15 @@ reads-sector {count} {bytes} {promise} {trace} f n within =
     inside : (count n : ℕ) (c : List ℕ) → n < count → (if nat_lt n count then c else []) ≡ c
     inside count n c within = grind (arith, nat_tests)
 
+-- what it reads past them
+reads-past : {count : ℕ} {bytes : Option (List ℕ)} {promise : Promise} {trace : Trace} → (f : IsFaithful count bytes promise trace) (n : ℕ) → count ≤ n
+    → reads trace n ≡ []
+reads-past {count} {bytes} {promise} {trace} f n outside =
+    ap (λ (image : ℕ → List ℕ). image n) (f.reads_are ∙ ap (image_of count) f.known) ∙ none count n (sector_of n f.held) outside
+  where
+    none : (count n : ℕ) (c : List ℕ) → count ≤ n → (if nat_lt n count then c else []) ≡ []
+    none count n c outside = grind (arith, nat_tests)
+
 pub faithful-same : {count : ℕ} {old new : Option (List ℕ)} {before after : Promise} {trace : Trace}
     → IsFaithful count old before trace → new ≡ old → HoldsNothingNew before after
     → IsFaithful count new after trace
@@ -115,11 +134,12 @@ faithful-same {count} {old} {new} f same nothing =
       fits = f.fits;
       reads_are = f.reads_are ∙ ap (image_of count) (sym same);
       stops = λ n c within may. f.stops n c within (nothing n c may);
+      past = f.past;
     }
 
 pub faithful-hand : {count : ℕ} {bytes : Option (List ℕ)} {promise : Promise} {trace : Trace} (item : Item)
     → IsFaithful count bytes promise trace → IsFaithful count bytes promise (Handed item trace)
-faithful-hand item f = record { held = f.held; known = f.known; fits = f.fits; reads_are = λ i n. f.reads_are i n; stops = f.stops }
+faithful-hand item f = record { held = f.held; known = f.known; fits = f.fits; reads_are = λ i n. f.reads_are i n; stops = f.stops; past = f.past }
 
 pub faithful-sync : {count : ℕ} {old new : Option (List ℕ)} {before after : Promise} {trace : Trace}
     → IsFaithful count old before trace → new ≡ old → IsDurable new after
@@ -133,6 +153,7 @@ faithful-sync {count} {old} {new} {before} {after} {trace} f same durable =
       fits = f.fits;
       reads_are = λ i n. (f.reads_are ∙ ap (image_of count) (sym same)) i n;
       stops = λ n c within may. only n c may ∙ sym (reads-sector f n within);
+      past = λ n outside. sym (reads-past f n outside);
     }
 
 -- whether a read returns what was put is known
@@ -170,6 +191,7 @@ module _ {count : ℕ} {old : Option (List ℕ)} {before : Promise} {trace : Tra
         fits = fits;
         reads_are = λ i m. (each m ∙ ap (λ (b : Option (List ℕ)). image_of count b m) (sym known)) i;
         stops = λ m c inside may. elim (besides n refl m c may) [ inl put ↦ inl put | inr was ↦ inr (f.stops m c inside was) ];
+        past = λ m outside. inr (f.past m outside);
       }
     where
       here : (count m n : ℕ) (bytes new old : List ℕ) → n < count → m ≡ n → bytes ≡ new → (if m == n then bytes else old) ≡ (if nat_lt m count then new else [])
@@ -195,6 +217,7 @@ module _ {count : ℕ} {old : Option (List ℕ)} {before : Promise} {trace : Tra
         fits = f.fits;
         reads_are = λ i m. (f.reads_are ∙ ap (image_of count) (f.known ∙ sym known)) i m;
         stops = λ m c inside may. elim (besides n refl m c may) [ inl put ↦ inl put | inr was ↦ inr (f.stops m c inside was) ];
+        past = λ m outside. inr (f.past m outside);
       }
 
   abbrev put_trace : Trace
@@ -255,6 +278,79 @@ pub faithful-write : {T E : Type 0} {count : ℕ} {old new : Option (List ℕ)} 
 faithful-write {count = count} {old} {new} {after = after} r n bytes f within besides whole put part =
     faithful-put new after n bytes f within besides whole (put-either r (512 * n) bytes f.held old new f.known (omega (arith, f.fits, within)) put part)
 
+-- ---- the stops of the files before, one call later
+
+-- the trace that one more call makes of another
+pub record IsOneMore (new old : Trace) : Type 0 where
+  pub clock : moment new ≡ moment old + 1
+  pub at : (t : ℕ) → trace_at t new ≡ (if nat_lt (moment old) t then new else trace_at t old)
+
+one-more : {S : Type 0} (content : S → Option (List ℕ)) (done : Done) (file : S) (trace : Trace) → IsOneMore (trace_with content done file trace) trace
+one-more content (Put n bytes) file trace = either (holds n bytes (content file))
+  where
+    either : (b : Bool) → IsOneMore (if b then Wrote n bytes trace else Perhaps n bytes trace) trace
+    either true = record { clock = refl; at = λ t. refl }
+    either false = record { clock = refl; at = λ t. refl }
+one-more content Sync file trace = record { clock = refl; at = λ t. refl }
+one-more content (Hand item) file trace = record { clock = refl; at = λ t. refl }
+
+earlier : (t m : ℕ) (new old : Trace) → t ≤ m → (if nat_lt m t then new else old) ≡ old
+earlier t m new old le = grind (arith, nat_tests)
+
+later : (t m : ℕ) (new old : Trace) → m < t → (if nat_lt m t then new else old) ≡ new
+later t m new old lt = grind (arith, nat_tests)
+
+side : (a b : ℕ) → (a ≤ b) ⊎ (b < a)
+side a b = grind arith
+
+-- the first file, of which all is durable
+pub stops-begun : {S : Type 0} (content : S → Option (List ℕ)) (count : ℕ) (promise : S → Promise) (file : S)
+    → IsFaithful count (content file) (promise file) (Began (image_of count (content file)))
+    → HaveStops count promise (file ∷ []) (Began (image_of count (content file)))
+stops-begun content count promise file f = record { clock = refl; stops = at; past = λ t n outside. f.past n outside }
+  where
+    at : (t : ℕ) (other : _) → t < length (file ∷ []) → (n : ℕ) (c : List ℕ) → n < count → (promise (get_or (file ∷ []) t other)).may_hold n c
+        → MayHold (trace_at t (Began (image_of count (content file)))) n c
+    at zero other lt n c within may = f.stops n c within may
+    at (suc t) other lt n c within may = absurd (omega (arith, lt))
+
+module _ {S : Type 0} {count : ℕ} {promise : S → Promise} {files : List S} {new old : Trace} (file : S) (one : IsOneMore new old)
+    (before : HaveStops count promise files old)
+    (now : (n : ℕ) (c : List ℕ) → n < count → (promise file).may_hold n c → MayHold new n c) (past : (n : ℕ) → count ≤ n → MayHold new n []) where
+  trace-earlier : (t : ℕ) → t ≤ moment old → trace_at t new ≡ trace_at t old
+  trace-earlier t le = one.at t ∙ earlier t (moment old) new (trace_at t old) le
+
+  trace-later : (t : ℕ) → moment old < t → trace_at t new ≡ new
+  trace-later t lt = one.at t ∙ later t (moment old) new (trace_at t old) lt
+
+  stops-at : (t : ℕ) (other : S) → t < length (files ++ file ∷ []) → (n : ℕ) (c : List ℕ) → n < count
+      → (promise (get_or (files ++ file ∷ []) t other)).may_hold n c → MayHold (trace_at t new) n c
+  stops-at t other lt n c within may = elim (side t (moment old)) [
+    | inl le ↦
+        let short : t < length files = omega (arith, le, before.clock) in
+        subst (λ (trace : Trace). MayHold trace n c) (sym (trace-earlier t le))
+        (before.stops t other short n c within
+        (subst (λ (f : S). (promise f).may_hold n c) (get_or-append files (file ∷ []) other t short) may))
+    | inr late ↦
+        let long : length (files ++ file ∷ []) ≡ length files + 1 = length-append files (file ∷ []) in
+        let last : t ≡ length files = omega (arith, late, lt, long, before.clock) in
+        subst (λ (trace : Trace). MayHold trace n c) (sym (trace-later t late))
+        (now n c within
+        (subst (λ (f : S). (promise f).may_hold n c)
+        (ap (λ (k : ℕ). get_or (files ++ file ∷ []) k other) last ∙ get_or-append_seam files file [] other) may))
+  ]
+
+  past-at : (t n : ℕ) → count ≤ n → MayHold (trace_at t new) n []
+  past-at t n outside = elim (side t (moment old)) [
+    | inl le ↦ subst (λ (trace : Trace). MayHold trace n []) (sym (trace-earlier t le)) (before.past t n outside)
+    | inr late ↦ subst (λ (trace : Trace). MayHold trace n []) (sym (trace-later t late)) (past n outside)
+  ]
+
+  pub stops-more : HaveStops count promise (files ++ file ∷ []) new
+  stops-more =
+      let long : length (files ++ file ∷ []) ≡ length files + 1 = length-append files (file ∷ []) in
+      record { clock = omega (arith, long, before.clock, one.clock); stops = stops-at; past = past-at }
+
 -- ---- the same of sectors, as the calls leave them
 
 abbrev pub model : {S : Type 0} → S → ℕ → List Done → List S → SectorsModel S
@@ -308,7 +404,7 @@ module _ {S : Type 0} (content : S → Option (List ℕ)) (promise : S → Promi
 
     -- a call keeps honesty, where its storage does
     abbrev Keeps : SectorsModel S → Type 0
-    Keeps t = (AreHonest content promise s → AreHonest content promise t) × (AreHonest content promise t → AreHonest content promise s)
+    Keeps t = (DoAsPromised content promise s → DoAsPromised content promise t) × (DoAsPromised content promise t → DoAsPromised content promise s)
 
     keeps-from : (t : SectorsModel S) → t.file ≡ file → begun t ≡ begun s → Keeps t
     keeps-from t here same = (
@@ -316,16 +412,31 @@ module _ {S : Type 0} (content : S → Option (List ℕ)) (promise : S → Promi
       (λ h. (p.back (subst (λ (f : S). (promise f).honest) here h.0), subst (λ (b : S). IsDurable (content b) (promise b)) same h.1)),
     )
 
+    -- both follow the trace, where they do what was promised
+    both : (t : SectorsModel S) → Keeps t → AreFaithful content promise t → KeepsHonest content promise s t
+    both t keeps faithful = (
+      (λ h. let promised = keeps.0 h.0 in (promised, faithful promised)),
+      (λ h. let promised = keeps.1 h.0 in (promised, inv.2 promised)),
+    )
+
     -- one that isn't kept
     abbrev moved : SectorsModel S
     moved = now_of s file s.done s.files
 
-    pub keeps-moved : Keeps moved
+    keeps-moved : Keeps moved
     keeps-moved = keeps-from moved refl (begun-same s.files (length s.done) file s.file long)
 
     pub invariant-moved : content file ≡ content s.file → (fact → HoldsNothingNew (promise s.file) (promise file)) → Invariant moved
-    invariant-moved same nothing =
-        (inv.0, long, (λ honest. let before = keeps-moved.1 honest in faithful-same (inv.2 before) same (nothing (p.holds before.0))))
+    invariant-moved same nothing = (
+      inv.0,
+      long,
+      (λ honest. let promised = keeps-moved.1 honest in
+          let before = inv.2 promised in
+          (faithful-same before.0 same (nothing (p.holds promised.0)), before.1)),
+    )
+
+    pub honest-moved : content file ≡ content s.file → (fact → HoldsNothingNew (promise s.file) (promise file)) → KeepsHonest content promise s moved
+    honest-moved same nothing = both moved keeps-moved (invariant-moved same nothing).2
 
     -- one that is
     module _ (one : Done) (done : List Done) (files : List S) (done_is : done ≡ s.done ++ one ∷ []) (files_are : files ≡ s.files ++ file ∷ []) where
@@ -335,18 +446,32 @@ module _ {S : Type 0} (content : S → Option (List ℕ)) (promise : S → Promi
       is : now ≡ grown s one file
       is = now-grown s one file done files done_is files_are
 
-      pub keeps-now : Keeps now
+      keeps-now : Keeps now
       keeps-now = subst Keeps (sym is) (keeps-from (grown s one file) refl (begun-grown s one file long))
 
-      pub invariant-now : ((honest : AreHonest content promise s) → IsFaithful s.count (content s.file) (promise s.file) (trace_of content s) → fact
-          → IsFaithful s.count (content file) (promise file) (trace_with content one file (trace_of content s))) → Invariant now
+      abbrev Follows : Type 0
+      Follows = (honest : DoAsPromised content promise s) → IsFaithful s.count (content s.file) (promise s.file) (trace_of content s) → fact
+          → IsFaithful s.count (content file) (promise file) (trace_with content one file (trace_of content s))
+
+      traced : Follows → DoAsPromised content promise s → AreTraced content promise (grown s one file)
+      traced faithful promised =
+          let before = inv.2 promised in
+          let next = faithful promised before.0 (p.holds promised.0) in
+          let stops = stops-more file (one-more content one file (trace_of content s)) before.1 next.stops next.past in
+          let whole = sym (trace-grown s one file long) in (
+            subst (IsFaithful s.count (content file) (promise file)) whole next,
+            subst (HaveStops s.count promise (s.files ++ file ∷ [])) whole stops,
+          )
+
+      pub invariant-now : Follows → Invariant now
       invariant-now faithful = (
         inv.0,
         subst (λ (t : SectorsModel S). length t.files ≡ length t.done + 1) (sym is) (long-grown s one file long),
-        (λ honest. let before = keeps-now.1 honest in
-            subst (IsFaithful s.count (content file) (promise file)) (sym (trace-now s one file done files long done_is files_are))
-            (faithful before (inv.2 before) (p.holds before.0))),
+        (λ honest. subst (AreTraced content promise) (sym is) (traced faithful (keeps-now.1 honest))),
       )
+
+      pub honest-now : Follows → KeepsHonest content promise s now
+      honest-now faithful = both now keeps-now (invariant-now faithful).2
 
 -- ---- what a device owes of its extent
 
@@ -361,11 +486,8 @@ pub extent : {count : ℕ} {bytes : Option (List ℕ)} {promise : Promise} {trac
 extent {count} {bytes} {promise} {trace} f =
     record {
       within = λ n lt. subst (λ (c : List ℕ). 0 < length c) (sym (reads-sector f n lt)) (sector-whole count n f.held f.fits lt);
-      past = λ n le. ap (λ (image : ℕ → List ℕ). image n) (f.reads_are ∙ ap (image_of count) f.known) ∙ outside count n (sector_of n f.held) le;
+      past = λ n le. reads-past f n le;
     }
-  where
-    outside : (count n : ℕ) (c : List ℕ) → count ≤ n → (if nat_lt n count then c else []) ≡ []
-    outside count n c le = grind (arith, nat_tests)
 
 -- a read of what is known
 pub read-bytes : {T E : Type 0} {count : ℕ} {bytes : Option (List ℕ)} {promise : Promise} {trace : Trace}

@@ -3,3 +3,4 @@ pub mod Copying
 pub mod Rig
 pub mod Promise
 pub mod Sectors
+pub mod HandOuts

@@ -1,5 +1,6 @@
 -- What a storage promises, and what a loss of power may leave of its bytes (own).
-use Rattle.std.specs.Prelude.{◌≡◌, ◌⊎◌, ◌*◌, ℕ, List, Option, IfSome}
+use Rattle.std.specs.Prelude.{◌≡◌, ◌⊎◌, ◌*◌, ◌<◌, ◌≤◌, ℕ, List, [], Option, IfSome}
+use Rattle.ng_rig.specs.Trace.{Image}
 use Rattle.ng_file.specs.Bytes.{sector_of}
 
 pub record Promise : Type 1 where
@@ -29,3 +30,9 @@ MayHoldBesides place bytes old new =
 -- a loss of power leaves of each sector what a read returns
 abbrev pub IsDurable : Option (List ℕ) → Promise → Type 0
 IsDurable content promise = IfSome content (λ held. (n : ℕ) (c : List ℕ) → promise.may_hold n c → c ≡ sector_of n held)
+
+-- What a loss of power leaves of a storage with so many sectors: of each something that it may hold then, and nothing
+-- past them.
+pub record IsLeft (count : ℕ) (promise : Promise) (image : Image) : Type 0 where
+  pub within : (n : ℕ) → n < count → promise.may_hold n (image n)
+  pub past : (n : ℕ) → count ≤ n → image n ≡ []

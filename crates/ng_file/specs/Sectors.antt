@@ -1,7 +1,7 @@
 -- A file as a list of sectors, and what was done with it (own).
-use Rattle.std.specs.Prelude.{◌≡◌, ◌<◌, ◌≤◌, ◌*◌, ℕ, Bool, false, List, [], ◌∷◌, Option, Some, None, if◌then◌else◌, get_or, length, nat_lt, nat_eq}
+use Rattle.std.specs.Prelude.{◌≡◌, ◌<◌, ◌≤◌, ◌+◌, ◌*◌, ℕ, Bool, false, List, [], ◌∷◌, Option, Some, None, if◌then◌else◌, get_or, length, nat_lt, nat_eq}
 use lib.Pointwise.{pointwise}
-use Rattle.ng_rig.specs.Trace.{Image, Trace, Began, Wrote, Perhaps, Synced, Handed, MayHold, reads}
+use Rattle.ng_rig.specs.Trace.{Image, Trace, Began, Wrote, Perhaps, Synced, Handed, MayHold, reads, moment, trace_at}
 use Rattle.ng_file.specs.Bytes.{sector_of}
 use Rattle.ng_file.specs.Promise.{Promise, IsDurable}
 use Rattle.ng_file.specs.declared.done.Done.{Done}
@@ -52,6 +52,10 @@ module _ {S : Type 0} (content : S → Option (List ℕ)) where
 abbrev pub begun : {S : Type 0} → SectorsModel S → S
 begun s = get_or s.files 0 s.file
 
+-- the file as it was at a moment of the trace; for a moment still to come, as it is
+abbrev pub file_at : {S : Type 0} → ℕ → SectorsModel S → S
+file_at t s = get_or s.files t s.file
+
 -- The file's bytes are known. The trace reads as they do, and each stop that the file allows is one of the trace.
 pub record IsFaithful (count : ℕ) (bytes : Option (List ℕ)) (promise : Promise) (trace : Trace) : Type 0 where
   pub held : List ℕ
@@ -59,14 +63,30 @@ pub record IsFaithful (count : ℕ) (bytes : Option (List ℕ)) (promise : Promi
   pub fits : 512 * count ≤ length held
   pub reads_are : reads trace ≡ image_of count bytes
   pub stops : (n : ℕ) (c : List ℕ) → n < count → promise.may_hold n c → MayHold trace n c
+  pub past : (n : ℕ) → count ≤ n → MayHold trace n []
+
+-- These were the file, one at each moment of the trace. Each stop that it allowed then is one of the trace at that moment.
+pub record HaveStops {S : Type 0} (count : ℕ) (promise : S → Promise) (files : List S) (trace : Trace) : Type 0 where
+  pub clock : length files ≡ moment trace + 1
+  pub stops : (t : ℕ) (other : S) → t < length files → (n : ℕ) (c : List ℕ) → n < count
+      → (promise (get_or files t other)).may_hold n c → MayHold (trace_at t trace) n c
+  pub past : (t n : ℕ) → count ≤ n → MayHold (trace_at t trace) n []
 
 module _ {S : Type 0} (content : S → Option (List ℕ)) (promise : S → Promise) where
   -- the file does what it promises, and all was durable when the sectors were made of it
-  abbrev pub AreHonest : SectorsModel S → Type 0
-  AreHonest s = (promise s.file).honest × IsDurable (content (begun s)) (promise (begun s))
+  abbrev pub DoAsPromised : SectorsModel S → Type 0
+  DoAsPromised s = (promise s.file).honest × IsDurable (content (begun s)) (promise (begun s))
+
+  -- the trace says what a read returns, and what a loss of power leaves, now and at each moment before
+  abbrev pub AreTraced : SectorsModel S → Type 0
+  AreTraced s = IsFaithful s.count (content s.file) (promise s.file) (trace_of content s) × HaveStops s.count promise s.files (trace_of content s)
 
   abbrev pub AreFaithful : SectorsModel S → Type 0
-  AreFaithful s = AreHonest s → IsFaithful s.count (content s.file) (promise s.file) (trace_of content s)
+  AreFaithful s = DoAsPromised s → AreTraced s
+
+  -- both
+  abbrev pub AreHonest : SectorsModel S → Type 0
+  AreHonest s = DoAsPromised s × AreTraced s
 
   -- a call keeps their honesty in both directions
   abbrev pub KeepsHonest : SectorsModel S → SectorsModel S → Type 0

@@ -18,6 +18,7 @@ mod copying;
 mod device;
 mod done;
 mod hold;
+pub mod laws;
 mod lengthening;
 mod opened;
 mod rewriting;

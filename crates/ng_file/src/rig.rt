@@ -7,7 +7,7 @@ use ng_lines::push_item;
 use ng_rig::{Failed, Rig};
 use std::alloc::Allocator;
 use std::io;
-use std::io::Write;
+use std::io::{ErrorKind, Write};
 
 /// The most bytes of the line of any item.
 const LINE: usize = 64;
@@ -15,22 +15,26 @@ const LINE: usize = 64;
 /// A device whose sectors are those of a file, and whose hand-outs are lines appended to a writer.
 ///
 /// Its size is the number of whole sectors that the file had when the device was made. A call fails if the file or the
-/// writer fails; a read or a write also fails if the file has become too short for its sector.
+/// writer fails; a read or a write also fails if the file has become too short for its sector. After a hand-out that
+/// failed each further one fails and writes nothing, since no line may follow a part of another.
 #[derive(Drop)]
 pub struct FileRig<S: Storage, W, A: Allocator> {
     sectors: Sectors<S>,
     out: W,
     line: Vec<u8, A>,
+    /// Whether a hand-out has failed.
+    cut: bool,
     failures: u64,
 }
 
 impl<S: Storage + Drop, W: Write + Drop, A: Allocator + Copy + Drop> FileRig<S, W, A> {
-    ghost use Rattle.std.specs.Prelude.{◌≡◌, ◌+◌, ◌*◌, ◌/◌, ◌%◌, ◌^◌, ◌<◌, ◌≤◌, IfOk, IfSome, OnOk, OnErr, is_ok, length};
+    ghost use Rattle.std.specs.Prelude.{◌≡◌, ◌+◌, ◌*◌, ◌/◌, ◌%◌, ◌^◌, ◌<◌, ◌≤◌, IfOk, IfSome, OnOk, OnErr, is_err, is_ok, length, false, true};
     ghost use Rattle.ng_rig.specs.Calls.{FailureCountSpec};
     ghost use Rattle.std.specs.Io.KnownBytes.{Appends};
     ghost use Rattle.ng_file.specs.Bytes.{AppendsBeginning, Put, PutInPart};
     ghost use Rattle.ng_rig.specs.Trace.{Began};
-    ghost use Rattle.ng_file.specs.Rig.{failure_count, outlet, sector_count, storage};
+    ghost use Rattle.ng_file.specs.Rig.{failure_count, is_cut, outlet, sector_count, storage};
+    ghost use Rattle.ng_file.specs.HandOuts.{HasHandedOut};
     ghost use Rattle.ng_file.specs.Promise.{IsDurable};
     ghost use Rattle.ng_file.specs.Sectors.{AreHonest, image_of, trace_of};
     ghost use Rattle.ng_lines.specs.Lines.{item_line};
@@ -44,6 +48,7 @@ impl<S: Storage + Drop, W: Write + Drop, A: Allocator + Copy + Drop> FileRig<S, 
         ensures failures { IfOk result (λ rig. failure_count rig ≡ 0) }
         ensures trace { IfOk result (λ rig. trace_of S.content rig.sectors ≡ Began (image_of (sector_count rig) (S.content file))) }
         ensures honest { IfOk result (λ rig. (S.promise file).honest → IsDurable (S.content file) (S.promise file) → AreHonest S.content S.promise rig.sectors) }
+        ensures handed { IfOk result (λ rig. HasHandedOut S.content W.contents (W.contents out) rig) }
     {
         let line = Vec::with_capacity(alloc, LINE)?;
         let sectors = Sectors::over(file)?;
@@ -51,6 +56,7 @@ impl<S: Storage + Drop, W: Write + Drop, A: Allocator + Copy + Drop> FileRig<S, 
             sectors,
             out,
             line,
+            cut: false,
             failures: 0,
         })
     }
@@ -63,6 +69,7 @@ impl<S: Storage + Drop, W: Write + Drop, A: Allocator + Copy + Drop> FileRig<S, 
             sectors,
             out,
             line: _,
+            cut: _,
             failures: _,
         } = self;
         (sectors.into_file(), out)
@@ -72,7 +79,7 @@ impl<S: Storage + Drop, W: Write + Drop, A: Allocator + Copy + Drop> FileRig<S, 
     fn put_line(&mut self, item: Item) -> io::Result<()>
         ensures line { OnOk result (Appends (W.contents (outlet self.old)) (W.contents (outlet self.new)) (item_line item)) }
         ensures part { OnErr result (AppendsBeginning (W.contents (outlet self.old)) (W.contents (outlet self.new)) (item_line item)) }
-        ensures others { (self.new.sectors ≡ self.old.sectors) × (failure_count self.new ≡ failure_count self.old) }
+        ensures others { (self.new.sectors ≡ self.old.sectors) × (failure_count self.new ≡ failure_count self.old) × (is_cut self.new ≡ is_cut self.old) }
     {
         self.line.clear();
         push_item(&mut self.line, item)?;
@@ -80,11 +87,28 @@ impl<S: Storage + Drop, W: Write + Drop, A: Allocator + Copy + Drop> FileRig<S, 
         self.out.flush()
     }
 
+    /// The same if no line was cut off before. If one was, it fails, and nothing is written.
+    fn put_next_line(&mut self, item: Item) -> io::Result<()>
+        ensures line { OnOk result (Appends (W.contents (outlet self.old)) (W.contents (outlet self.new)) (item_line item)) }
+        ensures part { OnErr result (AppendsBeginning (W.contents (outlet self.old)) (W.contents (outlet self.new)) (item_line item)) }
+        ensures others { (self.new.sectors ≡ self.old.sectors) × (failure_count self.new ≡ failure_count self.old) }
+        ensures was { OnOk result (is_cut self.old ≡ false) }
+        ensures is { is_cut self.new ≡ is_err result }
+        ensures stays { is_cut self.old ≡ true → outlet self.new ≡ outlet self.old }
+    {
+        if self.cut {
+            return Err(io::Error::from(ErrorKind::BrokenPipe));
+        }
+        let put = self.put_line(item);
+        self.cut = put.is_err();
+        put
+    }
+
     /// Counts a failure of the file or the writer.
     fn counted(&mut self, outcome: io::Result<()>) -> Result<(), Failed>
         ensures same { is_ok result ≡ is_ok outcome }
         ensures failures { FailureCountSpec result (failure_count self.old) (failure_count self.new) }
-        ensures others { (self.new.sectors ≡ self.old.sectors) × (outlet self.new ≡ outlet self.old) }
+        ensures others { (self.new.sectors ≡ self.old.sectors) × (outlet self.new ≡ outlet self.old) × (is_cut self.new ≡ is_cut self.old) }
     {
         match outcome {
             Ok(()) => Ok(()),
@@ -102,6 +126,7 @@ impl<S: Storage + Drop, W: Write + Drop, A: Allocator + Copy + Drop> Rig for Fil
     ghost use Rattle.ng_rig.specs.Calls.{HandOutSpec, IfHonest, IsCall, SyncSpec, WriteSpec};
     ghost use Rattle.ng_rig.specs.Trace.{reads};
     ghost use Rattle.ng_file.specs.Bytes.{AppendsBeginning, Put, PutInPart, sector_of};
+    ghost use Rattle.ng_file.specs.HandOuts.{KeepsHandedOut};
     ghost use Rattle.ng_file.specs.Rig.{device_of, outlet, sector_count, storage};
     ghost use Rattle.ng_file.specs.Sectors.{trace_of};
     ghost use Rattle.ng_lines.specs.Lines.{item_line};
@@ -124,6 +149,7 @@ impl<S: Storage + Drop, W: Write + Drop, A: Allocator + Copy + Drop> Rig for Fil
         ensures trace { IfHonest (device_of S.content S.promise self.old) (device_of S.content S.promise self.new) (trace_of S.content self.new.sectors ≡ trace_of S.content self.old.sectors) }
         ensures stays { (S.content (storage self.new) ≡ S.content (storage self.old)) × (outlet self.new ≡ outlet self.old) }
         ensures call { IsCall result (device_of S.content S.promise self.old) (device_of S.content S.promise self.new) }
+        ensures handed { KeepsHandedOut S.content W.contents self.old self.new }
     {
         let read = self.sectors.read(sector, into);
         self.counted(read)
@@ -139,6 +165,7 @@ impl<S: Storage + Drop, W: Write + Drop, A: Allocator + Copy + Drop> Rig for Fil
             (WriteSpec result sector bytes.now (trace_of S.content self.old.sectors) (trace_of S.content self.new.sectors)) }
         ensures stays { outlet self.new ≡ outlet self.old }
         ensures call { IsCall result (device_of S.content S.promise self.old) (device_of S.content S.promise self.new) }
+        ensures handed { KeepsHandedOut S.content W.contents self.old self.new }
     {
         let put = self.sectors.write(sector, bytes);
         self.counted(put)
@@ -151,13 +178,14 @@ impl<S: Storage + Drop, W: Write + Drop, A: Allocator + Copy + Drop> Rig for Fil
         ensures trace { IfHonest (device_of S.content S.promise self.old) (device_of S.content S.promise self.new)
             (SyncSpec result (trace_of S.content self.old.sectors) (trace_of S.content self.new.sectors)) }
         ensures call { IsCall result (device_of S.content S.promise self.old) (device_of S.content S.promise self.new) }
+        ensures handed { KeepsHandedOut S.content W.contents self.old self.new }
     {
         let synced = self.sectors.sync();
         self.counted(synced)
     }
 
     /// Appends the item's line and flushes the writer. Doesn't allocate. After a failure the beginning of the line may
-    /// have been written.
+    /// have been written; and after that nothing more is.
     fn hand_out(&mut self, item: Item) -> Result<(), Failed>
         ensures line { OnOk result (Appends (W.contents (outlet self.old)) (W.contents (outlet self.new)) (item_line item)) }
         ensures part { OnErr result (AppendsBeginning (W.contents (outlet self.old)) (W.contents (outlet self.new)) (item_line item)) }
@@ -165,8 +193,9 @@ impl<S: Storage + Drop, W: Write + Drop, A: Allocator + Copy + Drop> Rig for Fil
             (HandOutSpec result item (trace_of S.content self.old.sectors) (trace_of S.content self.new.sectors)) }
         ensures stays { storage self.new ≡ storage self.old }
         ensures call { IsCall result (device_of S.content S.promise self.old) (device_of S.content S.promise self.new) }
+        ensures handed { KeepsHandedOut S.content W.contents self.old self.new }
     {
-        let put = self.put_line(item);
+        let put = self.put_next_line(item);
         if put.is_ok() {
             self.sectors.hand(&item);
         }

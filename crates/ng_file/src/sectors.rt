@@ -54,7 +54,7 @@ impl<S: Storage + Drop> Sectors<S> {
     ghost use Rattle.std.specs.Prelude.{◌≡◌, ◌<◌, ◌≤◌, ◌+◌, ◌*◌, ◌/◌, ◌^◌, ℕ, IfOk, IfSome, OnOk, OnErr, length};
     ghost use Rattle.ng_rig.specs.Calls.{WriteSpec, SyncSpec};
     ghost use Rattle.ng_rig.specs.Extent.{HasExtent};
-    ghost use Rattle.ng_rig.specs.Trace.{Began, Handed, reads};
+    ghost use Rattle.ng_rig.specs.Trace.{Began, Handed, items, reads};
     ghost use Rattle.ng_file.specs.Bytes.{Put, PutInPart, sector_of};
     ghost use Rattle.ng_file.specs.Promise.{IsDurable};
     ghost use Rattle.ng_file.specs.Sectors.{AreHonest, KeepsHonest, begun, image_of, trace_of};
@@ -115,6 +115,7 @@ impl<S: Storage + Drop> Sectors<S> {
         ensures put { OnOk result (Put (512 * sector) bytes.now (S.content self.old.file) (S.content self.new.file)) }
         ensures part { OnErr result (PutInPart (512 * sector) bytes.now (S.content self.old.file) (S.content self.new.file)) }
         ensures trace { AreHonest S.content S.promise self.old → WriteSpec result sector bytes.now (trace_of S.content self.old) (trace_of S.content self.new) }
+        ensures items { items (trace_of S.content self.new) ≡ items (trace_of S.content self.old) }
         ensures count { self.new.count ≡ self.old.count }
         ensures honest { KeepsHonest S.content S.promise self.old self.new }
     {
@@ -142,6 +143,7 @@ impl<S: Storage + Drop> Sectors<S> {
     pub(crate) fn hand(&mut self, item: &Item)
         ensures file { (self.new.file ≡ self.old.file) × (begun self.new ≡ begun self.old) × (self.new.count ≡ self.old.count) }
         ensures trace { trace_of S.content self.new ≡ Handed item.now (trace_of S.content self.old) }
+        ensures honest { KeepsHonest S.content S.promise self.old self.new }
     {
         self.done = self.done.and(&Done::Hand(*item));
         self.files = self.files.and(&self.file);
