@@ -49,11 +49,19 @@ def naming(path: str | Path) -> Iterator[None]:
 def read(path: str | Path, most: int | None = None) -> bytes:
     """All bytes of a file. Raises OSError with its path, also where it has more than `most`, as a rule more than a
     program could have, and where it is no file: of a pipe nothing may ever come, and of /dev/zero there is no end."""
-    with naming(path), open(path, "rb", opener=open_without_waiting) as file:
-        mode = os.fstat(file.fileno()).st_mode
-        if not stat.S_ISREG(mode):
-            raise OSError(errno.EINVAL, f"no file, but {_what(mode)}")
+    with naming(path), opened(path) as file:
         return _all(file, MOST if most is None else most)
+
+
+def opened(path: str | Path, may_be_disk: bool = False) -> BinaryIO:
+    """A file, or a disk where that may be, opened to be read. Raises OSError with its path, of a pipe at once."""
+    with naming(path):
+        file = open(path, "rb", opener=open_without_waiting)
+        mode = os.fstat(file.fileno()).st_mode
+        if stat.S_ISREG(mode) or may_be_disk and stat.S_ISBLK(mode):
+            return file
+        file.close()
+        raise OSError(errno.EINVAL, f"no file, but {_what(mode)}")
 
 
 def read_input() -> bytes:
@@ -86,12 +94,17 @@ def _all(file: BinaryIO, most: int) -> bytes:
     return data
 
 
+def is_device(begin: bytes) -> bool:
+    """Whether a device begins so, by one of its two headers; of a file that holds one the first 520 bytes tell it."""
+    return _MARK in (begin[:8], begin[_SECTOR:_SECTOR + 8])
+
+
 def kind(path: str | Path) -> str | None:
     """What of a machine's a file is, by its first bytes: `a device`, `settings`, `an OUT`, `a player's record`; None if
     it is none of them. Raises OSError."""
     with naming(path), open(path, "rb") as file:
         begin = file.read(_BEGIN)
-    if _MARK in (begin[:8], begin[_SECTOR:_SECTOR + 8]):
+    if is_device(begin):
         return "a device"
     if _RECORD.match(begin):
         return "a player's record"

@@ -4,6 +4,7 @@
 #include <string.h>
 
 typedef unsigned __int128 wide;
+typedef __int128 wide_whole;
 
 /* The root of a number, rounded down, by Newton. */
 static wide whole_root(wide square) {
@@ -67,10 +68,10 @@ static bool next_pulse(struct moves *from, struct move *move) {
     move->lines = player->lines;
     move->bytes = player->bytes;
     for (int axis = 0; axis < 3; axis++) {
-        int64_t all = player->errand.legs[from->leg][axis] - from->begun[axis];
-        int64_t twice = 2 * from->number * all + from->count;
-        int64_t there = from->begun[axis] + (twice >= 0 ? twice / (2 * from->count)
-                                                        : -((2 * from->count - 1 - twice) / (2 * from->count)));
+        wide_whole all = player->errand.legs[from->leg][axis] - from->begun[axis];
+        wide_whole both = 2 * (wide_whole)from->count;
+        wide_whole twice = 2 * from->number * all + from->count;
+        int64_t there = from->begun[axis] + (int64_t)(twice >= 0 ? twice / both : -((both - 1 - twice) / both));
         move->line.step[axis] = (int)(there - from->at[axis]);
         from->at[axis] = there;
     }

@@ -50,6 +50,11 @@ static bool read_percent(const char *text, size_t size, const char *words, int *
     return number >= 1;
 }
 
+/* How much `percent` may be; 0 where there are no ramps. */
+static int most_percent(const struct player *player) {
+    return player->machine != NULL ? (int)player->machine->limits.most_percent : 0;
+}
+
 /* Reads "synced BYTES". */
 static bool read_synced(const char *text, size_t size, uint64_t *bytes) {
     struct scan scan = {text, text + size};
@@ -82,7 +87,7 @@ bool order_heed(struct player *player, const char *text, size_t size) {
         atomic_store(&player->is_held, true);
     } else if (is_word(text, size, "release")) {
         release(player);
-    } else if (read_percent(text, size, "percent ", &percent) && percent <= player->most_percent) {
+    } else if (read_percent(text, size, "percent ", &percent) && percent <= most_percent(player)) {
         atomic_store(&player->percent, percent);
     } else if (read_percent(text, size, "spindle percent ", &percent)) {
         override_spindle(player, percent);

@@ -108,9 +108,11 @@ static bool has_room(void) {
 
 /* How many lines are wanted in hand: those that a sink has come before those of the pacer. */
 static unsigned lines_wanted(const struct play *play) {
-    uint64_t ahead = lines_given(play) - play->player->lines;
     uint64_t wanted = window_lines(&window);
     if (link_is_there()) {
+        player_lock(play->player); /* the thread of the sink counts */
+        uint64_t ahead = lines_given(play) - play->player->lines;
+        player_unlock(play->player);
         wanted = (wanted < LINK_LINES ? wanted : LINK_LINES) + ahead;
     }
     return (unsigned)(wanted < WINDOW_MOST ? wanted : WINDOW_MOST);
@@ -259,7 +261,6 @@ void begin_paced(struct play *play) {
     ended = 0;
     pace_begin(&pace, &play->machine.limits);
     window_begin(&window, &play->machine.limits, play->machine.window_lines);
-    play->player->most_percent = (int)play->machine.limits.most_percent;
     atomic_store(&play->player->wants, window_lines(&window));
 }
 

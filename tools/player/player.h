@@ -30,7 +30,6 @@ struct player {
     int64_t high_nm[3];
     const struct machine *machine; /* NULL without --machine */
     struct backlash backlash;      /* none without it */
-    int most_percent; /* how much `percent` may be; 0 where there are no ramps */
     struct keeper keeper;
     int socket; /* -1 where nobody can ask */
     int wake;   /* an event: there are lines in hand */

@@ -55,6 +55,15 @@ static ssize_t read_at(int file, char *to, size_t size, uint64_t from) {
     return (ssize_t)done;
 }
 
+/* Whether a file is a device, by one of its two headers: docs/DEVICE.md. */
+static bool is_device(int file) {
+    static const char mark[] = "RS274NGC";
+    enum { MARK = sizeof mark - 1, SECTOR = 512 };
+    char begin[SECTOR + MARK] = "";
+    read_at(file, begin, sizeof begin, 0);
+    return memcmp(begin, mark, MARK) == 0 || memcmp(begin + SECTOR, mark, MARK) == 0;
+}
+
 bool source_open(struct source *source, const char *path, int pipe_bytes, bool follows, struct cause *why) {
     struct stat what;
     source->limit = UINT64_MAX;
@@ -69,6 +78,9 @@ bool source_open(struct source *source, const char *path, int pipe_bytes, bool f
     source->is_pipe = S_ISFIFO(what.st_mode);
     if (!source->is_pipe && !S_ISREG(what.st_mode)) {
         return because(why, "%s: neither a file nor a named pipe", path);
+    }
+    if (!source->is_pipe && is_device(source->file)) {
+        return because(why, "%s: it is a device, and no OUT", path);
     }
     if (source->is_pipe) {
         resize(source, pipe_bytes);

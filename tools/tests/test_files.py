@@ -130,9 +130,13 @@ class Read(InFolder):
         self.assertEqual(files.cause(caught.exception), ".: Is a directory")
         most, files.MOST = files.MOST, 1000
         self.addCleanup(setattr, files, "MOST", most)
-        with self.assertRaises(OSError) as caught:
-            read("/dev/zero")
-        self.assertEqual(files.cause(caught.exception), "/dev/zero: it has more than 1,000 bytes")
+        Path("long").write_bytes(bytes(1001))
+        os.mkfifo("pipe")
+        for path, said in (("long", "it has more than 1,000 bytes"), ("pipe", "no file, but a pipe"),
+                           ("/dev/zero", "no file, but a terminal or a line to a machine")):
+            with self.assertRaises(OSError) as caught:
+                read(path)
+            self.assertEqual(files.cause(caught.exception), f"{path}: {said}")
         with open("/dev/zero") as zero, mock.patch.object(sys, "stdin", zero), self.assertRaises(OSError) as caught:
             files.read_input()
         self.assertEqual(files.cause(caught.exception), "standard input: it has more than 1,000 bytes")

@@ -158,7 +158,7 @@ motion.toml: warning: a traverse of 3,000 mm/min is slowed down along Z: rate_mm
     def test_without_end(self) -> None:
         """A machine's file that is far too long, as /dev/zero is, isn't read to its end, nor given to `ngc pace`."""
         Path("motion.toml").write_text(MOTION + "# " + "x" * 1000 + "\n")
-        with patch.object(files, "MOST", 1000), patch.object(subprocess, "run") as run:
+        with patch.object(files, "MOST_SETTINGS", 1000), patch.object(subprocess, "run") as run:
             self.assertRaisesRegex(OSError, "more than 1,000 bytes", Motion.read, ngc(), "motion.toml", "first.toml")
         run.assert_not_called()
 

@@ -201,11 +201,15 @@ class Hostile:
         """Files that can't be used are named, with status 2."""
         Path("out").write_text("P 1 0 0 50\n")
         os.mkdir("folder")
+        self.device()
+        Path("half.dev").write_bytes(Path("mill.dev").read_bytes()[512:2048])  # its other header is lost
         gone, no_record = "No such file or directory", "not a record of ngc-player: it has .*"
         for words, wanted in (
                 (("none", "first.toml", "position"), f"none: {gone}"),
                 (("folder", "first.toml", "position"), "folder: Is a directory"),
                 (("/dev/null", "first.toml", "position"), "/dev/null: neither a file nor a named pipe"),
+                (("mill.dev", "first.toml", "position"), "mill.dev: it is a device, and no OUT"),
+                (("half.dev", "first.toml", "position"), "half.dev: it is a device, and no OUT"),
                 (("out", "none", "position"), f"none: {gone}"),
                 (("out", "folder", "position"), "folder: Is a directory"),
                 (("out", "first.toml", "folder"), "folder: Is a directory"),

@@ -6,7 +6,7 @@ from dataclasses import replace
 
 from ngc_tools import files
 from ngc_tools.cli.beginning import add_beginning, chosen_beginning
-from ngc_tools.cli.run import add_ngc, new_parser, run
+from ngc_tools.cli.run import MOST_MEMORY, add_ngc, new_parser, run
 from ngc_tools.failure import BadNumber, Failure, WrongWords, speaking_of
 from ngc_tools.formats.device import SLOTS
 from ngc_tools.formats.position import nanometres
@@ -60,7 +60,7 @@ def make_parser() -> argparse.ArgumentParser:
 
 def main(arguments: list[str] | None = None) -> int:
     """Adapts a program, and returns the exit status; without arguments those of the command line count."""
-    return run(make_parser(), adapt, arguments)
+    return run(make_parser(), adapt, arguments, MOST_MEMORY)
 
 
 def adapt(args: argparse.Namespace) -> int:

@@ -5,7 +5,7 @@ import textwrap
 from ngc_tools import files
 from ngc_tools.cli.beginning import add_beginning, chosen_beginning
 from ngc_tools.cli.machine import Progress, add_machine, chosen_motion, times_words
-from ngc_tools.cli.run import add_ngc, new_parser, run, whole_number
+from ngc_tools.cli.run import MOST_MEMORY, add_ngc, new_parser, run, whole_number
 from ngc_tools.failure import WrongWords, speaking_of
 from ngc_tools.formats.canonical import BadText, read_commands
 from ngc_tools.formats.device import MOST_LARGE_PROGRAM
@@ -49,6 +49,8 @@ exit status:
 AFTER = """What was left out would have moved or set something, so later lines may be refused, or taken, for that alone.
 Mend these, and check again."""
 LIKE = 10  # warnings of one kind that are shown
+MOST = 200  # refusals that are looked at, if nothing else is asked for ..
+MOST_ASKED = 5000  # .. and dry runs for them: each begins with the program's first line
 
 
 def make_parser() -> argparse.ArgumentParser:
@@ -62,15 +64,15 @@ def make_parser() -> argparse.ArgumentParser:
     parser.add_argument("--block-delete", action="store_true", help="leave out the lines that begin with a slash")
     parser.add_argument("--large", action="store_true",
                         help=f"the device is large: a program may have {MOST_LARGE_PROGRAM:,} bytes")
-    parser.add_argument("--most", metavar="N", type=whole_number, default=0, help="stop after N refusals;"
-                        " else all are found")
+    parser.add_argument("--most", metavar="N", type=whole_number, help="stop after N refusals, 0 for none;"
+                        f" else after {MOST}, or after {MOST_ASKED:,} dry runs for them")
     add_ngc(parser)
     return parser
 
 
 def main(arguments: list[str] | None = None) -> int:
     """Checks, and returns the exit status; without arguments those of the command line count."""
-    return run(make_parser(), work, arguments)
+    return run(make_parser(), work, arguments, MOST_MEMORY)
 
 
 def work(args: argparse.Namespace) -> int:
@@ -109,9 +111,11 @@ def check(ngc: str, args: argparse.Namespace, motion: Motion | None) -> int:
         report.unreadable(why)
         data = text.data
     lines, whole = Lines(data), Lines(data)
-    for finding in find_all(lines, dry_run.ask, args.most):
+    most = MOST if args.most is None else args.most
+    for finding in find_all(lines, dry_run.ask, most, dry_run.is_asked_enough):
         report.refused(finding, dry_run.breach(lines, finding.refusal), dry_run.is_placed)
-    more = bool(args.most and report.count >= args.most and dry_run.ask(b"".join(lines.all)))
+    has_stopped = bool(most) and report.count >= most or dry_run.is_asked_enough()
+    more = has_stopped and dry_run.ask(b"".join(lines.all)) is not None
     report.warned([] if more else dangers(lines, dry_run.run, dry_run.conditions()), whole, more)
     if motion and not report.count:
         print(f"{shown(args.program)}: {dry_run.times(data)}")
@@ -128,6 +132,7 @@ class DryRun:
         self.is_placed = args.device is not None or args.origin is not None
         self.settings = Settings.read(args.settings) if args.settings else None
         self.begun = self.beginning.in_force(ngc, args.settings)
+        self.asked = 0  # what it refuses, so often
 
     def run(self, text: bytes) -> bytes:
         """What `ngc dry` prints of a text."""
@@ -135,7 +140,12 @@ class DryRun:
 
     def ask(self, text: bytes) -> Refusal | None:
         """What `ngc dry` refuses of a text."""
+        self.asked += 1
         return refusal(*self._dry(text, self.args.settings))
+
+    def is_asked_enough(self) -> bool:
+        """Whether no more refusals are looked for, unless the words say how many."""
+        return self.args.most is None and self.asked >= MOST_ASKED
 
     def breach(self, lines: Lines, refused: Refusal) -> str | None:
         """Which axis leaves the travel, of a line that is refused for that."""

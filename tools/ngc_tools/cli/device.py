@@ -2,7 +2,7 @@
 import argparse
 import sys
 
-from ngc_tools.cli.run import new_parser, run
+from ngc_tools.cli.run import MOST_MEMORY, new_parser, run
 from ngc_tools.failure import Failure
 from ngc_tools.formats.device import LOG_END, STATE, Device, NoDevice
 from ngc_tools.formats.text import shown, shown_line
@@ -38,7 +38,7 @@ def make_parser() -> argparse.ArgumentParser:
 
 def main(arguments: list[str] | None = None) -> int:
     """Reads a device and prints it, and returns the exit status; without arguments those of the command line count."""
-    return run(make_parser(), work, arguments)
+    return run(make_parser(), work, arguments, MOST_MEMORY)
 
 
 def work(args: argparse.Namespace) -> int:

@@ -7,7 +7,7 @@ from pathlib import Path
 
 from ngc_tools.cli.beginning import add_beginning, chosen_beginning
 from ngc_tools.cli.machine import Progress, add_machine, chosen_motion, times_words
-from ngc_tools.cli.run import new_parser, run
+from ngc_tools.cli.run import MOST_MEMORY, new_parser, run
 from ngc_tools.failure import WrongWords, speaking_of
 from ngc_tools.files import is_out, read, read_input, write_new
 from ngc_tools.formats.canonical import BadText, Command, read_commands
@@ -73,7 +73,7 @@ def make_parser() -> argparse.ArgumentParser:
 
 def main(arguments: list[str] | None = None) -> int:
     """Draws, and returns the exit status; without arguments those of the command line count."""
-    return run(make_parser(), draw, arguments)
+    return run(make_parser(), draw, arguments, MOST_MEMORY)
 
 
 @dataclass(frozen=True, slots=True)

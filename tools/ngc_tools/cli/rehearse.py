@@ -3,7 +3,7 @@ import argparse
 import sys
 
 from ngc_tools.ngc.carried import CannotTell, Found, Replay, Run, runs
-from ngc_tools.cli.run import add_ngc, new_parser, run
+from ngc_tools.cli.run import MOST_MEMORY, add_ngc, new_parser, run
 from ngc_tools.failure import Failure, WrongWords, speaking_of
 from ngc_tools.formats.device import Device, NoDevice, copied
 from ngc_tools.ngc.console import Ended
@@ -66,7 +66,7 @@ def make_parser() -> argparse.ArgumentParser:
 
 def main(arguments: list[str] | None = None) -> int:
     """Rehearses, and returns the exit status; without arguments those of the command line count."""
-    return run(make_parser(), work, arguments)
+    return run(make_parser(), work, arguments, MOST_MEMORY)
 
 
 def work(args: argparse.Namespace) -> int:

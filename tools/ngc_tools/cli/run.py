@@ -3,6 +3,7 @@ import argparse
 import errno
 import os
 import re
+import resource
 import signal
 import sys
 import textwrap
@@ -21,6 +22,10 @@ from ngc_tools.scratch import nothing_left
 Work = Callable[[argparse.Namespace], int]
 """Does what the words ask for, and returns the exit status."""
 
+MOST_MEMORY = 2**31
+"""Bytes that a tool which looks at files may take, and each `ngc` that it starts, so that no other program of the
+computer, a player least of all, goes without."""
+
 _FAILED = 2
 _OUTPUT = "standard output: "
 _ESCAPES = "backslashreplace"
@@ -28,15 +33,18 @@ _AGAIN_S = 0.005  # by then most finalizers are through
 _FULL = (errno.ENOSPC, errno.EDQUOT, errno.EFBIG, errno.EIO)  # of writing; all files but this one are named
 
 
-def run(parser: argparse.ArgumentParser, work: Work, arguments: list[str] | None = None) -> int:
+def run(parser: argparse.ArgumentParser, work: Work, arguments: list[str] | None = None,
+        most_memory: int | None = None) -> int:
     """Reads the words, those of the command line without `arguments`, does the work, and returns the exit status.
+    `most_memory` is how many bytes of memory it and each of its children may take, None for as much as there is.
 
     Whatever is closed, pressed or given, a tool ends here, without a traceback: its text goes to standard error as
     `PROG: TEXT`. Of an error of its own it says `internal error`, and the traceback where NGC_DEBUG is set."""
     _open_streams()
     status = ending = 0
     try:
-        with _heeding(), nothing_left(), _raised_after_finalizers(), _told_of_threads(parser.prog):
+        with (_heeding(), nothing_left(), _raised_after_finalizers(), _told_of_threads(parser.prog),
+              _within(most_memory)):
             status = _ended(parser, work, arguments)
     except KeyboardInterrupt as stopped:
         _let_go(stopped)
@@ -121,7 +129,9 @@ def _ended(parser: argparse.ArgumentParser, work: Work, arguments: list[str] | N
     except OSError as error:
         return _failed(parser.prog, error)
     except MemoryError:
-        return _say(f"{parser.prog}: out of memory")
+        most = resource.getrlimit(resource.RLIMIT_AS)[0]
+        bound = "" if most == resource.RLIM_INFINITY else f": it takes at most {most >> 20:,} MiB"
+        return _say(f"{parser.prog}: out of memory{bound}")
     except Exception as error:
         return _bug(parser.prog, error)
 
@@ -139,6 +149,20 @@ def _open_streams() -> None:
     for stream, errors in ((sys.stdin, "surrogateescape"), (sys.stdout, _ESCAPES), (sys.stderr, _ESCAPES)):
         if hasattr(stream, "reconfigure"):
             stream.reconfigure(errors=errors)
+
+
+@contextmanager
+def _within(most_memory: int | None) -> Iterator[None]:
+    """The process and its children take no more memory than that, meanwhile."""
+    soft, hard = resource.getrlimit(resource.RLIMIT_AS)
+    bounds = [bound for bound in (soft, hard, most_memory) if bound not in (None, resource.RLIM_INFINITY)]
+    if most_memory is not None:
+        resource.setrlimit(resource.RLIMIT_AS, (min(bounds), hard))
+    try:
+        yield
+    finally:
+        if most_memory is not None:
+            resource.setrlimit(resource.RLIMIT_AS, (soft, hard))
 
 
 class _Killed(BaseException):

@@ -2,7 +2,7 @@
 import argparse
 from pathlib import Path
 
-from ngc_tools.cli.run import add_ngc, new_parser, run, whole_number
+from ngc_tools.cli.run import MOST_MEMORY, add_ngc, new_parser, run, whole_number
 from ngc_tools.failure import Failure, WrongWords, speaking_of
 from ngc_tools.files import look_before_write, read, write_new
 from ngc_tools.formats.device import MOST_LARGE_PROGRAM, MOST_PROGRAM, Device, NoDevice, copied
@@ -66,7 +66,7 @@ def make_parser() -> argparse.ArgumentParser:
 
 def main(arguments: list[str] | None = None) -> int:
     """Parts a program, and returns the exit status; without arguments those of the command line count."""
-    return run(make_parser(), work, arguments)
+    return run(make_parser(), work, arguments, MOST_MEMORY)
 
 
 def work(args: argparse.Namespace) -> int:

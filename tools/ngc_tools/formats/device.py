@@ -1,13 +1,12 @@
 """What a device stands for, by docs/DEVICE.md: formats 1 and 2. It is read here, never written."""
 import fcntl
-import os
 import struct
 from dataclasses import dataclass, field, fields
 from pathlib import Path
 from typing import Any
 
 from ngc_tools.failure import Failure
-from ngc_tools.files import naming
+from ngc_tools.files import naming, opened
 
 SECTOR = 512
 SIZE = SECTOR * 1710  # bytes of the sectors that a device needs
@@ -191,7 +190,7 @@ class Device:
     @staticmethod
     def read(path: str | Path) -> "Device":
         """Reads the file, whether a session holds it or not. Raises NoDevice or OSError."""
-        with naming(path), open(path, "rb") as file:
+        with naming(path), opened(path, may_be_disk=True) as file:
             image = file.read(LARGE_SIZE)
         return Device(image)
 
@@ -296,14 +295,10 @@ def copied(path: str | Path) -> bytes:
     a shared lock) for as long as that takes.
 
     Raises Held if a session has it, or OSError."""
-    file = os.open(path, os.O_RDONLY | os.O_CLOEXEC)
-    try:
-        fcntl.flock(file, fcntl.LOCK_SH | fcntl.LOCK_NB)
-        with os.fdopen(os.dup(file), "rb") as reader:
-            return reader.read(LARGE_SIZE)
-    except BlockingIOError as error:
-        raise Held(error.errno, "a session holds the device: end it by quit", str(path)) from None
-    except OSError as error:
-        raise OSError(error.errno, error.strerror, str(path)) from None
-    finally:
-        os.close(file)
+    with opened(path, may_be_disk=True) as file:
+        try:
+            fcntl.flock(file, fcntl.LOCK_SH | fcntl.LOCK_NB)
+        except BlockingIOError as error:
+            raise Held(error.errno, "a session holds the device: end it by quit", str(path)) from None
+        with naming(path):
+            return file.read(LARGE_SIZE)

@@ -3,6 +3,7 @@ import re
 from dataclasses import dataclass, replace
 
 from ngc_tools.failure import BadNumber, Failure
+from ngc_tools.files import opened
 from ngc_tools.formats.out import OFF, Switch, read_line
 from ngc_tools.formats.position import millimetres
 
@@ -109,7 +110,7 @@ class Record:
     @staticmethod
     def read(path: str) -> "Record":
         """Reads the file `path`. Raises BadRecord, or OSError."""
-        with open(path, "rb") as file:
+        with opened(path) as file:
             return Record.of_text(file.read(SIZE + 1), str(path))
 
 

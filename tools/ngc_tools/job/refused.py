@@ -106,15 +106,17 @@ class Lines:
         return body + self.all[number - 1][len(self.body(number)):]
 
 
-def find_all(lines: Lines, ask: Ask, most: int = 0) -> Iterator[Finding]:
-    """Each refusal of a program in turn, `most` of them at most, 0 for all. `lines` are at last what it went on with.
+def find_all(lines: Lines, ask: Ask, most: int = 0,
+             is_enough: Callable[[], bool] = lambda: False) -> Iterator[Finding]:
+    """Each refusal of a program in turn, `most` of them at most, 0 for all, and no more once there `is_enough`. `lines`
+    are at last what it went on with.
 
     After X1 it goes on with an F on the line. Otherwise it leaves out a marked piece, or all of them, if the line is
     then taken; if only one piece is marked, it leaves that one out, so that the line's next fault is told too.
     Otherwise it goes on with a blank line in its place, and so where other words of the line belong to a marked one."""
     refusal = ask(b"".join(lines.all))
     count = 0
-    while refusal is not None and (count < most or not most):
+    while refusal is not None and (count < most or not most) and not is_enough():
         if refusal.code in ("X3", "X4") or refusal.line > len(lines.all):  # the text's end, no line
             yield Finding(refusal, b"")
             return

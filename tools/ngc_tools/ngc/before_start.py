@@ -7,9 +7,12 @@ import termios
 from pathlib import Path
 
 from ngc_tools.failure import Failure
-from ngc_tools.files import naming
+from ngc_tools.files import is_device, naming, opened
 from ngc_tools.formats.device import SIZE
 from ngc_tools.formats.out import LONGEST_LINE, BadLine, read_line
+
+
+_BEGIN = 1024  # bytes that tell a device
 
 
 class CannotBegin(Failure):
@@ -44,7 +47,7 @@ def _same(a: str, b: str) -> bool:
 
 def _settings(path: str) -> None:
     try:
-        with open(path, "rb") as file:
+        with opened(path) as file:
             file.read(1)
     except FileNotFoundError:
         raise CannotBegin(f"{path}: there are no such settings; docs/SETTINGS.md says how to write them") from None
@@ -118,6 +121,8 @@ def _out(path: str) -> int | None:
             _whole_lines(path)
         elif os.isatty(file):
             _raw(file, path)
+        elif not stat.S_ISFIFO(kind) and not os.path.samefile(path, os.devnull):
+            raise CannotBegin(f"{path}: OUT is a file, a named pipe or a serial line")
         keep = stat.S_ISFIFO(kind)
     finally:
         if not keep:
@@ -136,14 +141,17 @@ def _open_out(path: str) -> int:
 
 
 def _whole_lines(path: str) -> None:
-    """Raises CannotBegin if a file's last line isn't one of OUT, or it ends in a part of a line."""
+    """Raises CannotBegin if a file is a device, its last line isn't one of OUT, or it ends in a part of a line."""
     try:
         with open(path, "rb") as file:
+            begin = file.read(_BEGIN)
             size = file.seek(0, os.SEEK_END)
             file.seek(max(0, size - 2 * LONGEST_LINE))
             *lines, part = file.read(2 * LONGEST_LINE).split(b"\n")
     except OSError:
         return  # it can be written and not read
+    if is_device(begin):
+        raise CannotBegin(f"{path}: it is a device, and lines of OUT would be appended to it: give a new OUT")
     try:
         if lines:
             read_line(lines[-1], 1)

@@ -4,14 +4,13 @@ Of a device `ngc dry --from` knows what a program begins with that is loaded now
 a program where no device holds the state that is asked about: a work origin that was told; what a device would have
 after lines of G-code; a program of which nothing tells how it was begun."""
 import errno
-import os
 from collections.abc import Iterable, Iterator
 from dataclasses import dataclass, field, replace
 from io import RawIOBase
 from pathlib import Path
 
 from ngc_tools.failure import Failure
-from ngc_tools.files import naming, open_without_waiting
+from ngc_tools.files import naming, opened
 from ngc_tools.formats.canonical import read_commands
 from ngc_tools.formats.device import LARGE_SIZE, Device, Held, NoDevice, State
 from ngc_tools.formats.lines import percent_lines, program_lines
@@ -173,10 +172,10 @@ def _image(path: str | Path) -> bytes:
     """The sectors of a device as they stood at one moment: what two readings in a row give. A session may write
     meanwhile, and never leaves the same bytes twice, since epochs and records count up. Raises Held if it writes each
     time, OSError."""
-    with naming(path), open(path, "rb", buffering=0, opener=open_without_waiting) as file:
-        image = _sectors(file)
+    with naming(path), opened(path, may_be_disk=True) as file:
+        image = _sectors(file.raw)
         for _ in range(_READINGS):
-            last, image = image, _sectors(file)
+            last, image = image, _sectors(file.raw)
             if image == last:
                 return image
     raise Held(errno.EBUSY, "a session writes to the device all the time: ask again once it stands still", str(path))

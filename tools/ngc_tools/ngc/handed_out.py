@@ -10,6 +10,7 @@ from collections.abc import Iterator
 from dataclasses import dataclass, replace
 from pathlib import Path
 
+from ngc_tools.files import opened
 from ngc_tools.formats.device import Device, State
 from ngc_tools.formats.out import LONGEST_LINE, Switch, read_line
 from ngc_tools.formats.position import nanometres, rounded
@@ -97,7 +98,7 @@ class Finder:
     def find(self, out: str | Path, kept: FileRecord) -> SegmentBeginning:
         """Where the open segment begins. Raises CannotTell, which names what doesn't belong together, CommandRefused,
         Ended, OSError."""
-        with open(out, "rb") as file:
+        with opened(out) as file:
             size = os.fstat(file.fileno()).st_size
             text = mmap.mmap(file.fileno(), 0, access=mmap.ACCESS_READ) if size else b""
             size = text.rfind(b"\n") + 1

@@ -5,12 +5,13 @@ from ngc_tools.failure import Failure
 from ngc_tools.formats.canonical import Command, read_commands
 from ngc_tools.formats.lines import percent_bytes
 from ngc_tools.formats.settings import Settings
-from ngc_tools.ngc.run import Refusal, dry, refusal
+from ngc_tools.ngc.run import MOST_TEXT, Refusal, dry, refusal
 from ngc_tools.scratch import scratch_file
 
 _WIDEST_NM = 10**10  # the travel of no machine ends before
 _SYSTEMS = range(1, 10)
 _BEGIN = "ngc begins here"
+_MOST_TEXT = 2 * MOST_TEXT  # a long program is what it is there for
 # modes that a program which names its own doesn't mind
 _OTHER_MODES = "G18 G20 G91 G93 G55 G99\n"
 
@@ -36,11 +37,11 @@ class World:
     def dry(self, text: bytes, in_other_modes: bool = False) -> tuple[list[Command], list[Command]]:
         """The commands of the head, and those of a program that runs to its end.
 
-        It begins in the modes of a fresh controller, or in others. Raises LineRefused, CannotRun, OSError."""
+        It begins in the modes of a fresh controller, or in others. Raises LineRefused, CannotRun, TooLong, OSError."""
         said = self.head + (_OTHER_MODES if in_other_modes else "") + f"({_BEGIN})\n"
         at = percent_bytes(text)
         with scratch_file(self.settings.text(), "settings", ".toml") as path:
-            status, canonical = dry(self.ngc, text[:at] + said.encode() + text[at:], path)
+            status, canonical = dry(self.ngc, text[:at] + said.encode() + text[at:], path, most=_MOST_TEXT)
         refused = refusal(status, canonical)
         if refused:
             more = said.count("\n") if refused.line > text[:at].count(b"\n") else 0

@@ -13,6 +13,7 @@ from dataclasses import replace
 from pathlib import Path
 
 from ngc_tools.failure import Failure
+from ngc_tools.files import is_device
 from ngc_tools.formats.out import LONGEST_LINE
 from ngc_tools.formats.record import FileMark, Record
 
@@ -42,6 +43,8 @@ class Source:
             raise IsADirectoryError(errno.EISDIR, os.strerror(errno.EISDIR), self.path)
         if not self.is_pipe and not self.is_file:
             raise OSError(errno.EINVAL, "neither a file nor a named pipe", self.path)
+        if self.is_file and is_device(os.pread(self.file, TAIL_BYTES, 0)):
+            raise OSError(errno.EINVAL, "it is a device, and no OUT", self.path)
         self.follow = follow and not self.is_pipe
         self.pipe_bytes = _resize(self.file, pipe_bytes) if self.is_pipe else 0
         self.failed: OSError | None = None  # why it can't be read any more

@@ -1,0 +1,163 @@
+"""What the tools take: files alone, of which there is an end, and no more memory or dry runs than is said."""
+import os
+import resource
+import signal
+import subprocess
+import sys
+import time
+import unittest
+from pathlib import Path
+from types import FrameType
+from unittest import mock
+
+sys.path.insert(0, str(Path(__file__).resolve().parent))
+
+from session_support import PATIENCE_S, TOOLS, InFolder, ngc, told  # noqa: E402
+
+from ngc_tools.cli import adapt, check, device, operate, page, player, plot, rehearse, split  # noqa: E402
+from ngc_tools.ngc import run  # noqa: E402
+from ngc_tools.ngc.run import TooLong, dry  # noqa: E402
+
+MOTION = "[motion]\naccel_mm_s2 = [500, 500, 500]\n"
+FILES = {"PROGRAM": "part.ngc", "SETTINGS": "first.toml", "MACHINE": "motion.toml", "DEVICE": "mill.dev", "OUT": "out",
+         "POSITION": "position"}
+WORDS = {
+    check: ("PROGRAM --settings SETTINGS --machine MACHINE", "PROGRAM --device DEVICE",
+            "--settings-only --settings SETTINGS"),
+    adapt: ("PROGRAM --settings SETTINGS --device DEVICE",),
+    plot: ("PROGRAM --settings SETTINGS --machine MACHINE --device DEVICE", "OUT --settings SETTINGS"),
+    split: ("PROGRAM --settings SETTINGS --device DEVICE",),
+    rehearse: ("DEVICE SETTINGS", "DEVICE SETTINGS --carried-out 1 --before DEVICE",
+               "DEVICE SETTINGS --out OUT --position POSITION"),
+    device: ("DEVICE",),
+    operate: ("DEVICE SETTINGS OUT", "DEVICE SETTINGS OUT --machine MACHINE"),
+    page: ("DEVICE SETTINGS OUT", "DEVICE SETTINGS OUT --machine MACHINE"),
+    player: ("OUT SETTINGS POSITION --untimed --machine MACHINE",),
+}
+MAY_BE_PIPES = {operate, page, player}
+"""These take a pipe as OUT."""
+
+
+def waits(_number: int, _frame: FrameType | None) -> None:
+    """A tool waits for what may never come."""
+    raise AssertionError("it waits")
+
+
+class NoFiles(InFolder):
+    """Pipes, folders and devices as arguments."""
+
+    def setUp(self) -> None:
+        """Files that can be used, and what is none."""
+        super().setUp()
+        self.device()
+        self.run_ngc("load 3\nM2\nquit\n")
+        Path("part.ngc").write_text("G21 G90 G17 G54 G94 G98\nG1 X1 F100\nM2\n")
+        Path("motion.toml").write_text(MOTION)
+        Path("good").write_text("P 1 0 0 50\n")
+        told(player.main, "--untimed", "good", "first.toml", "position")
+        os.mkfifo("pipe")
+        os.mkdir("folder")
+        before = signal.signal(signal.SIGALRM, waits)
+        self.addCleanup(signal.signal, signal.SIGALRM, before)
+        self.addCleanup(signal.alarm, 0)
+
+    def test_each(self) -> None:
+        """Each tool ends with status 2 and names what it was given."""
+        for tool, forms in WORDS.items():
+            for form in forms:
+                for word in dict.fromkeys(word for word in form.split() if word in FILES):
+                    for given in ("pipe", "folder", "/dev/zero"):
+                        if not (word == "OUT" and given == "pipe" and tool in MAY_BE_PIPES):
+                            with self.subTest(tool=tool.__name__, form=form, word=word, given=given):
+                                self.named(tool, form, word, given)
+
+    def named(self, tool: object, form: str, word: str, given: str) -> None:
+        """Looks at one argument."""
+        words = [given if one == word else FILES.get(one, one) for one in form.split()]
+        ask = [] if tool in (device, player) else ["--ngc", ngc()]
+        before = {name: Path(name).read_bytes() for name in FILES.values() if Path(name).exists()}
+        signal.alarm(PATIENCE_S)
+        status, _, said = told(tool.main, *words, *ask)
+        signal.alarm(0)
+        self.assertEqual(status, 2, (tool.__name__, words, said))
+        self.assertIn(given, said, (tool.__name__, words))
+        self.assertNotIn("internal error", said, (tool.__name__, words))
+        self.assertEqual({name: Path(name).read_bytes() for name in before}, before, (tool.__name__, words))
+
+    def test_settings(self) -> None:
+        """Settings and a machine's file have at most a mebibyte."""
+        Path("long.toml").write_text(Path("first.toml").read_text() + "#" * 2**20)
+        Path("long-motion.toml").write_text(MOTION + "#" * 2**20)
+        for tool, words in ((check, ("part.ngc", "--settings", "long.toml")), (operate, ("mill.dev", "long.toml", "out")),
+                            (player, ("good", "long.toml", "position", "--untimed")),
+                            (check, ("part.ngc", "--settings", "first.toml", "--machine", "long-motion.toml")),
+                            (player, ("good", "first.toml", "position", "--untimed", "--machine", "long-motion.toml"))):
+            ask = [] if tool is player else ["--ngc", ngc()]
+            name = next(word for word in words if word.startswith("long"))
+            status, _, said = told(tool.main, *words, *ask)
+            self.assertEqual((status, said.partition(": ")[2]), (2, f"{name}: it has more than 1,048,576 bytes\n"), words)
+
+
+class Bounds(InFolder):
+    """Memory, and dry runs."""
+
+    def test_long_text(self) -> None:
+        """A dry run that prints more than is looked at is ended, and that is said with the bound."""
+        Path("long.ngc").write_text("G21 G90 G17 G54 G94 G98 F100\nG0 X0 Y0 Z5\n" + "G91 G81 X0.001 Z-1 R0.5 L9999\nG90\n" * 9
+                                    + "M2\n")
+        with mock.patch.object(run, "MOST_TEXT", 10**6):
+            with self.assertRaises(TooLong):
+                dry(ngc(), Path("long.ngc"))
+            self.assertEqual(dry(ngc(), b"M2\n")[0], 0)
+            said = ("its dry run has more than 1,000,000 bytes of commands, and no more are looked at: is the L of a cycle"
+                    " right?\n")
+            for tool, words in ((check, ()), (plot, ("--output", "picture.svg")), (adapt, ("--output", "new.ngc"))):
+                self.assertEqual(told(tool.main, "long.ngc", "--ngc", ngc(), *words)[::2],
+                                 (2, f"{tool.make_parser().prog}: {said}"))
+
+    def test_memory(self) -> None:
+        """A tool that looks at files may take so much memory and no more, which it says; the bound is gone after it."""
+        before = resource.getrlimit(resource.RLIMIT_AS)
+        Path("part.ngc").write_text("M2\n")
+        found = []
+
+        def take(*_words: object) -> int:
+            found.append(resource.getrlimit(resource.RLIMIT_AS)[0])
+            return len(bytes(2**40))
+
+        with mock.patch.object(check, "check", take):
+            self.assertEqual(told(check.main, "part.ngc", "--ngc", ngc()),
+                             (2, "", "ngc-check: out of memory: it takes at most 2,048 MiB\n"))
+        self.assertEqual((found, resource.getrlimit(resource.RLIMIT_AS)), ([2**31], before))
+
+    def test_many_refusals(self) -> None:
+        """Of 3,000 refused lines two hundred are looked at, or as many as were asked for; that there are more is said."""
+        Path("many.ngc").write_text("Q1\n" * 3000)
+        status, said, _ = told(check.main, "many.ngc", "--ngc", ngc())
+        self.assertEqual((status, said.count(": B12 UnusedWord\n")), (1, 200))
+        self.assertIn("many.ngc: 200 refusals, and more\n", said)
+        self.assertIn("many.ngc: 3 refusals, and more\n", told(check.main, "many.ngc", "--most", "3", "--ngc", ngc())[1])
+
+    def test_many_words(self) -> None:
+        """Lines of many words that are refused take many dry runs: it stops after so many."""
+        Path("many.ngc").write_text((" ".join(f"G{code}" for code in range(40)) + "\n") * 30)
+        with mock.patch.object(check, "MOST_ASKED", 60):
+            said = told(check.main, "many.ngc", "--ngc", ngc())[1]
+        count = int(said.partition(" refusal")[0].rpartition(" ")[2])
+        self.assertTrue(1 <= count < 30, said)
+        self.assertIn(", and more\n", said)
+
+    def test_killed(self) -> None:
+        """A tool that is killed leaves no `ngc` behind."""
+        Path("long.ngc").write_text("G21 G90 G17 G54 G94 G98 F100\n" + "G91 G81 X0.001 Z-1 R0.5 L9999\n" * 9999)
+        child = self.start("ngc-plot", "long.ngc", "--ngc", ngc(), "--output", "picture.svg")
+        children = Path(f"/proc/{child.pid}/task/{child.pid}/children")
+        self.wait_for("it asks ngc", lambda: bool(children.read_text().split()))
+        begun = [int(number) for number in children.read_text().split()]
+        child.kill()
+        child.wait()
+        self.wait_for("ngc ends", lambda: not any(Path(f"/proc/{number}/exe").exists() for number in begun))
+
+
+if __name__ == "__main__":
+    unittest.main()
