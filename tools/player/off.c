@@ -101,6 +101,9 @@ bool off_ends_in_wait(struct play *play) {
         note_stop(play, "pins");
         return because(&play->why, "the pins: %s, after line %" PRIu64 ";", strerror(error), play->player->lines);
     }
+    player_lock(play->player);
+    play->player->outputs = line.outputs;
+    player_unlock(play->player);
     return true;
 }
 

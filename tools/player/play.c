@@ -56,7 +56,11 @@ enum end carry_out(struct play *play, const struct line *line, const char *text,
         return FAILED;
     }
     if (line->kind == 'S') {
-        if (!spindle_wait(play, &play->player->outputs, &line->outputs)) {
+        const struct outputs before = play->player->outputs;
+        player_lock(play->player);
+        play->player->outputs = line->outputs; /* as the spindle turns already */
+        player_unlock(play->player);
+        if (!spindle_wait(play, &before, &line->outputs)) {
             return STOPPED;
         }
         schedule_pause(schedule); /* as long as the tool and the spindle took */

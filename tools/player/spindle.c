@@ -92,6 +92,12 @@ static bool give_up(struct play *play) {
     return wait_held(play);
 }
 
+/* Switched off by a person: held, until somebody releases it. */
+static bool stay_off(struct play *play) {
+    atomic_store(&play->player->is_held, true);
+    return wait_held(play);
+}
+
 /* Waits until the input says that it is at its speed; false where the play has to stop. */
 static bool wait_at_speed(struct play *play) {
     const struct inputs *inputs = &play->machine.inputs;
@@ -102,8 +108,9 @@ static bool wait_at_speed(struct play *play) {
                || !input_is_on(atomic_load(&play->player->on), inputs->spindle_at_speed))) {
         poll(NULL, 0, LOOKS_MS);
         goes_on = !has_to_stop(play);
-        if (goes_on && schedule_now() >= until) {
-            goes_on = give_up(play);
+        bool is_off = play->player->has_again;
+        if (goes_on && (is_off || schedule_now() >= until)) {
+            goes_on = is_off ? stay_off(play) : give_up(play);
             until = schedule_now() + inputs->at_speed_ns;
         }
     }

@@ -253,3 +253,11 @@ class Served(InFolder):
                 if Path(f"/proc/{pid}/exe").resolve() == Path(ngc()).resolve():
                     found.append(pid)
         return found
+
+
+def slow_by() -> float:
+    """How many times as long something takes as it takes processor time now, since others want it too."""
+    begun, begun_cpu = time.monotonic(), time.thread_time()
+    while time.thread_time() < begun_cpu + 0.03:
+        pass
+    return (time.monotonic() - begun) / 0.03

@@ -1,6 +1,7 @@
 """ngc-adapt: ten headers of CAM systems, arcs by radius, what is asked, what is told, and files; all texts by hand."""
 import os
 import sys
+import time
 import unittest
 from decimal import Decimal
 from pathlib import Path
@@ -11,6 +12,7 @@ sys.path.insert(0, str(Path(__file__).resolve().parent))
 from session_support import FIRST, TOOLS, InFolder, Terminal, ngc, told  # noqa: E402
 
 from ngc_tools.cli.adapt import main  # noqa: E402
+from ngc_tools.cli.check import main as check  # noqa: E402
 from ngc_tools.job.radius_arcs import Ends, centre  # noqa: E402
 
 CAM = Path(__file__).resolve().parent / "cam"
@@ -124,6 +126,23 @@ class Words(InFolder):
         Path("out.ngc").unlink(missing_ok=True)
         status, said, error = told(main, "part.nc", "--ngc", ngc(), "-o", "out.ngc", *words)
         return status, said, error, Path("out.ngc").read_bytes() if Path("out.ngc").exists() else None
+
+    def test_garbage(self) -> None:
+        """What is none of G-code is refused by its first lines, however long it is; a few such lines are told."""
+        prose = b"<p class='a'>The quick brown fox (jumps) over the lazy dog.\n"
+        none = "it isn't G-code: ngc can read hardly any of its first lines"
+        long = "it isn't a program: a line of it has 70,000 letters"
+        for text, why in ((prose * 30, none), (b"(a comment (within another))\n" * 5 + prose * 20, none),
+                          (prose * 100_000, none), (b"x" * 70_000, long)):
+            begun = time.process_time()
+            self.assertEqual(self.adapt(text), (2, "", f"ngc-adapt: part.nc: {why}\n", None), text[:40])
+            self.assertLess(time.process_time() - begun, 1)
+            self.assertEqual(told(check, "part.nc", "--ngc", ngc()), (2, "", f"ngc-check: part.nc: {why}\n"))
+        few = "".join(f"G0 X{number} ; to there\n" for number in range(20)) + "M2\n"
+        self.assertEqual(self.adapt(few)[0], 0)
+        status, _, error, _ = self.adapt(prose * 2 + few.encode())
+        self.assertEqual((status, [line[:10] for line in error.splitlines() if line.startswith("out")]),
+                         (1, ["out.ngc:1:", "out.ngc:2:"]))
 
     def test_needed(self) -> None:
         """Without heights, places and slots nothing is written; each is named with its line."""

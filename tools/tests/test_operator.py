@@ -241,11 +241,13 @@ class Faces(Core):
         self.face.said.clear()
         text = b"G21 G90\nG0 X0.1\n(MSG, hello)\nM2\n"
         self.assertTrue(operator.load("a name", text))
-        self.assertFalse(operator.load("long", b"M5\n" * 43_691 + b"M2\n"))
+        with mock.patch.object(operator.console, "load"):  # `ngc` would read all of it first
+            self.assertFalse(operator.load("long", b"M5\n" * 43_691 + b"M2\n"))
         operator.do("run")
         self.assertEqual([kind for kind, _ in self.face.said], [SAID, SAID, REFUSED, MESSAGE, WHERE])
         self.assertEqual(self.face.said[1][1], "done 1: a name, 32 bytes, 4 lines")
-        self.assertIn("refused J5 ProgramTooLong", self.face.said[2][1])
+        self.assertRegex(self.face.said[2][1],
+                         r"^long, 131,076 bytes: refused J5 ProgramTooLong: .*\. ngc-split parts it$")
         self.assertEqual(self.face.said[3][1], "message, line 3: hello")
         self.assertIn("line 2: G0 X0.1", [view.line for view in self.face.views if view])
         self.assertIsNone(self.face.views[-1])

@@ -201,6 +201,15 @@ class Work(Served):
         self.assertTrue(page.last()["over"])
         self.assertEqual((self.server.wait(PATIENCE_S), self.player.wait(PATIENCE_S)), (0, 0))
 
+    def test_remark(self) -> None:
+        """At a stop the plain comment above it is shown, and then the one beside it."""
+        page = self.page()
+        self.load(page, "G21 G90\n(take the clamp off)\nM0\nM0 (turn it)\nM2\n")
+        for line, detail in ((4, "take the clamp off"), (5, "turn it")):
+            self.assertEqual(page.post("run"), (200, {}))
+            state = page.until("it stopped", lambda state, line=line: state["line"] == line and not state["busy"])
+            self.assertEqual((state["word"], state["detail"]), ("Stopped", detail))
+
     def test_drawn_first(self) -> None:
         """A program is drawn before it is loaded, and that is taken then, unless it begins otherwise by now."""
         page = self.page()
@@ -449,6 +458,11 @@ class Moves(Served):
         self.moved(page, "touch", {"slot": 1, "height": "-9", "probe": True})
         state = page.until("it is read", lambda state: state["tools"])
         self.assertEqual((state["tools"], state["touched"]), (["4.000000"], None))  # its place counts once
+        stood = page.rested()["motors"]
+        self.assertEqual(page.post("mdi", {"line": "G91 G28 Z0"}), (200, {}))
+        self.assertTrue(page.asked()["question"]["text"].startswith("G28 moves X, Y and Z, through what stands there"))
+        page.post("hold")
+        self.assertEqual(page.rested()["motors"], stood)
         for what, words in (("jog", {"axis": "A", "sign": 1, "rate": "1"}), ("jog", {"axis": "X", "sign": 2}),
                             ("home", {"axes": "ZX"}), ("zero", {"axes": {}}), ("zero", {"axes": {"X": "0 probe"}}),
                             ("seek", {"axis": "Z", "sign": -1, "rate": "60"}), ("touch", {"slot": "1 2"})):
@@ -558,7 +572,8 @@ class Power(Served):
         self.assertTrue(page.job()["known_start"])
         said = page.post("rehearse", {"at": ["0.5", "0", "2"]})[1]
         self.assertEqual((said["begins"][0], said["approach"]["down"], said["refused"]), ("2.000000", "2.000", ""))
-        self.assertIn("DOWN 2.000 mm", said["approach"]["warnings"][0])
+        self.assertIn("DOWN 2.000 mm, to Z 0.000, and 1.500 mm sideways at once, at the feed that was cut off, or a"
+                      " slower one.", said["approach"]["warnings"][0])
         at = ["2.000000", "0.000000", "0.100000"]
         self.assertEqual(page.post("reference", {"at": at, "anyway": True})[0], 200)
         state = page.until("it is known", lambda state: state["known"])
@@ -590,6 +605,28 @@ class Power(Served):
         self.assertEqual(question["looks"][0], "On, as it should be: the spindle, clockwise at 100")
         for seen in ({}, {"seen": 2}, {"seen": True}, {"seen": [1, 1, 1]}):
             self.assertEqual(page.post("answer", {"question": question["id"], "yes": True} | seen)[0], 422)
+
+
+class WithoutPlayer(InFolder):
+    """Nobody tells where the motors are, or moves them but by the lines of `ngc`."""
+
+    def test_rate(self) -> None:
+        """That its own way goes at the traverse rate is said in the rehearsal, and at the look, before it goes."""
+        self.device()
+        program = "M3 S100\nG21 G90 G94\nG1 X0.1 F6\nM2\n"
+        self.run_ngc(f"load {len(program)}\n{program}start\ntick 30\n", "before")
+        server = self.start("ngc-page", "mill.dev", "first.toml", "out", "--ngc", ngc(), "--listen", "127.0.0.1:0")
+        page = Page(server.stdout.readline().strip())
+        self.addCleanup(page.close)
+        said = page.post("rehearse", {"at": ["0", "0", "0.02"]})[1]
+        self.assertEqual((said["approach"]["rate"], said["approach"]["warnings"][0]),
+                         ("the traverse rate", "It goes DOWN 0.020 mm, to Z 0.000, at the traverse rate."))
+        self.assertEqual(page.post("reference", {"at": ["0", "0", "0.02"]})[0], 200)
+        self.assertEqual(page.post("resume")[0], 200)
+        state = page.asked()
+        self.assertEqual((state["question"]["purpose"], state["question"]["looks"][2]), (
+            "look", "The straight way is free, all of it at the traverse rate, and my hand is at Hold"))
+        self.assertEqual(Path("out").read_text(), "S 1 100.000000 0 0 0 0\n")
 
 
 class PowerOfFile(Served):

@@ -17,6 +17,7 @@ from test_moves import AT_SPEED, DOOR, MACHINE, X_LOW, World, program  # noqa: E
 QUICK = MACHINE.replace("[60, 60, 60]", "[600, 600, 600]")
 CUT = "G17 G21 G90 G94\nG0 X0 Y0 Z0\nG1 X9 F60\nM2\n"
 """Its line 3 is a cut of nine seconds."""
+IS_ON = 4  # a field of the world
 CHANGE = """G17 G21 G90 G94
 T1 M6
 G43 H1
@@ -109,12 +110,56 @@ class Known(Served):
         self.assertEqual(page.post("run"), (200, {}))
         state = page.until("it waits", lambda state: "speed" in state["detail"] and state["word"] == "Running")
         self.assertIn("the spindle isn't at its speed yet", state["detail"])
+        self.assertEqual((state["spindle"], state["can"]["off"]), (1, True))  # it turns already
         state = self.stopped(page)
         self.assertEqual((state["word"], state["held_by"], state["detail"]), (
             "Held", "spindle", "The spindle didn't come to its speed. Look at it; Go on waits for it once more"))
         self.world.set(5, 1 << AT_SPEED)
         self.assertEqual(page.post("release"), (200, {}))
         page.until("it goes on", lambda state: float(state["motors"][0]) > 0 and state["word"] == "Running")
+
+    def test_off_in_the_wait(self) -> None:
+        """While the spindle is waited for it goes off by its button, and comes on again once that is agreed to."""
+        Path("motion.toml").write_text(QUICK.replace("at_speed_s = 1", "at_speed_s = 60"))
+        self.again()
+        page = self.page()
+        self.world.set(5, 0)
+        self.load(page, "M3 S1000\n" + CUT)
+        self.assertEqual(page.post("run"), (200, {}))
+        page.until("it waits", lambda state: "speed" in state["detail"] and state["can"]["off"])
+        self.assertEqual(self.world.get(IS_ON), 1)
+        self.assertEqual(page.post("off"), (200, {}))
+        state = page.until("it is off", lambda state: state["spindle"] == 0 and state["again"] and state["held_by"])
+        self.assertEqual((self.world.get(IS_ON), state["motors"][0], state["word"], state["detail"]), (
+            0, "0.000000", "Held", "Spindle and coolant were switched off by hand. Go on asks before they come on again"
+            ))
+        self.world.set(5, 1 << AT_SPEED)
+        self.assertEqual(page.post("release"), (200, {}))
+        page.agree(page.asked())
+        page.until("it cuts", lambda state: float(state["motors"][0]) > 0 and state["spindle"] == 1)
+        self.assertEqual(self.world.get(IS_ON), 1)
+
+    def again(self) -> None:
+        """Both are started anew."""
+        self.pull()
+        self.begin()
+
+    def test_half_done(self) -> None:
+        """With a line half-done the band says that the machine homes or jogs, and no line; before the line is where it
+        began, wherever the axes were moved since."""
+        page = self.page()
+        self.runs(page, CUT, 0.1)
+        self.again()
+        page = self.page()
+        self.assertEqual(page.post("home", {}), (200, {}))
+        state = page.until("it homes", lambda state: state["does_move"].startswith("home "))
+        self.assertEqual((state["half"], state["word"], state["detail"]), ("program", "Homing", state["does_move"][5:]))
+        page.until("it is homed", lambda state: state["homed"] == "XYZ" and not state["busy"])
+        self.assertEqual(page.post("jog", {"axis": "Z", "sign": -1, "rate": "600", "length": "2"}), (200, {}))
+        state = page.until("it jogs", lambda state: state["does_move"].startswith("jog"))
+        self.assertEqual((state["word"], state["detail"]), ("Jogging", state["does_move"][4:]))
+        state = page.until("it stands", lambda state: not state["busy"] and state["motors"][2] == "7.000000")
+        self.assertEqual((state["half"], state["word"], state["began_at"]), ("program", "Half-done", ["0.000000"] * 3))
 
     def test_moves(self) -> None:
         """What moves without lines is named, and no line is; a limit too. The next run isn't done before it begins."""

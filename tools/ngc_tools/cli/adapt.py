@@ -12,11 +12,11 @@ from ngc_tools.formats.device import SLOTS
 from ngc_tools.formats.position import nanometres
 from ngc_tools.formats.program_text import NotText, ProgramText
 from ngc_tools.formats.text import shown
-from ngc_tools.job.adapted import Change, Rewritten, adapted, rewritten_of
+from ngc_tools.job.adapted import NO_PROGRAM, Change, Rewritten, adapted, is_none, rewritten_of
 from ngc_tools.job.cam_homes import HomeAnswers, Missing
 from ngc_tools.job.cam_line import CamLine
 from ngc_tools.job.cam_program import SharedSlot
-from ngc_tools.job.refused import Lines, find_all
+from ngc_tools.job.refused import Ask, Lines, find_all
 from ngc_tools.ngc import cures
 from ngc_tools.ngc.beginning import Beginning
 from ngc_tools.ngc.run import Refusal, find_ngc, refusal
@@ -71,11 +71,17 @@ def adapt(args: argparse.Namespace) -> int:
     inputs = (args.program, args.settings, args.device)
     if args.output:
         files.look_before_write(args.output, inputs, args.force)
-    begin, text = chosen_beginning(args), _read(args.program)
+    begin = chosen_beginning(args)
+
+    def ask(asked: bytes) -> Refusal | None:
+        """What a dry run from there refuses."""
+        return refusal(*begin.dry(ngc, asked, args.settings))
+
+    text = _read(args.program, ask)
     lines, warnings = _rewritten(args.program, text, answers)
     found = adapted(text, Rewritten(lines, [], []), begin, ngc, args.settings)
     new = found.text
-    refused = list(told(new, args.output, lambda asked: refusal(*begin.dry(ngc, asked, args.settings))))
+    refused = list(told(new, args.output, ask))
     _write(args, new, inputs)
     changed = [*found.whole, *shown_changes(found.changes)] or ["no line is changed"]
     print("\n".join([*warnings, *changed]), file=sys.stdout if args.output else sys.stderr)
@@ -83,10 +89,12 @@ def adapt(args: argparse.Namespace) -> int:
     return 1 if refused else 0
 
 
-def _read(program: str) -> ProgramText:
+def _read(program: str, ask: Ask) -> ProgramText:
     """The text of a file, or of standard input. Raises OSError, NotText."""
     data = files.read_input() if program == "-" else files.read(program)
     with speaking_of("standard input" if program == "-" else program, NotText):
+        if is_none(data, ask):
+            raise NotText(NO_PROGRAM)
         return ProgramText.read(data)
 
 

@@ -13,6 +13,7 @@ from ngc_tools.formats.out import BadLine
 from ngc_tools.formats.program_text import NotText, ProgramText
 from ngc_tools.formats.settings import DEFAULT, Settings
 from ngc_tools.formats.text import shown
+from ngc_tools.job.adapted import NO_PROGRAM, is_none
 from ngc_tools.job.danger import Danger
 from ngc_tools.job.dangers import Conditions, dangers
 from ngc_tools.job.marked import carets, goes_on
@@ -106,6 +107,8 @@ def check(ngc: str, args: argparse.Namespace, motion: Motion | None) -> int:
     report = Listing(args.program)
     data = files.read(args.program)
     with speaking_of(args.program, NotText):
+        if is_none(data, dry_run.ask):
+            raise NotText(NO_PROGRAM)
         text = ProgramText.read(data)
     if why := text.why_unreadable(data):
         report.unreadable(why)

@@ -10,10 +10,11 @@ _DOS_END = "\x1a"
 _LOOKED_AT = 4096  # bytes, by which a text is told from what is none
 _CONTROLS = bytes({*range(32), 127} - set(b"\t\n\v\f\r\x1a"))
 _MOST_CONTROLS = 0.02
+_LONGEST_LINE = 65_536  # letters, which no line of a program has
 
 
 class NotText(Failure, ValueError):
-    """The bytes begin as UTF-16 and aren't UTF-16, or they are no text."""
+    """The bytes begin as UTF-16 and aren't UTF-16, or they are no text of lines."""
 
 
 @dataclass(frozen=True, slots=True)
@@ -38,6 +39,8 @@ class ProgramText:
             text = text.replace("\r", "\n")
             changes.append("the lines end in carriage returns alone; each gets a newline in its place")
         lines, ends = _lines(text, changes)
+        if (longest := max(map(len, lines), default=0)) > _LONGEST_LINE:
+            raise NotText(f"it isn't a program: a line of it has {longest:,} letters")
         return ProgramText(lines, ends, encoding, tuple(changes))
 
     @property
@@ -52,6 +55,12 @@ class ProgramText:
         if b"\n" not in data and b"\r" in data.rstrip(b"\r"):
             return "its lines end in carriage returns alone, so ngc takes it for one line"
         return ""
+
+
+def beginning(data: bytes) -> bytes:
+    """The first lines of a text's bytes, by which a program is told from what is none; all of UTF-16."""
+    is_short = len(data) <= _LONGEST_LINE or data[:2] in _UTF_16_MARKS
+    return data if is_short else data[:data.rfind(b"\n", 0, _LONGEST_LINE) + 1]
 
 
 def _decoded(data: bytes) -> tuple[str, str, list[str]]:

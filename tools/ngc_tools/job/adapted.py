@@ -3,15 +3,22 @@ from collections.abc import Sequence
 from dataclasses import dataclass, replace
 
 from ngc_tools.formats.device import SLOTS
-from ngc_tools.formats.program_text import ProgramText
+from ngc_tools.formats.program_text import ProgramText, beginning
 from ngc_tools.formats.settings import DEFAULT, Settings
 from ngc_tools.job.cam import rewritten, whole_text
 from ngc_tools.job.cam_homes import HomeAnswers, Missing
 from ngc_tools.job.cam_line import CamLine
+from ngc_tools.job.cam_program import SharedSlot
 from ngc_tools.job.outside import widest
 from ngc_tools.job.radius_arcs import centred
+from ngc_tools.job.refused import Ask, Lines, is_no_program
 from ngc_tools.ngc.beginning import Beginning
 from ngc_tools.scratch import scratch_file
+
+
+NO_PROGRAM = "it isn't G-code: ngc can read hardly any of its first lines"
+"""Why a text isn't adapted."""
+_FEW = 20  # lines: of so few each is told
 
 
 @dataclass(frozen=True, slots=True)
@@ -77,6 +84,19 @@ class Adapted:
     changes: list[Change]
     whole: list[str]
     warnings: list[tuple[int, str]]
+
+
+def is_none(data: bytes, ask: Ask) -> bool:
+    """Whether a text of more than a few lines is none of G-code, also as its first lines are written for `ngc`. Of a
+    long text nothing else is looked at. Raises NotText."""
+    head = ProgramText.read(beginning(data))
+    if len(head.lines) <= _FEW:
+        return False
+    try:
+        new, _ = whole_text(rewritten_of(head.lines, HomeAnswers()).lines, head)
+    except SharedSlot:
+        return False
+    return is_no_program(Lines(new.encode()), ask)
 
 
 def adapted(text: ProgramText, found: Rewritten, begin: Beginning, ngc: str, settings: str | None) -> Adapted:

@@ -128,7 +128,8 @@ def find_all(lines: Lines, ask: Ask, most: int = 0,
 
 
 def is_no_program(lines: Lines, ask: Ask) -> bool:
-    """Whether a text is none of G-code: so many of its first lines can't be read at all. `lines` stay as they are."""
+    """Whether a text is none of G-code: so many of its first lines can't be read at all, of a shorter one all. `lines`
+    stay as they are."""
     whole, unread = list(lines.all), 0
     written = [number for number, line in enumerate(whole, 1) if line.strip()][:2 * _UNREADABLE]
     if not written:

@@ -17,6 +17,9 @@ from ngc_tools.operator.session import Session
 from ngc_tools.operator.timeline import Timeline, timeline
 
 
+_TOO_LONG = "refused J5 ProgramTooLong"
+
+
 @dataclass(frozen=True, slots=True)
 class _Tried:
     """A dry run: of which text, from where, with block delete or without, and what it says; text where it can't be."""
@@ -46,7 +49,8 @@ class Loading:
         """Whether a program is to be stored: says what a dry run says of it, and asks where a line would be refused."""
         face, device = self.session.face, self.session.stored()
         if isinstance(device, Device) and len(text) > (MOST_LARGE_PROGRAM if device.is_large else MOST_PROGRAM):
-            return True  # `ngc` refuses it at once: J5
+            face.say(f"{name}, {len(text):,} bytes: {explained(_TOO_LONG)}. ngc-split parts it", REFUSED)
+            return False  # as `ngc` does, which reads all of it first
         if why := unreadable(name, text):
             face.say(f"{why}. Nothing is stored", REFUSED)
             return False

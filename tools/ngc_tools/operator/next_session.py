@@ -25,9 +25,10 @@ class NextSession:
         self.session, self.motors, self.left, self.recover, self.opens = session, motors, left, recover, opens
         self.opened: Callable[[Device | None], None] = lambda _: None
 
-    def begin(self) -> None:
+    def begin(self, drops: bool = False) -> None:
         """The player lets go of what it has in hand, at rest, with spindle and coolant off; a block under way stays
-        half-done. Raises NoAnswer, Ended, OSError."""
+        half-done. `drops`: what no motor carried out is cut off OUT, a file, and nothing is looked for in it. Raises
+        NoAnswer, Ended, OSError."""
         session, console = self.session, self.session.console
         link = session.meter.link if session.meter else None
         console.ask("hold")
@@ -37,7 +38,8 @@ class NextSession:
             raise Ended(status, [])
         found = _stored(console.device)
         if isinstance(link, SyncedLink):
-            self.recover.found = OutFound.of(console.ngc, console.settings, link, found)
+            look = OutFound.cut_off if drops else OutFound.of
+            self.recover.found = look(console.ngc, console.settings, link, found)
         console.start()
         console.status()
         for name in ("optional", "delete"):

@@ -297,7 +297,8 @@ class Operator:
     def _release(self, _: Typed) -> None:
         """Lets the motors carry out what is in hand; `ngc` stays as it is. While something runs that is all."""
         if self.work.is_amid:
-            self.motors.release()
+            if comes_on_agreed(self.session):
+                self.motors.release()
             return
         report = self.session.report()
         if not self.motors.are_held and not (report and report.behind):

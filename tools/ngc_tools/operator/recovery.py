@@ -163,6 +163,23 @@ class OutFound:
             link.follow()
         return found
 
+    @staticmethod
+    def cut_off(ngc: str, settings: str, link: SyncedLink, device: Device | None) -> "OutFound":
+        """Cuts off what no motor carried out; the player goes on from there at once. Raises NoAnswer, BadSettings,
+        OSError."""
+        found = OutFound(link, Looking(ngc, settings, device.image) if device else None, Recovery(), [])
+        report, size = link.standing()
+        found._ends_there(report, size)
+        found.cut(size)
+        return found
+
+    def _ends_there(self, report: Report, size: int) -> None:
+        """The motors are where OUT leads, or is to."""
+        lines = report.carried
+        x, y, z = map(nanometres, report.at.split())
+        end = SegmentBeginning(size, (0, 0, 0))
+        self.recovery = Recovery(lines, size, (x, y, z), report.outputs, lines, end, (x, y, z), (x, y, z), _NO_WAY)
+
     def look(self) -> None:
         """Looks how it stands now, with the motors at rest. Raises NoAnswer, OSError."""
         report, size = self.link.standing()
@@ -170,8 +187,7 @@ class OutFound:
         x, y, z = map(nanometres, report.at.split())
         self._at_nm = (x, y, z)
         if self.looking and self.looking.is_through(size == self.link.size(), (x, y, z)):
-            end = SegmentBeginning(size, (0, 0, 0))
-            self.recovery = Recovery(lines, size, (x, y, z), report.outputs, lines, end, (x, y, z), (x, y, z), _NO_WAY)
+            self._ends_there(report, size)
         elif self.looking is None:
             self.recovery = Recovery(lines, size, (x, y, z), report.outputs, lines, problem="the device can't be read")
         else:

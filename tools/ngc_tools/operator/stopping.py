@@ -89,7 +89,7 @@ class Stopping:
             gives_up = session.agrees(WITHIN.format(half=session.half(status)))
         elif report and report.behind:
             gives_up = session.agrees(LINES.format(count=count(report)))
-        self.following.begin()
+        self.following.begin(gives_up)
         if gives_up:
             self._give_up(status)
         elif status.half == "none":
@@ -97,10 +97,6 @@ class Stopping:
 
     def _give_up(self, status: Status) -> None:
         """Nothing that is in hand, or half-done, is gone on with. Raises NoAnswer, OSError."""
-        found = self.following.recover.found
-        if found is not None and found.is_left():
-            found.look()
-            found.cut(found.recovery.size)
         self._tell_place()
         if status.half != "none" and taken(self.session, self.session.console.ask("abandon")[0], "abandon"):
             self.session.face.say("given up: run begins that line again, from where the machine stands"

@@ -18,6 +18,7 @@ _HELD = {
     DOOR: "The door was open, and is closed now. Go on carries on",
     SPINDLE: "The spindle didn't come to its speed. Look at it; Go on waits for it once more",
 }
+_OFF = "Spindle and coolant were switched off by hand. Go on asks before they come on again"
 _HELD_BY_OTHER = "Somebody else holds the motors. Go on carries on"
 _MOVES = {"home": "Homing", "jog": "Jogging", "seek": "Seeking"}
 _SEEKS = "until the probe is touched"
@@ -106,6 +107,8 @@ class Standing:
         """What holds the motors that nobody told to hold from here."""
         if self.session.operator.session.is_door_open:
             return _OPEN
+        if self.report and self.report.again:
+            return _OFF
         return _HELD.get(self.held_by, _HELD_BY_OTHER)
 
     def _at_rest(self) -> Band:

@@ -7,7 +7,7 @@ from ngc_tools.formats.device import Device
 from ngc_tools.formats.program_text import NotText, ProgramText
 from ngc_tools.formats.settings import Settings
 from ngc_tools.formats.text import shown
-from ngc_tools.job.adapted import Adapted, adapted, rewritten_of
+from ngc_tools.job.adapted import NO_PROGRAM, Adapted, adapted, rewritten_of
 from ngc_tools.job.cam_homes import HomeAnswers, Missing
 from ngc_tools.job.cam_program import SharedSlot
 from ngc_tools.job.danger import Danger
@@ -26,7 +26,6 @@ LIKE = 10
 CHANGED = 500
 """So many changed lines are shown."""
 _RUNS, _RUNS_AFTER_STOPS = 8, 9  # dry runs that look for what is dangerous, about
-_NO_PROGRAM = "it isn't G-code: ngc can read hardly any of its first lines"
 
 Told = Callable[[str, int, int], None]
 """Is told what is done, how far it is, and of how much."""
@@ -72,7 +71,7 @@ class Check:
         except (SharedSlot, CannotSetUp) as error:
             return found.of(text.data, 1) | {"unreadable": str(error)}, data
         if is_no_program(Lines(written.text), found.ask):
-            return _unreadable(why or _NO_PROGRAM), data
+            return _unreadable(why or NO_PROGRAM), data
         if not written.changes and not written.whole:
             return found.of(data) | {"unreadable": why}, data
         return found.of(written.text) | {"adapted": _changed(written)}, written.text

@@ -137,9 +137,11 @@ def _points(asked: RehearsalRequest) -> list[list[int]]:
 def _approach(asked: RehearsalRequest, start: tuple[str, ...], end: tuple[str, ...], us: int) -> dict:
     """The straight way of an approach, with what is dangerous about it."""
     a, b = _point(start), _point(end)
-    return {"from": start, "to": end, "length": rounded(distance(a, b)), "time": duration(us),
+    rate = "the feed that was cut off, or a slower one" if asked.motors else "the traverse rate"
+    return {"from": start, "to": end, "length": rounded(distance(a, b)), "rate": rate,
+            "time": "" if asked.motors else duration(us),
             "lowest": rounded(min(a[2], b[2])), "down": rounded(max(0, a[2] - b[2])),
-            "warnings": [*_goes_down(a, b), *_goes_beside(asked, a, b)]}
+            "warnings": [*_goes_down(a, b, rate), *_goes_beside(asked, a, b)]}
 
 
 def _point(at: tuple[str, ...] | list[str]) -> Point:
@@ -147,12 +149,12 @@ def _point(at: tuple[str, ...] | list[str]) -> Point:
     return x, y, z
 
 
-def _goes_down(a: Point, b: Point) -> list[str]:
+def _goes_down(a: Point, b: Point, rate: str) -> list[str]:
     if b[2] >= a[2]:
         return []
     sideways = max(abs(a[0] - b[0]), abs(a[1] - b[1]))
     at_once = f", and {rounded(sideways)} mm sideways at once" if sideways else ""
-    return [f"It goes DOWN {rounded(a[2] - b[2])} mm, to Z {rounded(b[2])}{at_once}, at the traverse rate."]
+    return [f"It goes DOWN {rounded(a[2] - b[2])} mm, to Z {rounded(b[2])}{at_once}, at {rate}."]
 
 
 def _goes_beside(asked: RehearsalRequest, a: Point, b: Point) -> list[str]:

@@ -10,6 +10,7 @@ from ngc_tools.ngc.console import Status
 from ngc_tools.operator.alarm import left_of
 from ngc_tools.operator.display import on_words, outputs_on
 from ngc_tools.operator.motors import way_nm
+from ngc_tools.operator.sentences import SWITCHED
 from ngc_tools.operator.session import ALARM, WAITS_SPINDLE
 from ngc_tools.page.band import Standing
 from ngc_tools.page.face import LOOKS
@@ -107,8 +108,10 @@ class Pictured:
         out = self.report.outputs if self.report else outputs_on(self.device.state)
         on = on_words(out)
         tool = f"Tool {out.slot} is in the spindle, and it is sound" if out.slot else "The right tool is in, and sound"
+        is_own = self.face.question is not None and self.face.question.text == SWITCHED.strip()
+        way = "The straight way is free, all of it at the traverse rate" if is_own else "The way is free"
         return (f"On, as it should be: {on}" if on else "Spindle and coolant are off, as they should be", tool,
-                "The way is free, and my hand is at Hold")
+                f"{way}, and my hand is at Hold")
 
     def _motors(self) -> dict:
         """Where the motors are, with the outputs as they have them: `ngc` may be ahead of them."""

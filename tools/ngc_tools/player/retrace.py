@@ -48,11 +48,11 @@ _SWITCH = re.compile(r"switch (S .*)")
 
 @dataclass(frozen=True, slots=True)
 class Wish:
-    """Where somebody sends the motors: along OUT to where its first `size` bytes lead. If `at_nm` is named, it is where
-    they lead, or what is carried out if that is less, and legs over `lift_nm` go there first, or without that one
-    straight line. The last leg, and a way back, goes at most at `nm_per_min`; None for no other rate than that of
-    traverses. `on` is switched on before; with `is_switch` that is all, and nothing moves. `person` looks at it then, and
-    agrees, before anything moves; None for nobody at the player's own terminal."""
+    """Where somebody sends the motors: along OUT to where its first `size` bytes lead. If `at_nm` is named, it is
+    where they lead, or what is carried out if that is less, and legs over `lift_nm` go there first, or without that
+    one straight line. The last leg, and a way back, goes at most at `nm_per_min`; None for no other rate than that
+    of traverses. `on` is switched on before; with `is_switch` that is all, and nothing moves. `person` looks at it
+    then, and agrees, before anything moves; None for nobody at the player's own terminal."""
 
     size: int = 0
     on: Switch | None = None

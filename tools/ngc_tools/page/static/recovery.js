@@ -15,7 +15,9 @@ const CHOICES = {
   legs: ['Go by legs', 'asks for a height and a feed, and goes straight up to it, over, and straight down at that feed '
     + 'to where the segment begins.'],
   straight: ['Resume in one line', 'goes in one straight line to where the segment begins, at the feed that was cut '
-    + 'off or a slower one; without a player at the traverse rate.'],
+    + 'off or a slower one.'],
+  own: ['Resume in one line', 'goes in one straight line to where the segment begins. No player is there to go slowly: '
+    + 'all of it is gone AT THE TRAVERSE RATE, down into the work too.'],
   giveUp: ['Give up', 'moves and switches nothing. The line counts as not begun, and the program stays before it. Then '
     + 'the tool is freed by lines of G-code.'],
 };
@@ -298,7 +300,8 @@ export class Recovery {
   }
 
   held() {
-    this.put([sheet.title('Held'), sheet.warning('Spindle and coolant stay as they are: stop them yourself.'),
+    this.put([sheet.title('Held'), this.app.state.can.off
+      && sheet.warning('Spindle and coolant stay as they are: the button below switches them off.'),
       sheet.said('Continue asks you to look once more, where nothing was cut yet. After Quit the line is still '
         + 'half-done.')],
     [sheet.button('Close', () => this.later()), sheet.gap(), this.next('Continue', () => this.asks('run'))]);
@@ -308,9 +311,10 @@ export class Recovery {
     const { recover, player } = this.app.state, canResume = Boolean(this.plan?.approach) && !recover?.left;
     const isAlong = this.along && (this.along.way || this.along.there);
     const offered = isAlong ? ['along'] : this.along || player ? ['legs'] : [];
-    if (canResume) offered.push('straight');
+    if (canResume) offered.push(player ? 'straight' : 'own');
     const recovers = () => this.asks('recover', { at: this.at });
-    const does = { along: recovers, legs: recovers, straight: () => this.resume() };
+    const does = { along: recovers, legs: recovers, straight: () => this.resume(),
+      own: () => this.resume() };
     const buttons = offered.map((name, i) => (i === (this.along ? 0 : offered.length - 1) ? sheet.go : sheet.button)(
       CHOICES[name][0], does[name], this.app.state.yours));
     this.put([sheet.title('Take the line up, or give it up'),

@@ -39,7 +39,7 @@ function straight(plan) {
   return [sheet.title(title), ...dangers,
     isFine && sheet.warning('It doesn\u2019t go down, and stays where cuts are finished.', 'fine'),
     sheet.facts([['From', sheet.code(point(way.from))], ['To', sheet.code(point(way.to))],
-      ['Lowest', sheet.code(`Z ${mm(way.lowest)}`)], ['At the traverse rate, without a player', way.time],
+      ['Lowest', sheet.code(`Z ${mm(way.lowest)}`)], ['It goes at', way.rate], ['That takes', way.time],
       ['Comes on first', plan.comes_on], ['Then, to the end', lasting(plan.rest_us)]]),
     isThere ? null : sheet.said(FREE)];
 }
