@@ -1,17 +1,16 @@
 -- What the time of a line says of its two rates.
-use Rattle.std.proofs.Common.{arith, ℕ, ◌+◌, ◌-◌, ◌*◌, ◌/◌, ◌^◌, max, ◌<◌, ◌≤◌, ◌≡◌, ◌⊎◌, inl, inr, refl, Bool, true, false}
-use Rattle.std.specs.Prelude.{◌==◌, ◌&&◌, if◌then◌else◌}
+use Rattle.std.proofs.Common.{arith, ℕ, ◌+◌, ◌-◌, ◌*◌, ◌/◌, ◌<◌, ◌≤◌, ◌≡◌, ◌⊎◌, inl, inr, refl, Bool, true, false}
 use Rattle.std.proofs.Math.Nat.{lt-mul-div-succ}
 use Rattle.std.proofs.lemmas.Bool.Decides.{nat_tests}
 use Rattle.ng_pace.specs.declared.line.Line.{Line}
-use Rattle.ng_pace.specs.Due.{least_ns, own_square_of}
+use Rattle.ng_pace.specs.Due.{least_ns}
 use Rattle.ng_pace.specs.Interval.{time_at, is_at_own_rate, IsTimeOf, KeepsOwnRate, IsNoSooner}
 
 -- two seconds over a sum of rates, rounded up
 rounded_up : (n both : ℕ) → 0 < both → n ≤ (n + both - 1) / both * both
 rounded_up n both some = grind (arith, lt-mul-div-succ (n + both - 1) some)
 
-mean_time : (least both ns : ℕ) → ns ≡ time_at least both → 0 < both → 512000000000 ≤ ns * both
+pub mean_time : (least both ns : ℕ) → ns ≡ time_at least both → 0 < both → 512000000000 ≤ ns * both
 mean_time least both ns is some = grind (arith, nat_tests, rounded_up 512000000000 both some, is)
 
 pub own_or_no_sooner : (percent : ℕ) (line : Line) (from to ns : ℕ) → IsTimeOf percent line from to ns

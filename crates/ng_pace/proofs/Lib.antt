@@ -18,3 +18,5 @@ pub mod SlopeLemmas
 pub mod SquareLemmas
 pub mod PathStepLemmas
 pub mod TakeLemmas
+pub mod SpeedLemmas
+pub mod SpeedRunLemmas

@@ -19,4 +19,5 @@ pub mod Halting
 pub mod Putting
 pub mod Calls
 pub mod Run
+pub mod Speed
 pub mod Paths

@@ -8,7 +8,8 @@ ghost use Rattle.ng_pace.specs.Legs.{Leg};
 ghost use Rattle.ng_pace.specs.Calls.{IsEmpty};
 ghost use Rattle.ng_pace.specs.Paths.{KeepsToPaths};
 ghost use Rattle.ng_pace.specs.Putting.{IsUnderway, KeepSoFar};
-ghost use Rattle.ng_pace.specs.Run.{Event, IsRun, AsksOnly, HoldsOnly, IsPacedBeginning, IsGivenOut, IsStopped};
+ghost use Rattle.ng_pace.specs.Run.{Event, IsRun, AsksOnly, HoldsOnly, IsPacedBeginning, IsGivenOut, IsStopped, lines_given};
+ghost use Rattle.ng_pace.specs.Speed.{KeepAcceleration};
 
 /// For any items, whatever is wanted and whenever the items come: what was given out is a beginning of what was put
 /// in, each line once and in order. No line is sooner than in its own time, and each takes the time of its squares. No
@@ -44,4 +45,12 @@ pub fn keeps_to_paths()
 /// acceleration and its greatest rate (own).
 pub fn lines_keep()
     ensures { (flow : Flow) (legs : List Leg) → IsUnderway flow legs → KeepSoFar flow.limits legs }
+{}
+
+/// Of a stream from its beginning, whatever is put in and wanted: from each pulse to the next one that goes on from it,
+/// the rate changes by no more than the ramps of both allow over the time between their middles, but for a 128th of a
+/// pulse a second and a nanosecond. Said of the times that are given out (own).
+pub fn keeps_acceleration()
+    ensures { (old : Flow) (limits : Limits) (capacity : ℕ) (events : List Event) (new : Flow) → IsEmpty old limits capacity
+        → IsRun old events new → KeepAcceleration (lines_given events) }
 {}

@@ -33,7 +33,7 @@ mod stepping;
 mod stream;
 
 pub use fault::PaceFault;
-pub use laws::{given_out, held, keeps_to_paths, lines_keep, paced_beginning};
+pub use laws::{given_out, held, keeps_acceleration, keeps_to_paths, lines_keep, paced_beginning};
 pub use limits::Limits;
 pub use line::Line;
 pub use pacer::Pacer;
