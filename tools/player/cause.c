@@ -22,8 +22,9 @@ static bool is_shown(const char *text, size_t size) {
     }
     unsigned char second = (unsigned char)text[1];
     bool is_control = first == 0xc2 && second < 0xa0;
-    bool turns_writing = first == 0xe2 && (second == 0x80 || second == 0x81);
-    return size > 1 && !is_control && !turns_writing;
+    bool turns_writing = (first == 0xe2 && (second == 0x80 || second == 0x81)) || (first == 0xd8 && second == 0x9c);
+    bool is_mark = size == 3 && memcmp(text, "\xef\xbb\xbf", 3) == 0; /* of the order of bytes */
+    return size > 1 && !is_control && !turns_writing && !is_mark;
 }
 
 /* Writes the character that begins at `text`; returns how many bytes were written, and moves `at` behind it. */
