@@ -65,7 +65,8 @@ class Shown(InFolder):
         self.check("ngc-adapt", "cam*.ngc", "--lift", "5", "--output", "new*.ngc", *ask)
         self.check("ngc-adapt", "cam*.ngc", "--lift", "5", "--output", "new*.ngc", *ask)  # it is there
         self.check("ngc-plot", "part*.ngc", "--output", "picture*.svg", *ask)
-        self.check("ngc-plot", "refused*.ngc", "--title", ODD, "--settings", "first*.toml", "--output", "other*.svg", *ask)
+        words = ("--title", ODD, "--settings", "first*.toml", "--output", "other*.svg")
+        self.check("ngc-plot", "refused*.ngc", *words, *ask)
         for path in Path().glob("*.svg"):
             self.assertIsNone(OBEYED.search(path.read_text()), path)
         self.check("ngc-split", "part*.ngc", "--limit", "10", *ask)
@@ -89,7 +90,8 @@ class Shown(InFolder):
         """A session, what a device holds, and a rehearsal of it."""
         ask = ("--ngc", ngc())
         words = ("mill*.dev", "first*.toml", "out")
-        typed = f"load part{ODD}.ngc\nload refused{ODD}.ngc\nno\nload none{ODD}.ngc\nrun\nrun\nwhere\nstatus\n{ODD}\nquit\n"
+        loads = f"load part{ODD}.ngc\nload refused{ODD}.ngc\nno\nload none{ODD}.ngc\n"
+        typed = f"{loads}run\nrun\nwhere\nstatus\n{ODD}\nquit\n"
         self.assertIn("turn it", self.check("ngc-operate", *words, *ask, text=typed))
         self.check("ngc-device", "mill*.dev")
         self.check("ngc-rehearse", *words[:2], *ask)
