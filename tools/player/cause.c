@@ -55,6 +55,10 @@ static size_t show_all(char *to, size_t room, const char *text, size_t size) {
     return used;
 }
 
+void show_text(char *shown, size_t room, const char *text) {
+    show_all(shown, room, text, strlen(text));
+}
+
 void say(const char *format, ...) {
     struct cause text;
     char shown[CAUSE_ROOM];
@@ -62,7 +66,7 @@ void say(const char *format, ...) {
     va_start(words, format);
     vsnprintf(text.text, sizeof text.text, format, words);
     va_end(words);
-    show_all(shown, sizeof shown, text.text, strlen(text.text));
+    show_text(shown, sizeof shown, text.text);
     fprintf(stderr, "%s\n", shown);
 }
 
