@@ -115,7 +115,7 @@ class Bounds(InFolder):
                     " cycle right?\n")
             for tool, words in ((check, ()), (plot, ("--output", "picture.svg")), (adapt, ("--output", "new.ngc"))):
                 self.assertEqual(told(tool.main, "long.ngc", "--ngc", ngc(), *words)[::2],
-                                 (2, f"{tool.make_parser().prog}: {said}"))
+                                 (2, f"{tool.make_parser().prog}: long.ngc: {said}"))
 
     def test_memory(self) -> None:
         """A tool that looks at files may take so much memory and no more, which it says; the bound is gone after it."""

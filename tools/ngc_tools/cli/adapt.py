@@ -19,7 +19,7 @@ from ngc_tools.job.cam_program import SharedSlot
 from ngc_tools.job.refused import Lines, find_all
 from ngc_tools.ngc import cures
 from ngc_tools.ngc.beginning import Beginning
-from ngc_tools.ngc.run import Refusal, find_ngc, refusal
+from ngc_tools.ngc.run import Refusal, TooLong, find_ngc, refusal
 from ngc_tools.ngc.usable_settings import look_at_settings
 from ngc_tools.scratch import scratch_file
 
@@ -73,9 +73,10 @@ def adapt(args: argparse.Namespace) -> int:
         files.look_before_write(args.output, inputs, args.force)
     begin, text = chosen_beginning(args), _read(args.program)
     lines, warnings = _rewritten(args.program, text, answers)
-    found = adapted(text, Rewritten(lines, [], []), begin, ngc, args.settings)
-    new = found.text
-    refused = list(told(new, args.output, lambda asked: refusal(*begin.dry(ngc, asked, args.settings))))
+    with speaking_of(_named(args.program), TooLong):
+        found = adapted(text, Rewritten(lines, [], []), begin, ngc, args.settings)
+        new = found.text
+        refused = list(told(new, args.output, lambda asked: refusal(*begin.dry(ngc, asked, args.settings))))
     _write(args, new, inputs)
     changed = [*found.whole, *shown_changes(found.changes)] or ["no line is changed"]
     print("\n".join([*warnings, *changed]), file=sys.stdout if args.output else sys.stderr)
@@ -86,8 +87,13 @@ def adapt(args: argparse.Namespace) -> int:
 def _read(program: str) -> ProgramText:
     """The text of a file, or of standard input. Raises OSError, NotText."""
     data = files.read_input() if program == "-" else files.read(program)
-    with speaking_of("standard input" if program == "-" else program, NotText):
+    with speaking_of(_named(program), NotText):
         return ProgramText.read(data)
+
+
+def _named(program: str) -> str:
+    """What is read, for people."""
+    return "standard input" if program == "-" else program
 
 
 def _write(args: argparse.Namespace, data: bytes, inputs: Sequence[str | None]) -> None:
