@@ -22,8 +22,9 @@ static bool is_shown(const char *text, size_t size) {
     }
     unsigned char second = (unsigned char)text[1];
     bool is_control = first == 0xc2 && second < 0xa0;
-    bool turns_writing = first == 0xe2 && (second == 0x80 || second == 0x81);
-    return size > 1 && !is_control && !turns_writing;
+    bool turns_writing = (first == 0xe2 && (second == 0x80 || second == 0x81)) || (first == 0xd8 && second == 0x9c);
+    bool is_mark = size == 3 && memcmp(text, "\xef\xbb\xbf", 3) == 0; /* of the order of bytes */
+    return size > 1 && !is_control && !turns_writing && !is_mark;
 }
 
 /* Writes the character that begins at `text`; returns how many bytes were written, and moves `at` behind it. */
@@ -54,6 +55,10 @@ static size_t show_all(char *to, size_t room, const char *text, size_t size) {
     return used;
 }
 
+void show_text(char *shown, size_t room, const char *text) {
+    show_all(shown, room, text, strlen(text));
+}
+
 void say(const char *format, ...) {
     struct cause text;
     char shown[CAUSE_ROOM];
@@ -61,7 +66,7 @@ void say(const char *format, ...) {
     va_start(words, format);
     vsnprintf(text.text, sizeof text.text, format, words);
     va_end(words);
-    show_all(shown, sizeof shown, text.text, strlen(text.text));
+    show_text(shown, sizeof shown, text.text);
     fprintf(stderr, "%s\n", shown);
 }
 

@@ -15,6 +15,9 @@ struct cause {
 /* Sets the text, and returns false. */
 bool because(struct cause *why, const char *format, ...) __attribute__((format(printf, 2, 3)));
 
+/* A text as it may be shown, as far as there is room: without anything that a terminal would obey. */
+void show_text(char *shown, size_t room, const char *text);
+
 /* A line on standard error, without anything that a terminal would obey. */
 void say(const char *format, ...) __attribute__((format(printf, 1, 2)));
 

@@ -96,12 +96,14 @@ static bool keep_last(const char *position) {
 /* What was carried out, how well, and where the machine stands; whether that could be said. */
 static bool tell(const struct play *play) {
     const struct counts *counts = &play->counts;
+    static char out[CAUSE_ROOM];
     char place[PLACE_ROOM];
     int64_t nm[3];
     player_place(&player, nm);
     place_print(place, sizeof place, nm);
+    show_text(out, sizeof out, play->options->out);
     printf("%s: %" PRIu64 " lines carried out, %" PRIu64 " pulses, %" PRIu64 " waits, %" PRIu64 " switches\n",
-           play->options->out, counts->pulses + counts->waits + counts->switches, counts->pulses, counts->waits,
+           out, counts->pulses + counts->waits + counts->switches, counts->pulses, counts->waits,
            counts->switches);
     if (play->schedule.is_timed) {
         const struct schedule *schedule = &play->schedule;

@@ -72,8 +72,11 @@ bool pins_begin(const char *path, const char *const *others, struct cause *why) 
     if (is_there && S_ISBLK(what.st_mode)) {
         return because(why, "%s: a disk can't stand for the pins", path);
     }
-    file = open(path, O_WRONLY | O_CREAT | O_APPEND | O_CLOEXEC, 0600);
-    if (file < 0 || fstat(file, &what) != 0) {
+    file = open(path, O_WRONLY | O_CREAT | O_APPEND | O_CLOEXEC | O_NONBLOCK, 0600);
+    if (file < 0 && errno == ENXIO) {
+        return because(why, "%s: nobody reads this pipe yet", path);
+    }
+    if (file < 0 || fstat(file, &what) != 0 || fcntl(file, F_SETFL, O_APPEND) != 0) { /* a write waits for room */
         return because(why, "%s: %s", path, strerror(errno));
     }
     if (S_ISREG(what.st_mode) && !take_file(path, why)) {

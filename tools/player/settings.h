@@ -15,8 +15,8 @@ struct settings {
     int64_t traverse_nm_per_min;
 };
 
-/* Reads a file of settings. It takes no settings that `ngc` refuses; of those that `ngc` takes it wants decimal numbers,
- * and keys without escapes. Returns false, with the cause. */
+/* Reads a file of settings. It takes no settings that `ngc` refuses; of those that `ngc` takes it wants decimal
+ * numbers, and keys without escapes. Returns false, with the cause. */
 bool settings_read(const char *path, struct settings *settings, struct cause *why);
 
 #endif

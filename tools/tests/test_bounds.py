@@ -19,6 +19,8 @@ from ngc_tools.ngc import run  # noqa: E402
 from ngc_tools.ngc.run import TooLong, dry  # noqa: E402
 
 MOTION = "[motion]\naccel_mm_s2 = [500, 500, 500]\n"
+HEAD = "G21 G90 G17 G54 G94 G98 F100\n"
+HOLES = "G91 G81 X0.001 Z-1 R0.5 L9999\n"
 FILES = {"PROGRAM": "part.ngc", "SETTINGS": "first.toml", "MACHINE": "motion.toml", "DEVICE": "mill.dev", "OUT": "out",
          "POSITION": "position"}
 WORDS = {
@@ -88,14 +90,15 @@ class NoFiles(InFolder):
         """Settings and a machine's file have at most a mebibyte."""
         Path("long.toml").write_text(Path("first.toml").read_text() + "#" * 2**20)
         Path("long-motion.toml").write_text(MOTION + "#" * 2**20)
-        for tool, words in ((check, ("part.ngc", "--settings", "long.toml")), (operate, ("mill.dev", "long.toml", "out")),
-                            (player, ("good", "long.toml", "position", "--untimed")),
+        for tool, words in ((check, ("part.ngc", "--settings", "long.toml")),
+                            (operate, ("mill.dev", "long.toml", "out")), (player, ("good", "long.toml", "position", "--untimed")),
                             (check, ("part.ngc", "--settings", "first.toml", "--machine", "long-motion.toml")),
                             (player, ("good", "first.toml", "position", "--untimed", "--machine", "long-motion.toml"))):
             ask = [] if tool is player else ["--ngc", ngc()]
             name = next(word for word in words if word.startswith("long"))
             status, _, said = told(tool.main, *words, *ask)
-            self.assertEqual((status, said.partition(": ")[2]), (2, f"{name}: it has more than 1,048,576 bytes\n"), words)
+            self.assertEqual(status, 2, words)
+            self.assertEqual(said.partition(": ")[2], f"{name}: it has more than 1,048,576 bytes\n", words)
 
 
 class Bounds(InFolder):
@@ -103,17 +106,16 @@ class Bounds(InFolder):
 
     def test_long_text(self) -> None:
         """A dry run that prints more than is looked at is ended, and that is said with the bound."""
-        Path("long.ngc").write_text("G21 G90 G17 G54 G94 G98 F100\nG0 X0 Y0 Z5\n" + "G91 G81 X0.001 Z-1 R0.5 L9999\nG90\n" * 9
-                                    + "M2\n")
+        Path("long.ngc").write_text(HEAD + "G0 X0 Y0 Z5\n" + 9 * (HOLES + "G90\n") + "M2\n")
         with mock.patch.object(run, "MOST_TEXT", 10**6):
             with self.assertRaises(TooLong):
                 dry(ngc(), Path("long.ngc"))
             self.assertEqual(dry(ngc(), b"M2\n")[0], 0)
-            said = ("its dry run has more than 1,000,000 bytes of commands, and no more are looked at: is the L of a cycle"
-                    " right?\n")
+            said = ("its dry run has more than 1,000,000 bytes of commands, and no more are looked at: is the L of a"
+                    " cycle right?\n")
             for tool, words in ((check, ()), (plot, ("--output", "picture.svg")), (adapt, ("--output", "new.ngc"))):
                 self.assertEqual(told(tool.main, "long.ngc", "--ngc", ngc(), *words)[::2],
-                                 (2, f"{tool.make_parser().prog}: {said}"))
+                                 (2, f"{tool.make_parser().prog}: long.ngc: {said}"))
 
     def test_memory(self) -> None:
         """A tool that looks at files may take so much memory and no more, which it says; the bound is gone after it."""
@@ -131,12 +133,13 @@ class Bounds(InFolder):
         self.assertEqual((found, resource.getrlimit(resource.RLIMIT_AS)), ([2**31], before))
 
     def test_many_refusals(self) -> None:
-        """Of 3,000 refused lines two hundred are looked at, or as many as were asked for; that there are more is said."""
+        """Of 3,000 refused lines 200 are looked at, or as many as were asked for; that there are more is said."""
         Path("many.ngc").write_text("Q1\n" * 3000)
         status, said, _ = told(check.main, "many.ngc", "--ngc", ngc())
         self.assertEqual((status, said.count(": B12 UnusedWord\n")), (1, 200))
         self.assertIn("many.ngc: 200 refusals, and more\n", said)
-        self.assertIn("many.ngc: 3 refusals, and more\n", told(check.main, "many.ngc", "--most", "3", "--ngc", ngc())[1])
+        said = told(check.main, "many.ngc", "--most", "3", "--ngc", ngc())[1]
+        self.assertIn("many.ngc: 3 refusals, and more\n", said)
 
     def test_many_words(self) -> None:
         """Lines of many words that are refused take many dry runs: it stops after so many."""
@@ -149,7 +152,7 @@ class Bounds(InFolder):
 
     def test_killed(self) -> None:
         """A tool that is killed leaves no `ngc` behind."""
-        Path("long.ngc").write_text("G21 G90 G17 G54 G94 G98 F100\n" + "G91 G81 X0.001 Z-1 R0.5 L9999\n" * 9999)
+        Path("long.ngc").write_text(HEAD + HOLES * 9999)
         child = self.start("ngc-plot", "long.ngc", "--ngc", ngc(), "--output", "picture.svg")
         children = Path(f"/proc/{child.pid}/task/{child.pid}/children")
         self.wait_for("it asks ngc", lambda: bool(children.read_text().split()))

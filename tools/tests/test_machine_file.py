@@ -71,15 +71,15 @@ agree_um = 20
 height_um = -81250
 """
 KEYS = re.findall(r"^(?:\[(\w+)\]|(\w+) =)", MACHINE, re.MULTILINE)
-PIECES = (" ", "\t", "\n", "\r\n", "\r", "#", '"', "'", '"""', "'''", ".", ",", "=", "[", "]", "[[", "]]", "{", "}", "\\",
-          "\\u0069", "_", "-", "+", "0", "1", "15", "16", "-1", "0x1", "0b1", "1e3", "1.0", "true", "nan", "1979-05-27",
-          "9223372036854775807", "9223372036854775808", "[inputs]", "[ inputs ]", '["inputs"]', "[Inputs]", "[inputs.x]",
-          "inputs.emergency_stop = 0", 'inputs . "door" = 3', "[home]", "[[inputs]]", "inputs = {door = 4}", "[extra]",
-          "extra = 1", '"" = 1', "emergency_stop", "door", "\0", "\x7f", "\x1b", "\x80", "\xff", "\xc3\xa9", "\xe2\x80\xae",
-          "\xed\xa0\x80", "\xef\xbb\xbf", "[\n1, 2,\n3, ]", "[1, 2, 3,]", "[1 2 3]", "[]")
+PIECES = (" ", "\t", "\n", "\r\n", "\r", "#", '"', "'", '"""', "'''", ".", ",", "=", "[", "]", "[[", "]]", "{", "}",
+          "\\", "\\u0069", "_", "-", "+", "0", "1", "15", "16", "-1", "0x1", "0b1", "1e3", "1.0", "true", "nan", "1979-05-27",
+          "9223372036854775807", "9223372036854775808", "[inputs]", "[ inputs ]", '["inputs"]', "[Inputs]",
+          "[inputs.x]", "inputs.emergency_stop = 0", 'inputs . "door" = 3', "[home]", "[[inputs]]", "inputs = {door = 4}", "[extra]",
+          "extra = 1", '"" = 1', "emergency_stop", "door", "\0", "\x7f", "\x1b", "\x80", "\xff", "\xc3\xa9",
+          "\xe2\x80\xae", "\xed\xa0\x80", "\xef\xbb\xbf", "[\n1, 2,\n3, ]", "[1, 2, 3,]", "[1 2 3]", "[]")
 ODD = re.compile(rb"""\\|\{|\[\[|0[xob]|""\"|'''""")
-"""Without these, what Python reads tools/player reads too: escapes, tables within a line, numbers to other bases, quotes
-over several lines."""
+"""Without these, what Python reads tools/player reads too: escapes, tables within a line, numbers to other bases,
+quotes over several lines."""
 
 
 def changed(chance: random.Random, text: bytes, least: int = 1) -> bytes:
@@ -146,11 +146,11 @@ NAMED = {
     "[Inputs]\nemergency_stop = 0\n": f"motion.toml: Inputs {NO_TABLE}",
     "[wait.more]\nspindle_s = 4\n": None, "[[inputs]]\ndoor = 0\n": None, "[inputs]\n[inputs]\n": None,
     "[inputs]\nDoor = 0\n": "motion.toml: inputs has a key that isn't one of its eight: Door",
-    "[inputs]\ndoor.x = 0\n": None, "[inputs]\ndoor = '0'\n": "motion.toml: inputs: door takes a whole number from -1 to"
-                                                                " 15",
+    "[inputs]\ndoor.x = 0\n": None,
+    "[inputs]\ndoor = '0'\n": "motion.toml: inputs: door takes a whole number from -1 to 15",
     "[setter]\nheight = 1\n": "motion.toml: setter has a key that isn't height_um: height",
-    "[sink]\nline = 1\n": "motion.toml: sink: line takes the path of the sink's serial line in \"quotes\", of at most 255"
-                          " bytes",
+    "[sink]\nline = 1\n": "motion.toml: sink: line takes the path of the sink's serial line in \"quotes\", of at most"
+                          " 255 bytes",
     "[inputs]\nprobe = 16\n": "motion.toml: inputs: probe takes a whole number from -1 to 15",
 }
 """What no player takes, and what both say, where it is the same."""

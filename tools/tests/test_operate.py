@@ -229,6 +229,7 @@ class Scripted(InFolder):
         Path("short.dev").write_bytes(b"x" * 600)
         Path("blank.dev").write_bytes(bytes(875_520))
         Path("part").write_text("P 1 0 0 50\nP 1")
+        Path("other.dev").write_bytes(Path("mill.dev").read_bytes() + b"P 1 0 0 50\n")
         os.mkfifo("axis")
         os.mkdir("folder")
         os.symlink("mill.dev", "link.dev")
@@ -261,6 +262,9 @@ class Scripted(InFolder):
              " the same one: give a new OUT, or cut that part off"),
             (("mill.dev", "first.toml", "part.ngc"), "part.ngc: it holds something else than lines of OUT, and pulses"
              " would be appended to it: give a new OUT. Its last line is not a line of OUT: 'M2'"),
+            (("mill.dev", "first.toml", "other.dev"), "other.dev: it is a device, and lines of OUT would be appended to"
+             " it: give a new OUT"),
+            (("mill.dev", "first.toml", "/dev/zero"), "/dev/zero: OUT is a file, a named pipe or a serial line"),
             (("/dev/null", "first.toml", "out"), "/dev/null: not a device: it has 0 bytes of 875,520"),
             (("mill.dev", "first.toml", "out", "--player", "none"), "none: no player listens there: No such file or"
              " directory"),

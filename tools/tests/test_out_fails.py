@@ -54,7 +54,8 @@ class OutFails:
         """It isn't taken for OUT's end, which is 301 lines. Read are 5 times 64 bytes: 26 whole pulses."""
         done = self.play("--untimed", env=self.env)
         self.assertEqual((done.returncode, done.stderr), (2, f"out: stopped after line 27: {NOT_READ}"))
-        self.assertEqual(Path("pins").read_text().splitlines(), ["S 1 1000.000000 0 0 0 0", *["P 1 0 0 50"] * 26, "off"])
+        made = Path("pins").read_text().splitlines()
+        self.assertEqual(made, ["S 1 1000.000000 0 0 0 0", *["P 1 0 0 50"] * 26, "off"])
         found = Record.read("position")
         self.assertEqual((found.lines, found.stopped, found.mark), (27, "out", None))
         os.unlink("broken")  # the disk is well again

@@ -201,6 +201,7 @@ class Hostile:
         """Files that can't be used are named, with status 2."""
         Path("out").write_text("P 1 0 0 50\n")
         os.mkdir("folder")
+        os.mkfifo("pipe")
         self.device()
         Path("half.dev").write_bytes(Path("mill.dev").read_bytes()[512:2048])  # its other header is lost
         gone, no_record = "No such file or directory", "not a record of ngc-player: it has .*"
@@ -216,6 +217,7 @@ class Hostile:
                 (("out", "first.toml", "out"), f"out: {no_record}"),
                 (("out", "first.toml", "none/position"), f"none/position: {gone}"),
                 (("--pins", "none/pins", "out", "first.toml", "position"), f"none/pins: {gone}"),
+                (("--pins", "pipe", "out", "first.toml", "position"), "pipe: nobody reads this pipe yet"),
                 (("--pins", "folder", "out", "first.toml", "position"), "folder: Is a directory"),
                 (("--progress", "none/progress", "out", "first.toml", "position"), f"none/progress: {gone}"),
                 (("--progress", "folder", "out", "first.toml", "position"), "folder: it is there, and is no socket"),

@@ -4,6 +4,7 @@ import socket
 import sys
 import unittest
 from pathlib import Path
+from unittest import mock
 
 sys.path.insert(0, str(Path(__file__).resolve().parent))
 
@@ -11,6 +12,7 @@ from session_support import InFolder  # noqa: E402
 
 from ngc_tools.files import cause  # noqa: E402
 from ngc_tools.formats.out import Switch  # noqa: E402
+from ngc_tools.player import progress  # noqa: E402
 from ngc_tools.player.progress import Link, Listener, NoAnswer, Report  # noqa: E402
 
 REPORT = Report(3, 203, True, "0.002000 0.000000 -1.000000", "/a b/axis",
@@ -37,8 +39,29 @@ class Reports(unittest.TestCase):
                 Report.read(text)
 
 
+class Stranger(socket.socket):
+    """A socket to which somebody else sends, before it is connected, an answer to its first question."""
+
+    def connect(self, address: str) -> None:
+        """Connects."""
+        with socket.socket(socket.AF_UNIX, socket.SOCK_DGRAM) as other:
+            for _ in range(3):
+                other.sendto(b"progress 1 " + TEXT, self.getsockname())
+        super().connect(address)
+
+
 class Sockets(InFolder):
     """Both ends in one process."""
+
+    def test_stranger(self) -> None:
+        """What somebody sent before the connection isn't taken for the player's answer."""
+        listener = Listener("progress")
+        self.addCleanup(listener.close)
+        with mock.patch.object(progress.socket, "socket", Stranger):
+            link = Link("progress", 0.2)
+        self.addCleanup(link.close)
+        with self.assertRaisesRegex(NoAnswer, "the player doesn't answer"):
+            link.ask()
 
     def test_no_answer(self) -> None:
         """Nobody there, a player that doesn't answer, one that is gone, one that answers another question."""

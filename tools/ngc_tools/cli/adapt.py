@@ -19,7 +19,7 @@ from ngc_tools.job.cam_program import SharedSlot
 from ngc_tools.job.refused import Ask, Lines, find_all
 from ngc_tools.ngc import cures
 from ngc_tools.ngc.beginning import Beginning
-from ngc_tools.ngc.run import Refusal, find_ngc, refusal
+from ngc_tools.ngc.run import Refusal, TooLong, find_ngc, refusal
 from ngc_tools.ngc.usable_settings import look_at_settings
 from ngc_tools.scratch import scratch_file
 
@@ -79,9 +79,10 @@ def adapt(args: argparse.Namespace) -> int:
 
     text = _read(args.program, ask)
     lines, warnings = _rewritten(args.program, text, answers)
-    found = adapted(text, Rewritten(lines, [], []), begin, ngc, args.settings)
-    new = found.text
-    refused = list(told(new, args.output, ask))
+    with speaking_of(_named(args.program), TooLong):
+        found = adapted(text, Rewritten(lines, [], []), begin, ngc, args.settings)
+        new = found.text
+        refused = list(told(new, args.output, ask))
     _write(args, new, inputs)
     changed = [*found.whole, *shown_changes(found.changes)] or ["no line is changed"]
     print("\n".join([*warnings, *changed]), file=sys.stdout if args.output else sys.stderr)
@@ -92,10 +93,15 @@ def adapt(args: argparse.Namespace) -> int:
 def _read(program: str, ask: Ask) -> ProgramText:
     """The text of a file, or of standard input. Raises OSError, NotText."""
     data = files.read_input() if program == "-" else files.read(program)
-    with speaking_of("standard input" if program == "-" else program, NotText):
+    with speaking_of(_named(program), NotText, TooLong):
         if is_none(data, ask):
             raise NotText(NO_PROGRAM)
         return ProgramText.read(data)
+
+
+def _named(program: str) -> str:
+    """What is read, for people."""
+    return "standard input" if program == "-" else program
 
 
 def _write(args: argparse.Namespace, data: bytes, inputs: Sequence[str | None]) -> None:

@@ -23,7 +23,7 @@ from ngc_tools.job.refused import Finding, Lines, find_all
 from ngc_tools.ngc import cures, faults, machine_report, settings_report
 from ngc_tools.ngc.machine_report import Motion
 from ngc_tools.ngc.pacing import NotTimed
-from ngc_tools.ngc.run import Refusal, find_ngc, refusal
+from ngc_tools.ngc.run import Refusal, TooLong, find_ngc, refusal
 from ngc_tools.ngc.timing import with_ramps
 from ngc_tools.ngc.usable_settings import look_at_settings
 from ngc_tools.scratch import scratch_file
@@ -77,8 +77,8 @@ def main(arguments: list[str] | None = None) -> int:
 
 
 def work(args: argparse.Namespace) -> int:
-    """Checks the settings or a program. Raises WrongWords, OSError, BadSettings, CannotRun, NoDevice, CannotSetUp,
-    NotText."""
+    """Checks the settings or a program. Raises WrongWords, OSError, BadSettings, CannotRun, TooLong, NoDevice,
+    CannotSetUp, NotText."""
     if args.settings_only and (args.program or not args.settings):
         raise WrongWords("--settings-only takes --settings FILE and no program")
     if not args.settings_only and not args.program:
@@ -92,7 +92,10 @@ def work(args: argparse.Namespace) -> int:
         say_file(args.settings, settings_report.report(settings), settings_report.warnings(settings))
     if motion:
         say_file(args.machine, machine_report.report(motion), machine_report.warnings(motion))
-    return 0 if args.settings_only else check(ngc, args, motion)
+    if args.settings_only:
+        return 0
+    with speaking_of(args.program, TooLong):
+        return check(ngc, args, motion)
 
 
 def say_file(path: str, report: list[str], warnings: list[str]) -> None:

@@ -21,7 +21,7 @@ from ngc_tools.job.picture import picture
 from ngc_tools.ngc import faults
 from ngc_tools.ngc.beginning import Beginning
 from ngc_tools.ngc.pacing import Pacing
-from ngc_tools.ngc.run import find_ngc, refusal
+from ngc_tools.ngc.run import TooLong, find_ngc, refusal
 from ngc_tools.ngc.timing import timed, with_ramps
 from ngc_tools.ngc.usable_settings import look_at_settings
 
@@ -100,7 +100,7 @@ def draw(args: argparse.Namespace) -> int:
     if args.machine:
         chosen_motion(find_ngc(args.ngc), args)
     settings = Settings.read(args.settings) if args.settings else None
-    with speaking_of(of, BadText, BadLine):
+    with speaking_of(of, BadText, BadLine, TooLong):
         drawn = _of_out(args, text, settings) if is_out(text) else _of_program(args, text, of)
     for note in drawn.notes:
         print(f"ngc-plot: {shown(of)}{note}", file=sys.stderr)

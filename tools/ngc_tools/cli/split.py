@@ -12,7 +12,7 @@ from ngc_tools.formats.text import shown
 from ngc_tools.job.parts_compared import compare_dry, compare_run
 from ngc_tools.job.split import CannotPart, LongProgram, Part, parted
 from ngc_tools.ngc import cures
-from ngc_tools.ngc.run import find_ngc
+from ngc_tools.ngc.run import TooLong, find_ngc
 from ngc_tools.ngc.usable_settings import look_at_settings
 from ngc_tools.ngc.worlds import LineRefused, two_worlds
 
@@ -74,7 +74,7 @@ def work(args: argparse.Namespace) -> int:
     if args.device and not args.settings:
         raise WrongWords("--device goes with --settings")
     try:
-        with speaking_of(args.program, CannotPart), speaking_of(args.device or "", NoDevice):
+        with speaking_of(args.program, CannotPart, TooLong), speaking_of(args.device or "", NoDevice):
             return write_parts(args)
     except LineRefused as error:
         cure = cures.cure(error.refused.code, [])

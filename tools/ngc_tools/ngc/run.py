@@ -33,8 +33,8 @@ class TooLong(Failure):
     """A dry run prints more than is looked at; the text says how much that is."""
 
     def __init__(self, most: int) -> None:
-        super().__init__(f"its dry run has more than {most:,} bytes of commands, and no more are looked at: is the L of a"
-                         " cycle right?")
+        super().__init__(f"its dry run has more than {most:,} bytes of commands, and no more are looked at: is the L of"
+                         " a cycle right?")
 
 
 def find_ngc(option: str | None) -> str:

@@ -4,6 +4,7 @@ from pathlib import Path
 
 from ngc_tools.formats.machine import read_tables
 
+
 @dataclass(frozen=True, slots=True)
 class Setter:
     """What a machine's file says of touching off: the machine Z in nm at which a tool of length 0 touches the setter,

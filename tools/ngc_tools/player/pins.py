@@ -1,4 +1,5 @@
 """What drives the motors; here a file stands for them."""
+import errno
 import fcntl
 import os
 import stat
@@ -51,7 +52,13 @@ def _open(path: str, others: Iterable[str | Path]) -> int:
             raise BadPins(f"{path}: it is {other} too: the pins need a file of their own")
     if os.path.exists(path) and stat.S_ISBLK(os.stat(path).st_mode):
         raise BadPins(f"{path}: a disk can't stand for the pins")
-    file = os.open(path, os.O_WRONLY | os.O_CREAT | os.O_APPEND | os.O_CLOEXEC, 0o600)
+    try:
+        file = os.open(path, os.O_WRONLY | os.O_CREAT | os.O_APPEND | os.O_CLOEXEC | os.O_NONBLOCK, 0o600)
+    except OSError as error:
+        if error.errno == errno.ENXIO:
+            raise BadPins(f"{path}: nobody reads this pipe yet") from None
+        raise
+    os.set_blocking(file, True)
     if stat.S_ISREG(os.fstat(file).st_mode):
         _look(path, file)
     return file

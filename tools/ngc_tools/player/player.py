@@ -313,7 +313,8 @@ class Player(Goes):
 
     def _heed(self) -> None:
         """Raises Stopped if it is asked to stop, or can't keep its record or read OUT any more: while it moves only if
-        it is asked once more. Sets the spindle's speed, where it is overridden otherwise; raises OSError if the pins fail."""
+        it is asked once more. Sets the spindle's speed, where it is overridden otherwise; raises OSError if the pins
+        fail."""
         if (outputs := self.spindle.changed()) is not None:
             self.pins.set(str(outputs).encode())
         if self._is_moving and self.stops < 2:

@@ -62,6 +62,7 @@ import re
 import socket
 import stat
 import time
+from contextlib import suppress
 from dataclasses import dataclass
 from pathlib import Path
 
@@ -263,13 +264,21 @@ class Link:
         self.count = 0
         self._moves = int.from_bytes(os.urandom(5), "big")  # the player takes a number for a move of whoever has it
         self.socket = socket.socket(socket.AF_UNIX, socket.SOCK_DGRAM)
-        self.socket.settimeout(0.05)
+        self.socket.setblocking(False)
         self.socket.bind("")  # a name of its own, which the system chooses, so that it can be answered
         try:
             self.socket.connect(self.path)
         except OSError as error:
             self.socket.close()
             raise NoAnswer(f"{self.path}: no player listens there: {error.strerror or error}") from None
+        self._drop_what_came()
+        self.socket.settimeout(0.05)
+
+    def _drop_what_came(self) -> None:
+        """Drops what anybody sent before the connection: from there on the system lets through the player alone."""
+        with suppress(BlockingIOError):
+            while True:
+                self.socket.recv(1)
 
     def ask(self) -> Report:
         """How far the player is now. Raises NoAnswer."""
