@@ -17,9 +17,7 @@ of 2 um, and 120 corners of 90 degrees with a helix; all at F3000. `ngc run` han
 - Lines lost are those that no motor ever carries out where power is lost, over a pipe: those in hand before the segment
   with which the next session goes on. A session of a tick and a status at a time tells that one after each tick. Both
   are of all moments of the job, weighted by time.
-- A line of 100 mm and full circles are compared with the ideal of their shape: the trapezoid, and the greatest rate at
-  each place of the smooth circle, in the pulses of a stepper, whose axes have that acceleration.
-- The same line is paced with other numbers of lines in hand.
+- A line of 100 mm is paced with other numbers of lines in hand.
 
 It builds ngc by rt if that is needed and no PATH is given."""
 import argparse
@@ -181,75 +179,6 @@ def bound_ns(out):
     return total + (1e9 * 1e6 / before_us / (2 * ACCEL) if before_us else 0)
 
 
-def steepest(first, second, square):
-    """The least change of the square of the rate, by pulses, that keeps both axes within their acceleration, and the
-    greatest; None where none does. `first` and `second` are an axis's first and second derivatives by pulses."""
-    least, most = -math.inf, math.inf
-    for slope, bend in zip(first, second):
-        turns = bend * square
-        if abs(slope) < 1e-9:
-            if abs(turns) > ACCEL:
-                return None
-            continue
-        ends = sorted(((-ACCEL - turns) / (slope / 2), (ACCEL - turns) / (slope / 2)))
-        least, most = max(least, ends[0]), min(most, ends[1])
-    return (least, most) if least <= most else None
-
-
-def reachable(first, second, after, step):
-    """The greatest square at a place from which that at the next is reached."""
-    def is_right(square):
-        change = steepest(first, second, square)
-        return change is not None and square + change[0] * step <= after
-
-    least, most = 0.0, float(FASTEST**2)
-    if is_right(most):
-        return most
-    for _ in range(50):
-        middle = (least + most) / 2
-        least, most = (middle, most) if is_right(middle) else (least, middle)
-    return least
-
-
-def bent(angle, radius):
-    """The derivatives of a circle by pulses, of which each steps one axis."""
-    s, c = math.sin(angle), math.cos(angle)
-    size = abs(s) + abs(c)
-    bend = math.copysign(1, s) * c - math.copysign(1, c) * s
-    return ((-s / size, c / size), ((-c * size + s * bend) / (size**3 * radius), (-s * size - c * bend)
-                                    / (size**3 * radius)))
-
-
-def ideal_circle_s(radius, parts=4000):
-    """The least seconds of a full turn of so many steps of radius, from rest to rest."""
-    step, angle, places = 8 * radius / parts, 0.0, []
-    for _ in range(parts + 1):
-        places.append(bent(angle, radius))
-        middle = angle + step / radius / 2
-        angle += step / (radius * (abs(math.sin(middle)) + abs(math.cos(middle))))
-    plan = [0.0] * (parts + 1)
-    for k in range(parts - 1, -1, -1):
-        plan[k] = reachable(*places[k], plan[k + 1], step)
-    squares = [0.0]
-    for k in range(parts):
-        change = steepest(*places[k], squares[k])
-        squares.append(max(0.0, min(plan[k + 1], squares[k] + (change[1] if change else 0) * step)))
-    rates = list(map(math.sqrt, squares))
-    return sum(2 * step / (one + other) for one, other in zip(rates, rates[1:]) if one + other)
-
-
-def show_shapes(bench):
-    """A line and circles beside their ideals."""
-    print("\nshape               ramps s   ideal s   factor")
-    straight = bench.paced(bench.hand_out(f"{HEAD}G1 X100\nM2\n")[0])[2] / 1e9
-    rows = [("line of 100 mm", straight, 100 * 400 / FASTEST + FASTEST / ACCEL)]
-    for radius in RADII_MM:
-        out = bench.hand_out(f"G17 G21 G90 G94\nF3000\nG3 X0 Y0 I{-radius} J0\nM2\n")[0]
-        rows.append((f"circle, R {radius} mm", bench.paced(out)[2] / 1e9, ideal_circle_s(int(400 * radius))))
-    for name, took, ideal in rows:
-        print(f"{name:18} {took:8.3f} {ideal:9.3f} {took / ideal:8.3f}")
-
-
 def show_windows(bench):
     """A line with few lines in hand and with many."""
     print("\nlines in hand  line of 100 mm, seconds")
@@ -293,7 +222,6 @@ def main():
         bench = Bench(ngc, folder)
         for name, program in jobs():
             show(bench, name, program, given.rounds)
-        show_shapes(bench)
         show_windows(bench)
     print(f"load {os.getloadavg()[0]:.1f}")
     return 0

@@ -1,23 +1,13 @@
 /* Judges the pacer of tools/player over streams by chance, with motors, lines in hand, holds, overrides and ends by
- * chance. The words are the first seed and how many; a file behind them gets the last stream as judge_times.c reads it,
- * with the limits in its first line. It prints how many streams and lines were right, and what is wrong with others:
- * then it ends with status 1. */
+ * chance. The words are the first seed and how many; a file behind them gets the last stream with its times. It prints
+ * how many streams were right and how many lines there were, and what is wrong with others: then it ends with status
+ * 1. */
 #include <inttypes.h>
 #include <math.h>
 #include <stdio.h>
 #include <stdlib.h>
-#include <string.h>
 
-#include "chance_streams.h"
-#include "judge.h"
-#include "pace.h"
-
-enum { MOST_LINES = 40000, HALF = 64 };
-
-static struct pace pace;
-static struct timed_line lines[MOST_LINES + 1];
-static size_t count;
-static struct chance chance;
+#include "chance_paced.h"
 
 /* Whole steps, so that the pacer's limits are the motors'. */
 static double whole(double low, double high) {
@@ -38,93 +28,6 @@ static struct motors some_motors(void) {
         motors.start[axis] = has_starts ? whole(1, 3000) : 0;
     }
     return motors;
-}
-
-static struct pace_limits limits_of(const struct motors *motors) {
-    struct pace_limits limits = {.half = HALF, .slack = (uint64_t)motors->slack,
-                                 .most_percent = (uint64_t)motors->most_percent};
-    for (int axis = 0; axis < 3; axis++) {
-        limits.accel[axis] = (uint64_t)motors->accel[axis];
-        limits.rate[axis] = (uint64_t)motors->rate[axis];
-        limits.start[axis] = (uint64_t)motors->start[axis];
-    }
-    return limits;
-}
-
-static void put(struct timed_line line) {
-    if (count < MOST_LINES) {
-        lines[count++] = line;
-    }
-}
-
-/* A stream of several parts, with waits and switches. Periods are near the rates that the motors reach. */
-static void make_stream(const struct motors *motors) {
-    double usual_us = 1e6 / sqrt(motors->accel[0] * chance_of_size(&chance, 1, 4000));
-    uint64_t parts = 1 + chance_below(&chance, 8);
-    count = 0;
-    while (parts-- > 0) {
-        struct part part = part_by_chance(&chance, fmax(1, usual_us / 4), fmax(2, usual_us * 4));
-        while (part.pulses > 0) {
-            struct timed_line line = {.kind = 'P'};
-            line.us = part_pulse(&part, &chance, line.step);
-            put(line);
-        }
-        if (chance_below(&chance, 8) == 0) {
-            char kind = chance_below(&chance, 2) == 0 ? 'D' : 'S';
-            put((struct timed_line){.kind = kind, .us = chance_below(&chance, 2000)});
-        }
-    }
-}
-
-static uint64_t push_some(uint64_t pushed, uint64_t room) {
-    while (pushed < count && pace.known - pace.first < room) {
-        struct line line = {.kind = lines[pushed].kind, .us = lines[pushed].us};
-        memcpy(line.step, lines[pushed].step, sizeof line.step);
-        pace_push(&pace, &line);
-        pushed++;
-    }
-    return pushed;
-}
-
-/* What an operator wants: now and then a hold or an override, where he does anything. */
-static uint64_t some_wish(bool is_disturbed, unsigned *percent) {
-    if (is_disturbed && chance_below(&chance, 400) == 0) {
-        *percent = (unsigned)chance_below(&chance, 201);
-    }
-    if (*percent == 0 && chance_below(&chance, 50) == 0) {
-        *percent = 200;
-    }
-    return *percent == 0 ? 0 : pace_wanted(&pace, *percent);
-}
-
-/* Gives all lines their times. A reader that has nothing to give tells the end of what is known. */
-static void pace_all(const struct motors *motors) {
-    static const uint64_t rooms[] = {PACE_ROOM, PACE_ROOM, 2000, 700, 60};
-    const struct pace_limits limits = limits_of(motors);
-    uint64_t room = rooms[chance_below(&chance, 5)];
-    bool is_disturbed = chance_below(&chance, 3) == 0;
-    uint64_t pushed = 0, due_ns = 0, ns = 0;
-    unsigned percent = 200;
-    pace_begin(&pace, &limits);
-    for (size_t at = 0; at < count;) {
-        pushed = push_some(pushed, room);
-        lines[at].due_ns = due_ns;
-        uint64_t wanted = some_wish(is_disturbed, &percent);
-        bool has_rest = pace.square == 0;
-        if (pace_next(&pace, wanted, &ns)) {
-            if (has_rest && at > 0 && lines[at].asked == NOTHING && lines[at].kind == 'P') {
-                lines[at].asked = HOLD;
-            }
-            due_ns += ns;
-            at++;
-        } else if (wanted == 0) {
-            due_ns += chance_below(&chance, 1000000);
-        } else {
-            pace_end(&pace);
-            lines[pushed].asked = END;
-        }
-    }
-    lines[count] = (struct timed_line){.due_ns = due_ns};
 }
 
 /* Writes the stream: limits, then what was asked for before each line, when it is due, and itself. */
@@ -153,8 +56,7 @@ int main(int words, char **given) {
     for (uint64_t seed = first; seed < first + seeds; seed++) {
         chance = chance_of(seed);
         struct motors motors = some_motors();
-        make_stream(&motors);
-        memset(&lines[count], 0, sizeof lines[count]);
+        make_stream(&motors, 1);
         pace_all(&motors);
         struct verdict verdict = judge(lines, &motors);
         all_lines += count;

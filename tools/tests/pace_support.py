@@ -1,11 +1,12 @@
-"""What tests of the pacer share: programs and streams of pulses, the pacer of tools/player, and a check that knows no
-pacer."""
+"""What tests of the pacer share: programs and streams of pulses, the pacer of tools/player, and what knows no pacer: a
+judge, a rotor, and a check."""
 import math
 import random
 import subprocess
 from collections.abc import Iterable, Iterator
 from functools import cache
 from pathlib import Path
+from tempfile import NamedTemporaryFile
 
 from player_support import SANITIZERS, SOURCES, built, has_sanitizers
 from session_support import TOOLS
@@ -181,13 +182,16 @@ def excess(due: Iterable[str] | bytes, accel: tuple[int, int, int]) -> float:
 def judgement(limits: Limits, lines: Iterable[str], due: str) -> str:
     """What the judge says of lines of OUT, the last of which stands, at the times of `due`, which is what a file of
     --times has; nothing where all is right."""
-    command = [built("-O2", sources=of_tests("judge_times.c", "judge_rates.c", "judge_motion.c")), "out.judged",
-               *map(str, (*limits.accel, *limits.rate, *limits.start, limits.slack, limits.most_percent))]
-    Path("out.judged").write_text("".join(f"{line}\n" for line in lines))
-    return subprocess.run(command, input=due, capture_output=True, text=True).stdout
+    judge = built("-O2", sources=of_tests("judge_times.c", "judge_rates.c", "judge_motion.c"))
+    words = map(str, (*limits.accel, *limits.rate, *limits.start, limits.slack, limits.most_percent))
+    with NamedTemporaryFile("w+") as out:
+        out.writelines(f"{line}\n" for line in lines)
+        out.flush()
+        return subprocess.run([judge, out.name, *words], input=due, capture_output=True, text=True).stdout
 
 
 def lost_steps(due: str) -> list[int]:
     """How many steps a motor of each axis loses at these times."""
-    done = subprocess.run([built("-O2", sources=of_tests("rotor.c"))], input=due, capture_output=True, text=True)
+    command = [built("-O2", sources=of_tests("rotor_times.c", "rotor.c"))]
+    done = subprocess.run(command, input=due, capture_output=True, text=True)
     return [int(word) for word in done.stdout.split()[:3]]

@@ -1,8 +1,4 @@
-/* Steps that a motor loses: reads lines of OUT behind the nanoseconds at which they are due, as --times and `ngc pace`
- * write them, and turns a rotor by the steps of each axis. It prints how many steps X, Y and Z lose, and the greatest
- * lag in thousandths of a full step.
- *
- * The motor is a usual NEMA 23 of 1.26 N m, 200 full steps a turn and 300 g cm2, in eighths of a full step. Its torque
+/* The motor is a usual NEMA 23 of 1.26 N m, 200 full steps a turn and 300 g cm2, in eighths of a full step. Its torque
  * goes by the sine of the lag, with its greatest at one full step; at two it is 0, and beyond it pulls to the next of
  * its places, four full steps away. So a rotor that lags by more than two full steps has lost four: the usual bound.
  * The torque falls with speed as published curves do, flat at first and then as one by the speed, since the supply's
@@ -12,10 +8,9 @@
  *
  * It turns a screw of 5 mm a turn, 25 mm thick and 800 mm long, 2.4e-4 kg m2, with a table and a workpiece of 60 kg,
  * that is 3.8e-5, and a coupling of 1e-5. Screw, guides and seals take 0.1 N m, and 1 mN m for each radian a second. */
-#include <inttypes.h>
+#include "rotor.h"
+
 #include <math.h>
-#include <stdio.h>
-#include <stdlib.h>
 
 static const double STEP_S = 10e-6; /* of the simulation */
 static const double TORQUE = 1.26;
@@ -29,40 +24,6 @@ static const double BASIN = 2 * 3.141592653589793 / 100; /* to each side of its 
 static const double QUIET_S = 0.05; /* after which what stands is taken to stay */
 
 enum { MICROSTEPS = 8 };
-
-struct step {
-    double moment;
-    int by[3];
-};
-
-struct rotor {
-    double lag; /* radians, of the field before the rotor */
-    double speed;
-    double most_lag;
-    uint64_t lost;
-};
-
-static struct step *steps;
-static size_t count;
-
-static void read_all(void) {
-    char text[256];
-    size_t room = 0;
-    while (fgets(text, sizeof text, stdin) != NULL) {
-        struct step step = {0};
-        if (count + 1 > room) {
-            room = room * 2 + 4096;
-            steps = realloc(steps, room * sizeof *steps);
-        }
-        if (steps == NULL) {
-            exit(2);
-        }
-        if (sscanf(text, "%lf P %d %d %d", &step.moment, &step.by[0], &step.by[1], &step.by[2]) == 4) {
-            step.moment /= 1e9;
-            steps[count++] = step;
-        }
-    }
-}
 
 /* N m for each radian a second between rotor and field. */
 static double field_damping(void) {
@@ -95,29 +56,18 @@ static void turn_until(struct rotor *rotor, double *now, double moment) {
     *now = fmax(*now, moment);
 }
 
-static struct rotor follow(int axis) {
+struct rotor follow(const struct timed_line *lines, int axis) {
     struct rotor rotor = {0};
     double now = 0;
-    for (size_t at = 0; at < count; at++) {
-        if (steps[at].by[axis] != 0) {
-            turn_until(&rotor, &now, steps[at].moment);
-            double turned = steps[at].by[axis] * FULL_STEP / MICROSTEPS;
-            rotor.lag += turned;
-            rotor.speed += field_damping() / INERTIA * turned;
+    for (size_t at = 0; lines[at].kind != '\0'; at++) {
+        int step = lines[at].kind == 'P' ? lines[at].step[axis] : 0;
+        if (step != 0) {
+            turn_until(&rotor, &now, (double)lines[at].due_ns / 1e9);
+            rotor.lag += step * FULL_STEP / MICROSTEPS;
+            rotor.speed += field_damping() / INERTIA * step * FULL_STEP / MICROSTEPS;
         }
     }
     turn_until(&rotor, &now, now + 1);
+    rotor.most_lag /= FULL_STEP;
     return rotor;
-}
-
-int main(void) {
-    double most = 0;
-    read_all();
-    for (int axis = 0; axis < 3; axis++) {
-        struct rotor rotor = follow(axis);
-        most = fmax(most, rotor.most_lag);
-        printf("%" PRIu64 " ", rotor.lost);
-    }
-    printf("%.0f\n", most / FULL_STEP * 1000);
-    return 0;
 }

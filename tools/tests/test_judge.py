@@ -1,12 +1,12 @@
 """Whether motors can follow the pacers' times, by a judge that knows docs/MOTION.md and no pacer; and what it refuses.
 
-Over 10,000 streams by chance, of 11,865,211 lines, in 55 s of a processor:
+Over 10,000 streams by chance, of 11,865,211 lines, in 55 s of a processor; and over 2,400 with a rotor, in 50 s:
 
     cd tools && NGC_STREAMS=10000 python3 -m unittest tests.test_judge.ByChance
+    cd tools && NGC_ROTORS=2400 python3 -m unittest tests.test_judge.Rotor.test_by_chance
 """
 import math
 import os
-import random
 import subprocess
 import sys
 import unittest
@@ -18,7 +18,7 @@ from pathlib import Path
 sys.path.insert(0, str(Path(__file__).resolve().parent))
 
 from pace_support import (PROGRAMS, PULSES, as_out_says, judgement, lost_steps, metered, paced_in_c,  # noqa: E402
-                          stream, timed, with_pacer)
+                          timed, with_pacer)
 from session_support import FIRST, TOOLS, InFolder, ngc  # noqa: E402
 
 from ngc_tools.player.pace_path import Limits  # noqa: E402
@@ -28,6 +28,8 @@ SETTINGS = (FIRST.replace("[1000, 1000, 1000]", "[3125, 3125, 3125]").replace("6
             .replace("period_us = 50", "period_us = 20"))
 STOP = "D 0"
 STREAMS = int(os.environ.get("NGC_STREAMS", "400"))
+ROTORS = int(os.environ.get("NGC_ROTORS", "60"))
+ACCEL_MM_S2 = 800  # of the rotor, by the rules
 OWN_NS = list(map(int, (TOOLS / "tests" / "own_times.txt").read_text().split()))
 """How long lines of 100 and 20 us by turns once lasted, at 500 mm/s2: from the 313th on it was their own time, though
 10,000 pulses a second were planned."""
@@ -204,7 +206,7 @@ class Refused(InFolder):
                           (right[:4] + right[3:], "line 5: it isn't the next line of OUT"),
                           (right + right[-1:], "line 11: OUT has no such line"),
                           (right[:-1], "line 10: it isn't the next line of OUT"),
-                          (right[:3] + ["1 " + lines[3] + "\n"] + right[4:], "line 4: it is due before the one before")):
+                          (right[:3] + [f"1 {lines[3]}\n"] + right[4:], "line 4: it is due before the one before")):
             self.assertIn(said, judgement(Limits((self.accel,) * 3), lines, "".join(due)))
 
 
@@ -214,7 +216,7 @@ class ByChance(unittest.TestCase):
     def test_right(self) -> None:
         """The judge finds nothing."""
         program = with_pacer("judge_chance.c", "-O2",
-                             beside=("chance_streams.c", "judge_rates.c", "judge_motion.c"))
+                             beside=("chance_paced.c", "chance_streams.c", "judge_rates.c", "judge_motion.c"))
         done = subprocess.run([program, "1", str(STREAMS)], capture_output=True, text=True)
         self.assertEqual((done.returncode, done.stderr), (0, ""), done.stdout)
         streams, lines = map(int, done.stdout.split())
@@ -244,20 +246,21 @@ class Rotor(OfPrograms):
     def test_streams(self) -> None:
         """With ramps it loses no step; at OUT's own times it does, of each."""
         motors = self.figures()
-        self.assertEqual(motors, limits(800))
+        self.assertEqual(motors, limits(ACCEL_MM_S2))
         for name, lines in self.streams():
             with self.subTest(name):
                 self.assertEqual(lost_steps(in_c(motors, lines)), [0, 0, 0])
                 self.assertGreater(max(lost_steps(raw(lines))), 0)
 
     def test_by_chance(self) -> None:
-        """Nor of streams by chance."""
-        lost = 0
-        for seed in range(12):
-            lines = [*stream(random.Random(seed), 10), STOP]
-            self.assertEqual(lost_steps(in_c(limits(800), lines)), [0, 0, 0], seed)
-            lost += max(lost_steps(raw(lines))) > 0
-        self.assertGreater(lost, 6)
+        """Nor of streams by chance, held, slowed down and starved."""
+        program = with_pacer("rotor_chance.c", "-O2", beside=("chance_paced.c", "chance_streams.c", "rotor.c"))
+        words = [program, "1", str(ROTORS), str(ACCEL_MM_S2 * STEPS_MM), str(3000 * STEPS_MM // 60)]
+        done = subprocess.run(words, capture_output=True, text=True, check=True)
+        lost, raw, lines, _ = map(int, done.stdout.split())
+        self.assertEqual(lost, 0)
+        self.assertGreater(raw, ROTORS // 3)
+        self.assertGreater(lines, 1000 * ROTORS)
 
     def test_own_times(self) -> None:
         """An older pacer's times of lines 100 and 20 us apart lose it."""
