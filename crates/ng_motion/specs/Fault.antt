@@ -1,10 +1,12 @@
 -- What is told of a fault: the key, what is wrong with it, its range or its name (own).
 use Rattle.std.specs.Prelude.{ℕ, List, [], ◌++◌, codes}
 use Rattle.ng_motion.specs.declared.key.Key.TheVariants.{Accel, Rate, Start, Slack, Most}
+use Rattle.ng_motion.specs.declared.axis.AxisName.{AxisName}
+use Rattle.ng_motion.specs.declared.axis.AxisName.TheVariants.{X, Y, Z}
 use Rattle.ng_motion.specs.Name.{told}
 use Rattle.ng_motion.specs.declared.fault.MotionFault.{MotionFault}
 use Rattle.ng_motion.specs.declared.fault.MotionFault.TheVariants.{NotToml, OutOfMemory, NoTable, UnknownKey}
-use Rattle.ng_motion.specs.declared.fault.MotionFault.TheVariants.{NoAcceleration, OutOfRange, TooSlowToStart}
+use Rattle.ng_motion.specs.declared.fault.MotionFault.TheVariants.{NoAcceleration, OutOfRange, TooWeak, TooStrong}
 use Rattle.ng_motion.specs.declared.fault.MotionFault.TheVariants.{TooSlow}
 
 abbrev pub cause_text : MotionFault → List ℕ
@@ -18,12 +20,20 @@ cause_text (OutOfRange Rate) = codes " rate_mm_min: not three whole numbers from
 cause_text (OutOfRange Start) = codes " start_mm_min: not three whole numbers from 0 to 100000"
 cause_text (OutOfRange Slack) = codes " slack_steps: not a whole number from 1 to 64"
 cause_text (OutOfRange Most) = codes " most_percent: not a whole number from 100 to 200"
-cause_text TooSlowToStart = codes " accel_mm_s2: less than a step a second, each second"
+cause_text (TooWeak axis) = codes " accel_mm_s2: less than 3 steps a second, each second, of "
+cause_text (TooStrong axis) = codes " accel_mm_s2: more than 1000000000 steps a second, each second, of "
 cause_text TooSlow = codes " rate_mm_min: less than a step a second"
 
--- the key that is none, if that is the fault
+abbrev pub axis_text : AxisName → List ℕ
+axis_text X = codes "X"
+axis_text Y = codes "Y"
+axis_text Z = codes "Z"
+
+-- the key that is none, or the axis, if that is the fault
 abbrev pub name_told : MotionFault → List ℕ
 name_told (UnknownKey name) = told name
+name_told (TooWeak axis) = axis_text axis
+name_told (TooStrong axis) = axis_text axis
 name_told _ = []
 
 abbrev pub fault_text : MotionFault → List ℕ

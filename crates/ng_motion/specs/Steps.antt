@@ -1,9 +1,12 @@
 -- Millimetres as steps, rounded down, so that nothing is exceeded (own).
-use Rattle.std.specs.Prelude.{◌≡◌, ◌⊎◌, ℕ, ◌*◌, ◌/◌, ◌<◌, ◌≤◌, List, [], ◌∷◌}
+use Rattle.std.specs.Prelude.{◌≡◌, ◌⊎◌, ℕ, ◌*◌, ◌/◌, ◌<◌, ◌≤◌, List, [], ◌∷◌, slice_index}
 use Rattle.ng_canon.specs.declared.geometry.Geometry.{Geometry}
 use Rattle.ng_pace.specs.declared.limits.Limits.{Limits}
+use Rattle.ng_pace.specs.Axes.{EachAxis, AreLimits as CanBeMet}
+use Rattle.ng_motion.specs.declared.axis.AxisName.{AxisName}
+use Rattle.ng_motion.specs.declared.axis.AxisName.TheVariants.{X, Y, Z}
 use Rattle.ng_motion.specs.declared.fault.MotionFault.{MotionFault}
-use Rattle.ng_motion.specs.declared.fault.MotionFault.TheVariants.{TooSlowToStart, TooSlow}
+use Rattle.ng_motion.specs.declared.fault.MotionFault.TheVariants.{TooWeak, TooStrong, TooSlow}
 use Rattle.ng_motion.specs.declared.values.PerAxis.{PerAxis}
 use Rattle.ng_motion.specs.declared.given.Given.{Given}
 
@@ -35,6 +38,12 @@ abbrev pub OneIsLost : (ℕ → ℕ → ℕ) → PerAxis → Geometry → Type 0
 OneIsLost steps_of a machine =
     IsLost a.x (steps_of a.x machine.x.step_nm) ⊎ IsLost a.y (steps_of a.y machine.y.step_nm) ⊎ IsLost a.z (steps_of a.z machine.z.step_nm)
 
+-- the first axis, by its number, of which something holds
+abbrev pub IsFirstAxis : (ℕ → Type 0) → AxisName → Type 0
+IsFirstAxis P X = P 0
+IsFirstAxis P Y = (¬ P 0) × P 1
+IsFirstAxis P Z = (¬ P 0) × (¬ P 1) × P 2
+
 -- the limits in steps, of what is given in millimetres
 pub record AreLimits (given : Given) (machine : Geometry) (limits : Limits) : Type 0 where
   pub accel : limits.accel ≡ by_axis steps_of_accel given.accel machine
@@ -44,20 +53,31 @@ pub record AreLimits (given : Given) (machine : Geometry) (limits : Limits) : Ty
   pub most_percent : limits.most_percent ≡ given.most_percent
   -- half of the pulses over which a corner is taken, at most
   pub half : limits.half ≡ 64
-  pub accel_stays : EachStays steps_of_accel given.accel machine
   pub rate_stays : EachStays steps_of_rate given.rate machine
+  -- a pacer takes them
+  pub can_be_met : CanBeMet limits
 
--- what is given in millimetres is too little in steps: the first that is
+-- each axis gains so much that a pacer takes it
+pub record IsFitToGain (given : Given) (machine : Geometry) : Type 0 where
+  pub least : EachAxis (λ axis. 3 ≤ slice_index (by_axis steps_of_accel given.accel machine) axis)
+  pub most : EachAxis (λ axis. slice_index (by_axis steps_of_accel given.accel machine) axis ≤ 1_000_000_000)
+
+-- what is given in millimetres is too little in steps, or too much: the first that is
 abbrev pub IsStepFault : Given → Geometry → MotionFault → Type 0
-IsStepFault given machine TooSlowToStart = OneIsLost steps_of_accel given.accel machine
-IsStepFault given machine TooSlow = EachStays steps_of_accel given.accel machine × OneIsLost steps_of_rate given.rate machine
+IsStepFault given machine (TooWeak axis) = IsFirstAxis (λ n. slice_index (by_axis steps_of_accel given.accel machine) n < 3) axis
+IsStepFault given machine (TooStrong axis) =
+    EachAxis (λ n. 3 ≤ slice_index (by_axis steps_of_accel given.accel machine) n)
+    × IsFirstAxis (λ n. 1_000_000_000 < slice_index (by_axis steps_of_accel given.accel machine) n) axis
+IsStepFault given machine TooSlow = IsFitToGain given machine × OneIsLost steps_of_rate given.rate machine
 IsStepFault given machine _ = ⊥
 
--- numbers whose steps fit 64 bits
-abbrev pub IsSmall : PerAxis → Type 0
-IsSmall a = (a.x ≤ 1_000_000) × (a.y ≤ 1_000_000) × (a.z ≤ 1_000_000)
+abbrev pub AreAtMost : ℕ → PerAxis → Type 0
+AreAtMost most a = (a.x ≤ most) × (a.y ≤ most) × (a.z ≤ most)
 
-pub record IsSmallGiven (given : Given) : Type 0 where
-  pub accel : IsSmall given.accel
-  pub rate : IsSmall given.rate
-  pub start : IsSmall given.start
+-- what is given is in the ranges of its keys
+pub record IsInRanges (given : Given) : Type 0 where
+  pub accel : AreAtMost 1_000_000 given.accel
+  pub rate : AreAtMost 100_000 given.rate
+  pub start : AreAtMost 100_000 given.start
+  pub slack : (1 ≤ given.slack) × (given.slack ≤ 64)
+  pub most_percent : (100 ≤ given.most_percent) × (given.most_percent ≤ 200)

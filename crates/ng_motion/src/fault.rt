@@ -2,6 +2,7 @@
 ghost use Rattle.std.specs.Prelude.{◌≡◌};
 ghost use Rattle.ng_motion.specs.Fault.{cause_text, name_told};
 
+use crate::axis::AxisName;
 use crate::key::Key;
 use crate::name::KeyName;
 
@@ -19,8 +20,10 @@ pub enum MotionFault {
     NoAcceleration,
     /// The value of a key has another type, or is outside the key's range.
     OutOfRange(Key),
-    /// An axis gains less than a step a second, each second.
-    TooSlowToStart,
+    /// An axis gains less than 3 steps a second, each second: the first that does.
+    TooWeak(AxisName),
+    /// An axis gains more than 1,000,000,000 steps a second, each second: the first that does.
+    TooStrong(AxisName),
     /// An axis goes less than a step a second.
     TooSlow,
 }
@@ -51,17 +54,23 @@ impl MotionFault {
             MotionFault::OutOfRange(Key::Most) => {
                 b" most_percent: not a whole number from 100 to 200"
             }
-            MotionFault::TooSlowToStart => b" accel_mm_s2: less than a step a second, each second",
+            MotionFault::TooWeak(_) => {
+                b" accel_mm_s2: less than 3 steps a second, each second, of "
+            }
+            MotionFault::TooStrong(_) => {
+                b" accel_mm_s2: more than 1000000000 steps a second, each second, of "
+            }
             MotionFault::TooSlow => b" rate_mm_min: less than a step a second",
         }
     }
 
-    /// The key that is none; nothing for any other fault.
+    /// The key that is none, or the axis; nothing for any other fault.
     pub fn name(&self) -> &[u8]
         ensures { result.now ≡ name_told self.now }
     {
         match self {
             MotionFault::UnknownKey(name) => name.as_slice(),
+            MotionFault::TooWeak(axis) | MotionFault::TooStrong(axis) => axis.text(),
             _ => b"",
         }
     }

@@ -8,6 +8,7 @@
 //! allocated only for the parsed table.
 #![tactic(auto)]
 
+mod axis;
 mod fault;
 mod given;
 mod key;
@@ -16,6 +17,7 @@ mod reading;
 mod steps;
 mod values;
 
+pub use axis::AxisName;
 pub use fault::MotionFault;
 pub use key::Key;
 pub use name::KeyName;

@@ -41,7 +41,8 @@ fn limits_in(root: &Table, machine: &Geometry) -> Result<Limits, MotionFault>
 ///
 /// Refused, in this order: a text that isn't TOML, or has no `[motion]`; a key there that is none of its five, of those
 /// the first by name; no `accel_mm_s2`; a value of another type or outside its key's range, the keys in the order of
-/// `Key`; a limit that is less than one step, of `accel_mm_s2` first. `OutOfMemory` if memory runs out. Without
+/// `Key`; an axis that gains less than 3 steps a second, each second, then one that gains more than 1,000,000,000; a rate
+/// of less than one step a second. `OutOfMemory` if memory runs out. Without
 /// `start_mm_min` or `rate_mm_min` they are 0; `slack_steps` is 2, `most_percent` 100.
 pub fn limits(alloc: Global, text: &[u8], machine: &Geometry) -> Result<Limits, MotionFault>
     ensures { MatchResult result (AreLimitsOf text.now machine.now) (IsRefused text.now machine.now) }

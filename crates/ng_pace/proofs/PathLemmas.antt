@@ -129,6 +129,7 @@ behind-more limits stop leg made (before ∷ rest) behind = record {
   farthest = behind.farthest;
   pulses = behind.pulses;
   some = behind.some;
+  few = behind.few;
   near = behind.near;
   whole = behind.whole;
   begun = omega (arith, length-append leg.lines made, behind.begun);
@@ -179,7 +180,7 @@ pub corner-paced : (limits : Limits) (stop : ℕ) (slopes next : List Slopes) (c
     → IsPaced limits stop (before ∷ rest) → IsChord limits.slack chord → 0 < length before.pulses → 0 < length chord → AreSlopes slopes before.pulses
     → AreSlopes next chord
     → IsFarthest limits.slack before.pulses chord
-    → 0 < pulses → TakesCorner limits slopes next pulses most' ramp' → AllowAlong limits slopes most ramp → All (IsWithin most ramp stop) first
+    → 0 < pulses → pulses ≤ length before.pulses → TakesCorner limits slopes next pulses most' ramp' → AllowAlong limits slopes most ramp → All (IsWithin most ramp stop) first
     → All (IsWithin most' ramp' stop) second
     → length before.lines + length first + pulses / 2 ≡ length before.pulses → length second ≡ pulses → (pulses + 1) / 2 ≤ length chord
     → pulses ≤ 2 * limits.half
@@ -194,7 +195,7 @@ pub corner-paced : (limits : Limits) (stop : ℕ) (slopes next : List Slopes) (c
       lines = drop (pulses / 2) second;
     } ∷ (record { pulses = before.pulses; lines = (before.lines ++ first) ++ take (pulses / 2) second } ∷ rest))
 corner-paced limits stop slopes next chord before rest first second pulses most ramp most' ramp' paced straight some
-    some' are are' farthest long_enough takes allowed
+    some' are are' farthest long_enough fits takes allowed
     each each' len len' few half full known_pulses others all enough some_known longest full' =
     (leg, (cornered, before_paced))
   where
@@ -245,6 +246,7 @@ corner-paced limits stop slopes next chord before rest first second pulses most 
       farthest = farthest;
       pulses = pulses;
       some = long_enough;
+      few = fits;
       near = record {
         x = takes.near.x (slope_along 0 before.pulses) (slope_along 0 chord) (slope-some 0 before.pulses some) (slope-some 0 chord some') are.x are'.x;
         y = takes.near.y (slope_along 1 before.pulses) (slope_along 1 chord) (slope-some 1 before.pulses some) (slope-some 1 chord some') are.y are'.y;

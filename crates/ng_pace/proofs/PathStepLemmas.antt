@@ -138,7 +138,7 @@ corner-lines : (limits : Limits) (stop : ℕ) (chord : Chord) (old new : Motion)
 corner-lines limits stop chord old new waited waits leg before rest next pulses pending straight others all enough reached some half farthest are p count =
     corner-paced limits stop chord.before next pulses before rest p.first.made p.then.made p.pulses p.before_most p.before_ramp p.most p.ramp pending.paced
     straight pending.some (omega (arith, some, longer_is))
-    pending.before_is are farthest p.some p.takes p.before_allowed p.first.each p.then.each count.meets count.all (omega (arith, count.few, longer_is))
+    pending.before_is are farthest p.some (omega (arith, p.before_few, pending.before_count, pending.some)) p.takes p.before_allowed p.first.each p.then.each count.meets count.all (omega (arith, count.few, longer_is))
     (omega (arith, p.half, half)) full leg.pulses others all enough some
     (longest limits before.pulses leg.pulses chord.before next chord.before_pulses chord.pulses p.pulses p.feed
     p.most p.ramp pending.before_reached reached p.full
@@ -438,7 +438,10 @@ advances-pulses limits stop old new chord waits leg rest pulse lines a = record 
 
 -- what is allowed where motors go on is allowed where they come to rest
 allowed-stop : (P : ℕ → ℕ → Type 0) (stop : ℕ) (line : Line) → IsAllowed P 0 line → IsAllowed P stop line
-allowed-stop P stop line is = record { ramp = is.ramp; allowed = is.allowed; within = omega (arith, is.within) }
+allowed-stop P stop line is = record { ramp = is.ramp; allowed = is.allowed; within = chosen is.within } where
+  chosen : (line.ramp ≤ is.ramp) ⊎ (IsTrue line.last × (line.ramp ≤ is.ramp / 256 * 0)) → (line.ramp ≤ is.ramp) ⊎ (IsTrue line.last × (line.ramp ≤ is.ramp / 256 * stop))
+  chosen (inl less) = inl less
+  chosen (inr last) = inl (omega (arith, last.1))
 
 behind-stop : (limits : Limits) (stop : ℕ) (leg : Leg) (rest : List Leg) → IsBehind limits 0 leg rest → IsBehind limits stop leg rest
 behind-stop limits stop leg [] behind = tt
@@ -446,6 +449,7 @@ behind-stop limits stop leg (before ∷ rest) behind = record {
   farthest = behind.farthest;
   pulses = behind.pulses;
   some = behind.some;
+  few = behind.few;
   near = behind.near;
   whole = behind.whole;
   begun = behind.begun;

@@ -1,6 +1,6 @@
 -- Chords that follow one another without a rest, and the lines that are made of their pulses (own).
-use Rattle.std.specs.Prelude.{ℕ, zero, suc, ◌+◌, ◌-◌, ◌*◌, ◌/◌, ◌^◌, ◌<◌, ◌≤◌, ◌≡◌, ◌⊎◌, min, max, List, [], ◌∷◌, ◌++◌}
-use Rattle.std.specs.Prelude.{map, length, slice_index, slice_index_or, take, drop, All}
+use Rattle.std.specs.Prelude.{ℕ, zero, suc, ◌+◌, ◌-◌, ◌*◌, ◌/◌, ◌^◌, ◌<◌, ◌≤◌, ◌≡◌, ◌⊎◌, min, List, [], ◌∷◌, ◌++◌}
+use Rattle.std.specs.Prelude.{map, length, slice_index, slice_index_or, take, drop, All, IsTrue}
 use Rattle.std.specs.Int.{abs_diff}
 use Rattle.ng_canon.specs.declared.item.AxisStep.{AxisStep}
 use Rattle.ng_canon.specs.declared.item.Pulse.{Pulse}
@@ -41,12 +41,12 @@ pub record IsBending (limits : Limits) (axis : ℕ) (before after : Slope) (puls
   pub leaves : IsCorner limits axis (abs_diff before.up before.down * after.over) (bend_between before after) (before.over * after.over) pulses most ramp
   pub enters : IsCorner limits axis (abs_diff after.up after.down * before.over) (bend_between before after) (before.over * after.over) pulses most ramp
 
--- the square and the ramp of a line are allowed. Where the motors then come to rest, the ramp may be a rate at which
--- they stop at once: `stop` parts of 256 of what is allowed
+-- the square and the ramp of a line are allowed. Where everything stands still after the line, and there alone, the
+-- ramp may be a rate at which motors stop at once: `stop` parts of 256 of what is allowed
 pub record IsAllowed (P : ℕ → ℕ → Type 0) (stop : ℕ) (line : Line) : Type 0 where
   pub ramp : ℕ
   pub allowed : P line.most ramp
-  pub within : line.ramp ≤ max ramp (ramp / 256 * stop)
+  pub within : (line.ramp ≤ ramp) ⊎ (IsTrue line.last × (line.ramp ≤ ramp / 256 * stop))
 
 -- along a chord no axis is asked for more than its acceleration, nor for more than its rate
 abbrev pub IsOnChord : Limits → ℕ → List Pulse → Line → Type 0
@@ -164,6 +164,7 @@ pub record IsCornered (limits : Limits) (stop : ℕ) (before after : Leg) : Type
   pub farthest : IsFarthest limits.slack before.pulses after.pulses
   pub pulses : ℕ
   pub some : 0 < pulses
+  pub few : pulses ≤ length before.pulses
   pub near : EachAxis (λ axis. IsNearCorner limits axis (bend_between (slope_along axis before.pulses) (slope_along axis after.pulses))
       ((slope_along axis before.pulses).over * (slope_along axis after.pulses).over) pulses)
   pub whole : length before.lines ≡ length before.pulses

@@ -1,23 +1,23 @@
 -- Lines that are made of items that wait.
-use Rattle.std.specs.Prelude.{ℕ, ◌+◌, ◌*◌, ◌/◌, ◌^◌, ◌<◌, ◌≤◌, ◌≡◌, min, max, List, [], ◌++◌, length, slice_index_or}
-use Rattle.std.specs.Prelude.{All}
+use Rattle.std.specs.Prelude.{ℕ, ◌+◌, ◌*◌, ◌/◌, ◌^◌, ◌<◌, ◌≤◌, ◌≡◌, ◌⊎◌, min, List, [], ◌++◌, length, slice_index_or}
+use Rattle.std.specs.Prelude.{All, IsTrue}
 use Rattle.ng_pace.specs.declared.line.Line.{Line}
 use Rattle.ng_pace.specs.declared.chord.Waiting.{Waiting}
 use Rattle.ng_pace.specs.declared.settling.Ending.{Ending}
-use Rattle.ng_pace.specs.declared.settling.Ending.TheVariants.{GoesOn, Stands, Ends}
+use Rattle.ng_pace.specs.declared.settling.Ending.TheVariants.{GoesOn, Ends}
 use Rattle.ng_pace.specs.Pacer.{Motion}
 use Rattle.ng_pace.specs.Rest.{IsMarked}
 
 -- a rate at which motors stop at once, in parts of 256 of the ramp; 0 where they go on
 abbrev pub stop_of : Ending → ℕ
 stop_of GoesOn = 0
-stop_of (Stands stop) = stop
 stop_of (Ends stop) = stop
 
--- a line has no more than these
+-- a line has no more than these; where everything stands still after it, its ramp may be a rate at which motors stop at
+-- once
 pub record IsWithin (most ramp stop : ℕ) (line : Line) : Type 0 where
   pub most_is : line.most ≤ most
-  pub ramp_is : line.ramp ≤ max ramp (ramp / 256 * stop)
+  pub ramp_is : (line.ramp ≤ ramp) ⊎ (IsTrue line.last × (line.ramp ≤ ramp / 256 * stop))
 
 -- a line has all of these, as far as its own rate goes
 pub record HasAll (most ramp : ℕ) (line : Line) : Type 0 where
@@ -27,7 +27,6 @@ pub record HasAll (most ramp : ℕ) (line : Line) : Type 0 where
 -- the ramp of a line behind which this comes
 abbrev pub ramp_at : Ending → ℕ → ℕ
 ramp_at GoesOn ramp = min ramp (2 ^ 58)
-ramp_at (Stands stop) ramp = min (min ramp (2 ^ 58) / 256 * stop) (2 ^ 58)
 ramp_at (Ends stop) ramp = min (min ramp (2 ^ 58) / 256 * stop) (2 ^ 58)
 
 -- so many lines are made of the first items that wait, or of all
@@ -40,12 +39,11 @@ pub record Makes (old new : Motion) (waited waits : List Waiting) (most ramp sto
   pub count_is : length made ≡ min count (length waited)
   pub rest : length waits + length made ≡ length waited
 
--- nothing is known of what comes then
+-- everything stands still then
 abbrev pub IsEnd : Ending → Type 0
 IsEnd GoesOn = ⊥
-IsEnd (Stands stop) = ⊥
 IsEnd (Ends stop) = Unit {0}
 
--- where nothing more is known to come, and lines were made of all that waited, the last one is marked
+-- where everything stands still then, and lines were made of all that waited, the last one is marked
 pub record Marks (ending : Ending) (known : List Line) (waited waits : List Waiting) : Type 0 where
   pub marked : IsEnd ending → 0 < length waited → waits ≡ [] → IsMarked known

@@ -15,9 +15,7 @@ use std::collections::VecDeque;
 #[derive(Clone, Copy, Debug)]
 pub(crate) enum Ending {
     GoesOn,
-    /// A line before which everything stands still; a motor may stop at this square at once, in parts of 256.
-    Stands(u64),
-    /// Nothing yet.
+    /// Nothing, before everything stands still: a motor may stop at this square at once, in parts of 256.
     Ends(u64),
 }
 
@@ -33,7 +31,6 @@ fn line_of(item: Waiting, limits: Caps, ending: Ending) -> Line
     let ramp = limits.ramp.min(GREATEST);
     let (ramp, last) = match ending {
         Ending::GoesOn => (ramp, false),
-        Ending::Stands(start) => ((ramp / 256).saturating_mul(start).min(GREATEST), false),
         Ending::Ends(start) => ((ramp / 256).saturating_mul(start).min(GREATEST), true),
     };
     Line {

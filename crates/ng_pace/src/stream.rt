@@ -166,7 +166,7 @@ fn push_still<A: Allocator>(
     ensures before { shape.new.before ≡ no_pulse }
 {
     let start = shape.start;
-    finish(pacer, waiting, shape, limits, Ending::Stands(start));
+    finish(pacer, waiting, shape, limits, Ending::Ends(start));
     pacer.push(still(item));
 }
 

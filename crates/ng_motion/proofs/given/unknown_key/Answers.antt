@@ -1,4 +1,4 @@
-use Rattle.std.proofs.Common.{◌≡◌, ap, None, Option, Some, string_bytes, rules, tests, ◌∙◌, sym}
+use Rattle.std.proofs.Common.{◌≡◌, ap, None, Some, string_bytes, rules, tests, ◌∙◌, sym}
 use Rattle.std.specs.Prelude.{option_map}
 use Rattle.std.proofs.lemmas.Iterator.Consumers.{YieldsList-from_rest}
 use Rattle.std.proofs.lemmas.Iterator.Search.{find_from_yields_List}
