@@ -18,9 +18,10 @@ from session_support import TOOLS, ngc  # noqa: E402
 from test_moves import MACHINE, PROBE, World, program  # noqa: E402
 
 TEXT = (TOOLS.parent / "docs/PAGE.md").read_text()
-CHANGES = (("door = 4\nspindle_at_speed = 5\n", ""), ("at_speed_s = 1\n", ""), ("[60, 60, 60]", "[600, 600, 600]"))
+CHANGES = (("door = 4\nspindle_at_speed = 5\n", ""), ("at_speed_s = 1\n", ""), ("[60, 60, 60]", "[600, 600, 600]"),
+           ("agree_um = 20", "agree_um = 1000"))
 MILL = reduce(lambda text, change: text.replace(*change), CHANGES, MACHINE)
-"""A machine without a door, whose spindle says nothing of its speed; it homes quickly."""
+"""A machine without a door, whose spindle says nothing of its speed; it homes quickly, on a busy computer too."""
 DAY = """G17 G21 G90 G94
 M3 S1000
 G0 X0 Y0

@@ -14,7 +14,8 @@ from session_support import PATIENCE_S, TOOLS, Terminal, ngc  # noqa: E402
 from test_documents import blocks, chapters  # noqa: E402
 from test_moves import AT_SPEED, MACHINE, PROBE, STOP, X_HIGH, Moving, World, program  # noqa: E402
 
-CHANGES = (("door = 4\nspindle_at_speed = 5\n", ""), ("at_speed_s = 1\n", ""), ("[60, 60, 60]", "[600, 600, 600]"))
+CHANGES = (("door = 4\nspindle_at_speed = 5\n", ""), ("at_speed_s = 1\n", ""), ("[60, 60, 60]", "[600, 600, 600]"),
+           ("agree_um = 20", "agree_um = 1000"))
 MILL = reduce(lambda text, change: text.replace(*change), CHANGES, MACHINE)
 JOB = "G17 G21 G90 G94\nM3 S1000\nM8\nG0 X1\nG1 X4 F60\nT2 M6\nG1 X5 F600\nM0\nG1 X6 F600\nM5\nM2\n"
 """Its line 5 is a cut of three seconds; its spindle and coolant stay on after M0."""
