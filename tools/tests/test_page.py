@@ -22,6 +22,7 @@ from page_support import CUT, OTHER, PAGE, SLOW, Page, Served, request  # noqa: 
 from session_support import FIRST, PATIENCE_S, TOOLS, InFolder, ngc, told  # noqa: E402
 
 from ngc_tools.cli.page import main  # noqa: E402
+from ngc_tools.formats.lines import Program  # noqa: E402
 from ngc_tools.ngc.console import Console, Status  # noqa: E402
 from ngc_tools.operator.face import REFUSED  # noqa: E402
 from ngc_tools.operator.sentences import SWITCHED  # noqa: E402
@@ -35,6 +36,7 @@ from ngc_tools.page.jog import HeldJog  # noqa: E402
 from ngc_tools.page.pages import LOST_S  # noqa: E402
 from ngc_tools.page.rehearse import RehearsalRequest, rehearsed  # noqa: E402
 from ngc_tools.page.session import SessionCommand, PageSession  # noqa: E402
+from ngc_tools.page.state import Pictured  # noqa: E402
 from ngc_tools.player.progress import NoAnswer  # noqa: E402
 
 EXAMPLES = TOOLS.parent / "examples"
@@ -893,6 +895,42 @@ class Given(unittest.TestCase):
             session.is_finished = True
             session.give(word, lambda: None)
             self.assertEqual((session.is_busy, session.is_finished), (True, is_finished), word)
+
+
+    def test_through(self) -> None:
+        """It isn't finished as long as lines of it are in hand, as where the motors are held before its end."""
+        at_start = Status(5, 0, ("0", "0", "0"), True, "none", 0, "idle")
+        for behind, is_finished in ((2, False), (0, True)):
+            session = PageSession.__new__(PageSession)
+            session.face = PageFace()
+            session.operator = SimpleNamespace(console=SimpleNamespace(status=lambda: at_start),
+                                               session=SimpleNamespace(seen=SimpleNamespace(behind=behind)))
+            session._see_end(SessionCommand("run", lambda: None, 0, 0), replace(at_start, entries=3, place=9))
+            self.assertEqual(session.is_finished, is_finished)
+
+
+class Shown(unittest.TestCase):
+    """What a page is told of a session, of plain parts of it."""
+
+    def pictured(self, word: str, behind: int, is_finished: bool = False) -> Pictured:
+        """A program of three lines, of which all is handed out, or nothing, with a command under way."""
+        pictured = Pictured.__new__(Pictured)
+        pictured.session = SimpleNamespace(is_finished=is_finished, drawer=SimpleNamespace(drawing=None))
+        pictured.command = SimpleNamespace(word=word) if word else None
+        pictured.report = SimpleNamespace(behind=behind, waits=False)
+        pictured.program = Program(b"G0 X1\nG0 X2\nM2\n")
+        pictured.status = Status(5, 0, ("0", "0", "0"), True, "none", 0, "idle")
+        return pictured
+
+    def test_last_line(self) -> None:
+        """Once all is handed out it is the last line that runs, until the motors are through."""
+        for word, behind, number in (("run", 0, 1), ("run", 7, 3), ("recover", 7, 3), ("mdi", 7, 1), ("", 7, 1)):
+            self.assertEqual(self.pictured(word, behind).number, number, (word, behind))
+
+    def test_finished(self) -> None:
+        """Nothing is finished as long as a command is under way."""
+        self.assertEqual((self.pictured("", 0, True).is_finished, self.pictured("run", 0, True).is_finished),
+                         (True, False))
 
 
 class HeldJogs(unittest.TestCase):

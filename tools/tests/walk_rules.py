@@ -54,7 +54,7 @@ class Truth:
 
     tool: int | None = 0
     tool_told_at: float = 0.0
-    offset: Point = (0.0, 0.0, 0.0)
+    offset: Point | None = (0.0, 0.0, 0.0)  # None as long as home is under way, since it changes axis by axis
     is_place_known: bool = True
     may_move: bool = False
     ways: set[str] | None = None  # the axes that may move, as X+; None for all
@@ -64,6 +64,14 @@ class Truth:
     touched_at: float = 0.0
     is_recovering: bool = False
     quiet_pulses: int = 0
+    homes_at: int | None = None  # how many entries Log had as home was asked for last
+
+    def rest(self) -> None:
+        """What was asked for is over: from now on nothing moves. Where another zero was asked for, the one that is
+        shown now is it."""
+        self.may_move, self.ways, self.without_lines = False, None, False
+        self.zero = None if self.is_zero_asked else self.zero
+        self.is_zero_asked = False
 
 
 class Judge:
@@ -143,13 +151,13 @@ class Judge:
         """The machine's place is one where it was just now, or as long ago as is said; one by the record is off by as
         much as is said beside it. What somebody told wrong is off by that."""
         shown, unit = self._shown(seen), seen.units[0]
-        if shown is None:
+        if shown is None or self.truth.offset is None:
             return
         wanted, mill = _difference(shown, self.truth.offset), self.bench.mill
-        if seen.blind and seen.risk.startswith("By the record"):
+        if seen.blind and seen.past and seen.risk.startswith("By the record"):
             off_mm = max(abs(p - q) for p, q in zip(wanted, mill.at_mm))
-            is_so = off_mm <= float(seen.past or 0) + NEAR_MM[unit]
-        elif seen.blind and not seen.risk.startswith("As counted"):
+            is_so = off_mm <= float(seen.past) + NEAR_MM[unit]
+        elif seen.blind and seen.risk.startswith("Last known"):
             ago_s = _seconds(seen.risk)
             is_so = ago_s is None or self._was_at(wanted, unit, since - ago_s, told - ago_s + 1)
         else:
@@ -189,7 +197,6 @@ class Judge:
         if not truth.is_zero_asked and not is_same and not seen.busy:
             raise Wrong("work zero", f"it was {truth.zero}, and is {zero}: nobody asked for that")
         truth.zero = zero
-        truth.is_zero_asked = truth.is_zero_asked and bool(seen.busy)
 
     def outputs(self, seen: Seen, now: Outputs) -> None:
         """Spindle and coolant as the pins have them, or said not to be known."""

@@ -21,6 +21,7 @@ from ngc_tools.ngc.console import Ended, Status
 from ngc_tools.operator.face import REFUSED, WARNING
 from ngc_tools.operator.motors import SPINDLE_PERCENTS, WHOLE
 from ngc_tools.operator.operator import CHOSEN, Operator
+from ngc_tools.operator.places import is_same_place
 from ngc_tools.operator.sentences import explained
 from ngc_tools.operator.session import ALARM
 from ngc_tools.page.aside import Aside, Child, NotDone
@@ -309,9 +310,21 @@ class PageSession:
         was asked. Raises Busy."""
         def does() -> None:
             """By the operator's core."""
-            self.operator.recover.confirmed_nm = tuple(map(nanometres, stands)) if stands else None
+            self.operator.recover.confirmed_nm = self._confirmed(stands) if stands else None
             self.operator.do("recover")
         self.give("recover", does)
+
+    def _confirmed(self, stands: list[str]) -> tuple[int, ...] | None:
+        """Where the player has the motors, once it is told where a person says that they stand; None where it has them
+        elsewhere all the same."""
+        operator = self.operator
+        report = operator.session.report()
+        if report and not is_same_place(self.settings, report.at.split(), stands):
+            operator.do(f"reference {' '.join(stands)} anyway")
+            operator.recover.still()
+            report = operator.session.report()
+        is_there = report is not None and is_same_place(self.settings, report.at.split(), stands)
+        return tuple(map(nanometres, report.at.split())) if is_there else None
 
     def load(self, name: str, text: bytes) -> bool:
         """Stores a program that people call `name`; whether it was taken. Raises Busy."""
@@ -480,7 +493,9 @@ class PageSession:
         ran = command.word in ("run", "resume", "recover") and (before.place or before.half == "program"
                                                                 or before.entries != status.entries)
         at_start = status.does == "idle" and status.half == "none" and not status.place
-        self.is_finished = bool(ran and at_start and not self.face.refusal)
+        seen = self.operator.session.seen
+        is_through = seen is None or not seen.behind  # nor were the motors held before its end
+        self.is_finished = bool(ran and at_start and is_through and not self.face.refusal)
 
     def _quit(self) -> None:
         """The end that a person wanted."""
