@@ -20,7 +20,8 @@ from walk_rules import Wrong  # noqa: E402
 WALK_S = float(os.environ.get("NGC_WALK_S", "90"))
 SHORTEN_S = 60.0
 STEPS = 40
-LONG = "G17 G21 G90 G94\nM3 S1000\nG1 X40 F300\nG1 X0 F600\nM2\n"
+LONG = "G17 G21 G90 G94\nM3 S1000\nG1 X50 F200\nG1 X0\nM2\n"
+"""Half a minute of cuts."""
 
 
 def setUpModule() -> None:
@@ -92,7 +93,10 @@ class Planted(InFolder):
         with self.subTest(fault):
             self.plant(fault)
             with self.assertRaises(Wrong) as raised:
-                self.does(*steps, ("wait", "3"))
+                self.does(*steps)
+                until = time.monotonic() + 3
+                while time.monotonic() < until + 2 * LATE.slack_s(until):
+                    self.does(("wait", "0.3"))
             self.assertEqual(raised.exception.rule, rule, raised.exception)
         self.plant("")
         told, mill = time.time(), self.walk.bench.mill
@@ -123,9 +127,9 @@ class Planted(InFolder):
             self.found(fault, rule)
         self.loads()
         self.does(("touch", "Run"))
-        self.found("rests", "says it rests", ("wait", "1.5"))
+        self.found("rests", "says it rests")
         self.does(("hold", "button"))
-        self.found("runs", "says it runs", ("wait", "3"))
+        self.found("runs", "says it runs")
 
     def test_deeds(self) -> None:
         """A button that does nothing, a move that nobody asked for, a refusal in Log alone, a late Hold."""
@@ -140,7 +144,7 @@ class Planted(InFolder):
         self.found("late", "hold too late", ("hold", "button"))
 
     def loads(self) -> None:
-        """A program with a cut of eight seconds is loaded."""
+        """LONG is loaded."""
         Path("part.ngc").write_text(LONG)
         TABS.choose_file(Path("part.ngc").resolve())
         self.until(lambda walk: walk.seen.goes and walk.seen.goes[-1][1])
