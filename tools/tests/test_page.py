@@ -927,6 +927,16 @@ class Shown(unittest.TestCase):
         for word, behind, number in (("run", 0, 1), ("run", 7, 3), ("recover", 7, 3), ("mdi", 7, 1), ("", 7, 1)):
             self.assertEqual(self.pictured(word, behind).number, number, (word, behind))
 
+    def test_stale(self) -> None:
+        """A place that wasn't known before isn't one that was known last, once the player is gone."""
+        for word, is_known, why in (("works", True, "player"), ("works", False, "power"), ("alarm", True, "alarm")):
+            pictured = self.pictured("", 0)
+            pictured.report.word, pictured.face = word, SimpleNamespace(reported_at=5.0)
+            pictured.status = replace(pictured.status, known=is_known)
+            pictured.stand = SimpleNamespace(gone="it is gone", recovery=None)
+            pictured.session.ended, pictured.session.opened = "", SimpleNamespace(left_at=4.0)
+            self.assertEqual(pictured._stale()["why"], why)
+
     def test_finished(self) -> None:
         """Nothing is finished as long as a command is under way."""
         self.assertEqual((self.pictured("", 0, True).is_finished, self.pictured("run", 0, True).is_finished),

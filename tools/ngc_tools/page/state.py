@@ -236,11 +236,12 @@ class Pictured:
     def _stale(self) -> dict | None:
         """Why the place isn't known any more that is shown, and when it was, in seconds since 1970, if that is known;
         None where it is the machine's."""
-        if self.stand.gone or self.session.ended:
-            return {"why": "player", "at": self.face.reported_at}
         if self.report and self.report.word == ALARM:
             return {"why": "alarm", "at": 0}
-        return {"why": "power", "at": self.session.opened.left_at} if self._is_lost else None
+        if self._is_lost:
+            return {"why": "power", "at": self.session.opened.left_at}
+        is_gone = self.stand.gone or self.session.ended  # what wasn't known before isn't "known last" by that
+        return {"why": "player", "at": self.face.reported_at} if is_gone else None
 
     @property
     def _is_lost(self) -> bool:
