@@ -912,28 +912,29 @@ class Given(unittest.TestCase):
 class Shown(unittest.TestCase):
     """What a page is told of a session, of plain parts of it."""
 
-    def pictured(self, word: str, behind: int, is_finished: bool = False) -> Pictured:
-        """A program of three lines, of which all is handed out, or nothing, with a command under way."""
+    def pictured(self, word: str, entries: int = 0, is_finished: bool = False) -> Pictured:
+        """A program of three lines, of which so many entries were made, all or none, with a command under way."""
         pictured = Pictured.__new__(Pictured)
         pictured.session = SimpleNamespace(is_finished=is_finished, drawer=SimpleNamespace(drawing=None))
         pictured.command = SimpleNamespace(word=word) if word else None
-        pictured.report = SimpleNamespace(behind=behind, waits=False)
+        pictured.report = SimpleNamespace(behind=0, waits=False)
         pictured.program = Program(b"G0 X1\nG0 X2\nM2\n")
-        pictured.status = Status(5, 0, ("0", "0", "0"), True, "none", 0, "idle")
+        pictured.status = Status(5 + entries, 0, ("0", "0", "0"), True, "none", 0, "idle")
+        pictured.stand = SimpleNamespace(status=replace(pictured.status, entries=5), gone="", recovery=None)
         return pictured
 
     def test_last_line(self) -> None:
         """Once all is handed out it is the last line that runs, until the motors are through."""
-        for word, behind, number in (("run", 0, 1), ("run", 7, 3), ("recover", 7, 3), ("mdi", 7, 1), ("", 7, 1)):
-            self.assertEqual(self.pictured(word, behind).number, number, (word, behind))
+        for word, entries, number in (("run", 0, 1), ("run", 3, 3), ("recover", 3, 3), ("mdi", 1, 1), ("", 3, 1)):
+            self.assertEqual(self.pictured(word, entries).number, number, (word, entries))
 
     def test_stale(self) -> None:
         """A place that wasn't known before isn't one that was known last, once the player is gone."""
         for word, is_known, why in (("works", True, "player"), ("works", False, "power"), ("alarm", True, "alarm")):
-            pictured = self.pictured("", 0)
+            pictured = self.pictured("")
             pictured.report.word, pictured.face = word, SimpleNamespace(reported_at=5.0)
             pictured.status = replace(pictured.status, known=is_known)
-            pictured.stand = SimpleNamespace(gone="it is gone", recovery=None)
+            pictured.stand.gone = "it is gone"
             pictured.session.ended, pictured.session.opened = "", SimpleNamespace(left_at=4.0)
             self.assertEqual(pictured._stale()["why"], why)
 

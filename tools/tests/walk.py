@@ -37,7 +37,7 @@ BEGINS_S = 1.0
 """So soon what was asked for has begun; what moves before may be just that. Of what a page asked for before it was
 loaded anew, or another one was used, nothing else tells when it was answered."""
 WAYS = 60
-"""In so many steps a person has to get on, whatever came."""
+"""In so many steps a person has to get on, whatever came; to wait is none, unless nothing comes of it."""
 ANSWER_S = 2.0
 """So soon something has to come of a touch."""
 _DIGITS = re.compile(r"\d+(?:\.\d+)?")
@@ -527,13 +527,15 @@ class Walk:
         takes a program. Raises Wrong."""
         for step in (("door", "shuts"), ("stop", "freed"), ("start", "player"), ("start", "server")):
             self.do(step)
-        until = time.monotonic() + PATIENCE_S
-        for _ in range(WAYS):
+        until, ways = time.monotonic() + 2 * PATIENCE_S, 0
+        while ways < WAYS:
             self._until(lambda seen: "\u2026" not in seen.sheet, until - time.monotonic())  # `ngc` is at work on it
             seen = self.seen
             if any(one["id"] == "load" for one in seen.buttons) and not seen.sheet:
                 return
-            self.do(self._way_on(seen))
+            step = self._way_on(seen)
+            self.do(step)
+            ways += step[0] != "wait" or time.monotonic() > until
         raise Wrong("no way on", f"{self.seen.word}: {self.seen.detail}; enabled are"
                                  f" {[one['text'] for one in self.seen.buttons]}")
 

@@ -241,6 +241,8 @@ class Judge:
             raise Wrong("done while it runs", f"{seen.word}: {seen.detail}")
         if self.truth.without_lines and seen.runs and not is_still and re.search(r"\bline \d", seen.detail):
             raise Wrong("says lines run", f"{seen.word}: {seen.detail}; what moves is no line of the program")
+        if is_still and not seen.runs and number(seen.feed) and not seen.feed.endswith("set"):
+            raise Wrong("a feed at rest", f"{seen.word}: {seen.detail}; shown is {seen.feed!r}")
         if not all(unit in _UNITS for unit in seen.units):
             raise Wrong("no unit", f"the place has no unit: {seen.place!r}")
 

@@ -47,14 +47,12 @@ class Pictured:
     @property
     def number(self) -> int:
         """The line under way, from 1: of a player that waits for a tool that of the change. Once all is handed out
-        `ngc` is at the first line again: then it is the last one until the motors are through."""
+        `ngc` is at the first line again: then it is the last one, until nothing is under way."""
         if self._change is not None:
             return self._change
-        status, report = self.status, self.report
-        is_handed_out = self.command is not None and self.command.word in _LINES and status.does == "idle"
-        if is_handed_out and status.half == "none" and not status.place and report and report.behind:
-            return self.program.count
-        return self.program.number(status.place)
+        status, runs = self.status, self.command is not None and self.command.word in _LINES
+        is_through = status.half == "none" and not status.place and status.entries != self.stand.status.entries
+        return self.program.count if runs and is_through else self.program.number(status.place)
 
     @property
     def is_finished(self) -> bool:
