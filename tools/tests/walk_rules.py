@@ -82,6 +82,7 @@ class Judge:
         self.checked: dict[str, int] = {}
         self._runs_at_rest_since = 0.0
         self._rests_in_motion_since = 0.0
+        self._old_since = 0.0
 
     def _count(self, name: str) -> None:
         self.checked[name] = self.checked.get(name, 0) + 1
@@ -98,7 +99,9 @@ class Judge:
         now = time.monotonic()
         told, slack_s = seen.now - time.time() + now, self.slack_s(now)
         if now - told > SILENT_S + slack_s:
-            raise Wrong("an old page", f"{seen.word}: {seen.detail}; that was told {now - told:.1f} s ago")
+            self._is_old(seen, now, told, slack_s)
+            return
+        self._old_since = 0.0
         since = told - FRESH_S - slack_s
         is_still = self.bench.mill.last_pulse_at() < since
         self.says_rest(seen, now, is_still)
@@ -111,6 +114,12 @@ class Judge:
             self.tool(seen)
         self.looks(seen)
         self.words(seen, is_still)
+
+    def _is_old(self, seen: Seen, now: float, told: float, slack_s: float) -> None:
+        """A page that hears nothing says so. It may have been looked at before it was woken."""
+        self._old_since = self._old_since or now
+        if now - self._old_since > 1 + slack_s:
+            raise Wrong("an old page", f"{seen.word}: {seen.detail}; that was told {now - told:.1f} s ago")
 
     # what moves
 

@@ -21,7 +21,6 @@ from ngc_tools.ngc.console import Ended, Status
 from ngc_tools.operator.face import REFUSED, WARNING
 from ngc_tools.operator.motors import SPINDLE_PERCENTS, WHOLE
 from ngc_tools.operator.operator import CHOSEN, Operator
-from ngc_tools.operator.places import is_same_place
 from ngc_tools.operator.sentences import explained
 from ngc_tools.operator.session import ALARM
 from ngc_tools.page.aside import Aside, Child, NotDone
@@ -310,21 +309,9 @@ class PageSession:
         was asked. Raises Busy."""
         def does() -> None:
             """By the operator's core."""
-            self.operator.recover.confirmed_nm = self._confirmed(stands) if stands else None
+            self.operator.recover.confirmed_nm = tuple(map(nanometres, stands)) if stands else None
             self.operator.do("recover")
         self.give("recover", does)
-
-    def _confirmed(self, stands: list[str]) -> tuple[int, ...] | None:
-        """Where the player has the motors, once it is told where a person says that they stand; None where it has them
-        elsewhere all the same."""
-        operator = self.operator
-        report = operator.session.report()
-        if report and not is_same_place(self.settings, report.at.split(), stands):
-            operator.do(f"reference {' '.join(stands)} anyway")
-            operator.recover.still()
-            report = operator.session.report()
-        is_there = report is not None and is_same_place(self.settings, report.at.split(), stands)
-        return tuple(map(nanometres, report.at.split())) if is_there else None
 
     def load(self, name: str, text: bytes) -> bool:
         """Stores a program that people call `name`; whether it was taken. Raises Busy."""

@@ -34,6 +34,8 @@ class Pictured:
         self.session, self.face, self.page = session, session.face, page
         self.operator, self.stand = session.operator, session.stand
         self.command, view = session.under, session.face.view
+        if view is None and session.face.question is None:
+            view = session.face.last  # until the command is over; then `stand` has what came of it
         self.status: Status = view.status if view and self.command else self.stand.status
         self.report: Report | None = self.face.report
         self.device: Device = session.kept.at(self.status, self.command is not None)

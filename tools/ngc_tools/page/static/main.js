@@ -219,8 +219,7 @@ function showTimes(s, done, share) {
 
 // How fast the motors go, by the step that they are on.
 function rate(s, { step }) {
-  const rests = !s.busy || s.half === 'none' || s.held_motors || s.waits || s.question || s.does_move;
-  if (!app.job || step < 0 || rests) return null;
+  if (!app.job || step < 0 || s.tone !== 'run' || s.half === 'none' || s.does_move) return null;
   const mean = app.job.rate(step) * (s.percent ?? 100) / 100;
   return mean ? { feed: mean, isTraverse: app.job.kind[step] === TRAVERSE } : null;
 }

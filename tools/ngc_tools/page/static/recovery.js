@@ -330,14 +330,11 @@ export class Recovery {
     return button;
   }
 
-  // Each axis was confirmed: that counts, whatever the record says.
-  stands() { return this.asks('reference', { at: this.at, anyway: true }); }
-
   async resume() {
-    if (await this.stands()) await this.asks('resume');
+    if (await this.asks('reference', { at: this.at })) await this.asks('resume');
   }
 
   async abandon() {
-    if (await this.stands() && await this.asks('abandon')) this.close();
+    if (await this.asks('reference', { at: this.at }) && await this.asks('abandon')) this.close();
   }
 }
