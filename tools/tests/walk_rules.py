@@ -13,6 +13,10 @@ FRESH_S = 0.8
 """What a state says may be so much older than when it was told."""
 SILENT_S = 3.5
 """A page that has heard nothing for so long says so, and shows no older state as if it were new."""
+CLOCKS_S = 0.1
+"""Clocks that are set by others differ by less."""
+ROUNDED_S = 0.6
+"""An age is told in tenths of seconds, of a minute and more in seconds."""
 HOLD_S = 0.1
 REST_S = 2.0
 """So long a page may say that the machine moves while it rests."""
@@ -83,6 +87,7 @@ class Judge:
         self._runs_at_rest_since = 0.0
         self._rests_in_motion_since = 0.0
         self._old_since = 0.0
+        self._wall_s = min(_clocks() for _ in range(5))[1]
 
     def _count(self, name: str) -> None:
         self.checked[name] = self.checked.get(name, 0) + 1
@@ -97,7 +102,7 @@ class Judge:
         if seen.isLost:
             return
         now = time.monotonic()
-        told, slack_s = seen.now - time.time() + now, self.slack_s(now)
+        told, slack_s = seen.now - self._wall_s, self.slack_s(now)
         if now - told > SILENT_S + slack_s:
             self._is_old(seen, now, told, slack_s)
             return
@@ -162,19 +167,18 @@ class Judge:
         shown, unit = self._shown(seen), seen.units[0]
         if shown is None or self.truth.offset is None:
             return
-        wanted, mill = _difference(shown, self.truth.offset), self.bench.mill
+        wanted = _difference(shown, self.truth.offset)
         if seen.blind and seen.past and seen.risk.startswith("By the record"):
-            off_mm = max(abs(p - q) for p, q in zip(wanted, mill.at_mm))
-            is_so = off_mm <= float(seen.past) + NEAR_MM[unit]
+            is_so = self._was_at(wanted, unit, since, told, float(seen.past))
         elif seen.blind and seen.risk.startswith("Last known"):
             ago_s = _seconds(seen.risk)
-            is_so = ago_s is None or self._was_at(wanted, unit, since - ago_s, told - ago_s + 1)
+            is_so = ago_s is None or self._was_at(wanted, unit, since - ago_s, told - ago_s + ROUNDED_S)
         else:
-            is_so = not self._is_known(seen) or self._was_at(wanted, unit, since, told + 1)
+            is_so = not self._is_known(seen) or self._was_at(wanted, unit, since, told)
         self._count("place")
         if not is_so:
             raise Wrong("place", f"{seen.word}: shown is {shown}, told wrong by {self.truth.offset}; the machine is at"
-                                 f" {mill.at_mm}; it says {seen.risk!r}, {seen.past!r}")
+                                 f" {self.bench.mill.at_mm}; it says {seen.risk!r}, {seen.past!r}")
 
     def _is_known(self, seen: Seen) -> bool:
         """Whether the person knows where the machine is, or the page says that it does. Of a machine whose player was
@@ -193,8 +197,8 @@ class Judge:
         unit = seen.units[0]
         return _scaled(point(seen.motors), unit), _scaled(point(seen.work), unit)
 
-    def _was_at(self, wanted: Point, unit: str, begin: float, end: float) -> bool:
-        return any(_is_near(wanted, at, unit) for at in self.bench.mill.places(begin, end))
+    def _was_at(self, wanted: Point, unit: str, begin: float, end: float, off_mm: float = 0.0) -> bool:
+        return any(_is_near(wanted, at, unit, off_mm) for at in self.bench.mill.places(begin, end + CLOCKS_S))
 
     def zero(self, seen: Seen) -> None:
         """What lies between machine and work stays at rest, where nobody asked for another zero."""
@@ -281,6 +285,12 @@ class Judge:
             raise Wrong("hold too far", f"{way_mm:.3f} mm at {rate:.1f} mm/s")
 
 
+def _clocks() -> tuple[float, float]:
+    """How long it took to read both clocks, and what that of the wall is ahead of the monotonic one, in s."""
+    begun, wall, ended = time.monotonic(), time.time(), time.monotonic()
+    return ended - begun, wall - (begun + ended) / 2
+
+
 def _seconds(text: str) -> float | None:
     """How long ago something was, as the page says it: `12.3 s ago`, `2:05 min ago`; None where it says nothing."""
     match = re.search(r"(?:(\d+):)?(?:(\d+):)?(\d+(?:\.\d+)?) (?:s|min|h) ago", text)
@@ -304,8 +314,8 @@ def _scaled(at: Point | None, unit: str) -> Point | None:
     return at and (at[0] * factor, at[1] * factor, at[2] * factor)
 
 
-def _is_near(a: Point, b: Point, unit: str) -> bool:
-    return max(abs(p - q) for p, q in zip(a, b)) < NEAR_MM.get(unit, NEAR_MM["mm"])
+def _is_near(a: Point, b: Point, unit: str, off_mm: float = 0.0) -> bool:
+    return max(abs(p - q) for p, q in zip(a, b)) < off_mm + NEAR_MM.get(unit, NEAR_MM["mm"])
 
 
 def changes(before: Seen, after: Seen) -> Iterator[str]:
