@@ -953,9 +953,13 @@ class Shown(unittest.TestCase):
         self.assertEqual(Pictured(session, PAGE).status, before)
 
     def test_stale(self) -> None:
-        """A place that wasn't known before isn't one that was known last, once the player is gone."""
-        for word, is_known, why in (("works", True, "player"), ("works", False, "power"), ("alarm", True, "alarm")):
+        """A place that wasn't known before isn't one that was known last, once the player is gone; nor is one that
+        another player says as another session begins."""
+        for word, is_known, is_beginning, why in (
+                ("works", True, False, "player"), ("works", False, False, "power"), ("alarm", True, False, "alarm"),
+                ("works", True, True, "power")):
             pictured = self.pictured("")
+            pictured.session.is_beginning = is_beginning
             pictured.report.word, pictured.face = word, SimpleNamespace(reported_at=5.0)
             pictured.status = replace(pictured.status, known=is_known)
             pictured.stand.gone = "it is gone"

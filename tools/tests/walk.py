@@ -505,9 +505,19 @@ class Walk:
         if what == "player" and not self.bench.has_player():
             self.bench.start_player()
         elif what == "server" and not self.bench.has_server() and self.bench.has_player():
-            self.bench.start_server()
+            self._start_server()
             self._until(lambda s: not s.isLost and s.session != self.chosen_in, PATIENCE_S)
             self._chosen_again()
+
+    def _start_server(self) -> None:
+        """Starts the page's server, and the player again, where that was alone for so long that it has ended."""
+        try:
+            self.bench.start_server()
+        except AssertionError:
+            if self.bench.has_player():
+                raise
+            self.bench.start_player()
+            self.bench.start_server()
 
     def _chosen_again(self) -> None:
         """For a job that goes on what was chosen is in force again, or is named; for one that begins nothing is."""

@@ -238,7 +238,7 @@ class Pictured:
         None where it is the machine's."""
         if self.report and self.report.word == ALARM:
             return {"why": "alarm", "at": 0}
-        if self._is_lost:
+        if self._is_lost or self.session.is_beginning:
             return {"why": "power", "at": self.session.opened.left_at}
         is_gone = self.stand.gone or self.session.ended  # what wasn't known before isn't "known last" by that
         return {"why": "player", "at": self.face.reported_at} if is_gone else None
