@@ -125,6 +125,20 @@ class Moves(Core):
         self.do("jog X+ 600 for 1", "reference player", "G0 X2.501")
         self.assertEqual((self.axes.word, self.axes.at_nm), ("works", [2_501_000, 1_000, 0]))
 
+    def test_unsure(self) -> None:
+        """Where two places are told a jog, or a home that doesn't end, makes none of them known: `ngc` isn't told."""
+        self.begin(self.link)
+        self.axes.at_nm[0] = 7_000_000  # power was lost in a jog
+        unsure = ("ngc isn't told where the machine is, since it wasn't known before, and not each axis is homed:"
+                  " reference player, or reference X Y Z")
+        self.assertIn(unsure, self.do("jog X+ 600 for 1"))
+        self.axes.fails = "stopped"
+        self.assertIn(unsure, self.do("home"))
+        self.assertEqual((self.status().at[0], self.axes.at_nm[0]), ("0.000000", 8_000_000))
+        self.assertIn("8.000 mm apart. Nothing is done.", self.do("G0 X1")[0])
+        self.assertIn(f"reference {HOMED}", self.do("home"))
+        self.assertEqual(self.status().at, tuple(HOMED.split()))
+
     def test_at_a_stop(self) -> None:
         """At M0 a jog is taken, and `run` asks whether the program goes on from there."""
         self.begin(self.link)

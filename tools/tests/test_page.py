@@ -22,19 +22,21 @@ from page_support import CUT, OTHER, PAGE, SLOW, Page, Served, request  # noqa: 
 from session_support import FIRST, PATIENCE_S, TOOLS, InFolder, ngc, told  # noqa: E402
 
 from ngc_tools.cli.page import main  # noqa: E402
+from ngc_tools.formats.lines import Program  # noqa: E402
 from ngc_tools.ngc.console import Console, Status  # noqa: E402
-from ngc_tools.operator.face import REFUSED  # noqa: E402
+from ngc_tools.operator.face import REFUSED, UnderWay  # noqa: E402
 from ngc_tools.operator.sentences import SWITCHED  # noqa: E402
 from ngc_tools.operator.way_back import TYPE_GO  # noqa: E402
 from ngc_tools.page import server as server_module  # noqa: E402
 from ngc_tools.page.aside import Aside, NotDone  # noqa: E402
 from ngc_tools.page.band import Standing  # noqa: E402
 from ngc_tools.page.drawing import SWITCH, DrawingRequest, draw, draw_exactly, job_of  # noqa: E402
-from ngc_tools.page.face import PageFace  # noqa: E402
+from ngc_tools.page.face import PageFace, Question  # noqa: E402
 from ngc_tools.page.jog import HeldJog  # noqa: E402
 from ngc_tools.page.pages import LOST_S  # noqa: E402
 from ngc_tools.page.rehearse import RehearsalRequest, rehearsed  # noqa: E402
 from ngc_tools.page.session import SessionCommand, PageSession  # noqa: E402
+from ngc_tools.page.state import Pictured  # noqa: E402
 from ngc_tools.player.progress import NoAnswer  # noqa: E402
 
 EXAMPLES = TOOLS.parent / "examples"
@@ -812,13 +814,20 @@ class PageWords(unittest.TestCase):
 class Bands(unittest.TestCase):
     """What the band says, of plain parts of a session."""
 
-    def band(self, word: str, own: str) -> tuple[str, str, str]:
+    def band(self, word: str, own: str, has_begun: bool = True, behind: int = 0) -> tuple[str, str, str]:
         """That of a command under way, with a line of one's own, in a program at its line 1."""
         operator = SimpleNamespace(session=SimpleNamespace(own=own, is_door_open=False))
         session = SimpleNamespace(ended="", stand=SimpleNamespace(gone=""), face=PageFace(), operator=operator,
                                   under=SimpleNamespace(word=word))
         status = Status(3, 0, ("0", "0", "0"), True, "none", 0, "idle")
-        return Standing(session, status, None, "line 1 of 4", "", "", "", False, PAGE).band()
+        session.face.last = UnderWay("line 1", status, "") if has_begun else None
+        report = SimpleNamespace(word="works", waits=False, behind=behind, is_held=False)
+        return Standing(session, status, report, "line 1 of 4", "", "", "", False, PAGE).band()
+
+    def test_starting(self) -> None:
+        """While `ngc` looks at a program nothing is told to run; what is in hand does."""
+        self.assertEqual(self.band("run", "", False)[:2], ("Starting", "idle"))
+        self.assertEqual(self.band("run", "", False, 5)[:2], ("Running", "run"))
 
     def test_typed(self) -> None:
         """Before a line of one's own begins, and after it, no line of the program is told to run."""
@@ -930,6 +939,74 @@ class Given(unittest.TestCase):
             session.is_finished = True
             session.give(word, lambda: None)
             self.assertEqual((session.is_busy, session.is_finished), (True, is_finished), word)
+
+
+    def test_through(self) -> None:
+        """It isn't finished as long as lines of it are in hand, as where the motors are held before its end."""
+        at_start = Status(5, 0, ("0", "0", "0"), True, "none", 0, "idle")
+        for behind, is_finished in ((2, False), (0, True)):
+            session = PageSession.__new__(PageSession)
+            session.face = PageFace()
+            session.operator = SimpleNamespace(console=SimpleNamespace(status=lambda: at_start),
+                                               session=SimpleNamespace(seen=SimpleNamespace(behind=behind)))
+            session._see_end(SessionCommand("run", lambda: None, 0, 0), replace(at_start, entries=3, place=9))
+            self.assertEqual(session.is_finished, is_finished)
+
+
+class Shown(unittest.TestCase):
+    """What a page is told of a session, of plain parts of it."""
+
+    def pictured(self, word: str, entries: int = 0, is_finished: bool = False) -> Pictured:
+        """A program of three lines, of which so many entries were made, all or none, with a command under way."""
+        pictured = Pictured.__new__(Pictured)
+        pictured.session = SimpleNamespace(is_finished=is_finished, drawer=SimpleNamespace(drawing=None))
+        pictured.command = SimpleNamespace(word=word) if word else None
+        pictured.report = SimpleNamespace(behind=0, waits=False)
+        pictured.program = Program(b"G0 X1\nG0 X2\nM2\n")
+        pictured.status = Status(5 + entries, 0, ("0", "0", "0"), True, "none", 0, "idle")
+        pictured.stand = SimpleNamespace(status=replace(pictured.status, entries=5), gone="", recovery=None)
+        return pictured
+
+    def test_last_line(self) -> None:
+        """Once all is handed out it is the last line that runs, until the motors are through."""
+        for word, entries, number in (("run", 0, 1), ("run", 3, 3), ("recover", 3, 3), ("mdi", 1, 1), ("", 3, 1)):
+            self.assertEqual(self.pictured(word, entries).number, number, (word, entries))
+
+    def test_until_over(self) -> None:
+        """Once the work of a command has ended, and until the command has, what was under way last is told, and not
+        what stood before it; where somebody is asked meanwhile, what stands then."""
+        before, last = (Status(3, place, ("0", "0", "0"), True, "none", 0, "idle") for place in (0, 6))
+        face = PageFace()
+        operator = SimpleNamespace(session=SimpleNamespace(program=Program(b"G0 X1\nG0 X2\nM2\n")))
+        session = SimpleNamespace(face=face, operator=operator, stand=SimpleNamespace(status=before),
+                                  under=SimpleNamespace(word="run"), kept=SimpleNamespace(at=lambda *_: None))
+        face.live(UnderWay("line 2", last, ""))
+        face.live(None)
+        self.assertEqual(Pictured(session, PAGE).status, last)
+        face.question = Question(1, "go on?", "yes")
+        self.assertEqual(Pictured(session, PAGE).status, before)
+        face.question = None
+        face.begin(0)
+        self.assertEqual(Pictured(session, PAGE).status, before)
+
+    def test_stale(self) -> None:
+        """A place that wasn't known before isn't one that was known last, once the player is gone; nor is one that
+        another player says as another session begins."""
+        for word, is_known, is_beginning, why in (
+                ("works", True, False, "player"), ("works", False, False, "power"), ("alarm", True, False, "alarm"),
+                ("works", True, True, "power")):
+            pictured = self.pictured("")
+            pictured.session.is_beginning = is_beginning
+            pictured.report.word, pictured.face = word, SimpleNamespace(reported_at=5.0)
+            pictured.status = replace(pictured.status, known=is_known)
+            pictured.stand.gone = "it is gone"
+            pictured.session.ended, pictured.session.opened = "", SimpleNamespace(left_at=4.0)
+            self.assertEqual(pictured._stale()["why"], why)
+
+    def test_finished(self) -> None:
+        """Nothing is finished as long as a command is under way."""
+        self.assertEqual((self.pictured("", 0, True).is_finished, self.pictured("run", 0, True).is_finished),
+                         (True, False))
 
 
 class HeldJogs(unittest.TestCase):

@@ -381,6 +381,17 @@ class Work(InBrowser):
         self.assertEqual(self.browser.js("window.failed"), 5)
         self.no_complaints()
 
+    def test_ended(self) -> None:
+        """Once `ngc` has ended nobody asks the player, which goes on for a while: what turns and flows isn't known."""
+        browser = self.browser
+        browser.wait("ngc.state.spindle === 0")
+        for pid in self.children():
+            os.kill(pid, signal.SIGKILL)
+        browser.press("Hold", "#hold")
+        browser.wait("ngc.state.ended")
+        shown = browser.js("[...document.querySelectorAll('#gauges dd')].map(one => one.textContent)")
+        self.assertEqual(shown[1:3], ["not known", "not known"])
+
     def test_drawn_anew(self) -> None:
         """Once another program is loaded nothing is shown that was drawn of the one before."""
         browser = self.browser

@@ -282,6 +282,7 @@ class Day(Walk):
         self.assertIn("A line is held", self.browser.js("document.querySelector('#tab-setup .why').textContent"))
         self.press("Continue", "#run")
         self.wait("s.waits && s.waits_tool === 2 && s.spindle === 0")
+        self.browser.wait("document.querySelector('#gauges dd').textContent.endsWith('mm/min set')")  # it rests
         self.press("Tool 2 is in", "#run")
         self.rests("s.does === 'stopped' && s.line > 6 && s.slot === 2")
         self.press("Continue", "#run")

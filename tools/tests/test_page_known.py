@@ -213,6 +213,42 @@ class Known(Served):
         self.assertEqual((float(state["work"][2]), state["tool_length"]), (float(was[2]) - 5, "5.000000"))
         self.assertGreater(state["stale"]["at"], 0)
 
+    def test_home_from_two_places(self) -> None:
+        """Power is lost in a jog: until home is through the place isn't told as known, and one that is held amid it
+        leaves two places."""
+        page = self.page()
+        page.post("jog", {"axis": "X", "sign": 1, "rate": "600", "length": "9"})
+        page.until("it jogs", lambda state: float(state["motors"][0]) > 1)
+        self.wait_for("the record has it", lambda: self.recorded().at_nm[0] > 0)
+        self.pull()
+        self.begin()
+        page = self.page(OTHER)
+        for ends in ("hold", "home"):
+            page.until("two places are told", lambda state: state["word"] == "Two places")
+            self.assertEqual(page.post("home", {}), (200, {}))
+            state = page.until("it homes", lambda state: state["does_move"].startswith("home "))
+            self.assertEqual((state["word"], state["stale"] and state["stale"]["why"]), ("Homing", "power"))
+            if ends == "hold":
+                self.assertEqual(page.post("hold"), (200, {}))
+        state = page.until("it is homed", lambda state: state["homed"] == "XYZ" and not state["busy"])
+        self.assertEqual((state["word"], state["stale"], state["known"]), ("Idle", None, True))
+
+    def test_not_known_yet(self) -> None:
+        """Power is lost in a cut: as long as nobody said that the motors stand where the record has them, that isn't
+        told as known, though recover is under way."""
+        page = self.page()
+        self.runs(page, CUT, 0.1)
+        self.wait_for("the record has it", lambda: self.recorded().at_nm[0] > 0)
+        self.pull()
+        self.begin()
+        page = self.page(OTHER)
+        state = page.until("it is half-done", lambda state: state["half"] == "program")
+        self.assertEqual(state["stale"]["why"], "power")
+        self.assertEqual(page.post("recover"), (200, {}))
+        state = page.asked()
+        self.assertIn("Do they stand there?", state["question"]["text"])
+        self.assertEqual(state["stale"] and state["stale"]["why"], "power")
+
 
 if __name__ == "__main__":
     unittest.main()

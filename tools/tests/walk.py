@@ -37,7 +37,7 @@ BEGINS_S = 1.0
 """So soon what was asked for has begun; what moves before may be just that. Of what a page asked for before it was
 loaded anew, or another one was used, nothing else tells when it was answered."""
 WAYS = 60
-"""In so many steps a person has to get on, whatever came."""
+"""In so many steps a person has to get on, whatever came; to wait is none, unless nothing comes of it."""
 ANSWER_S = 2.0
 """So soon something has to come of a touch."""
 _DIGITS = re.compile(r"\d+(?:\.\d+)?")
@@ -80,6 +80,8 @@ _FORWARDS, _WAITS = len(_WAYS_ON) - 3, 8
 """
 _MOVING = re.compile(r"^(Run|Continue|Let go on|Tool .* (in|out)$|Yes|It is done|Go on|Recover|Home|Restore|Resume"
                      r"|Go along|Go by|Resume|[XYZ]([+\u2212]| @|$))")
+_BY_RECORD = "by the record"
+"""A yes to a question with these words says that the motors stand where the player has them."""
 _AXIS = re.compile(r"^([XYZ])([+\u2212]?)( @.*)?$")
 
 
@@ -163,7 +165,8 @@ class Walk:
             is_still = self.bench.mill.last_pulse_at() < now - 0.15
             if is_still and now - begun > 0.12 and not self._is_busy():
                 if self._is_over(now):
-                    truth.may_move, truth.ways, truth.without_lines = False, None, False
+                    truth.rest()
+                    self._homed()
                 return
             if now - begun > (0.35 if not is_still else most_s):
                 return
@@ -184,6 +187,16 @@ class Walk:
         has_begun = now > truth.touched_at + BEGINS_S + self.judge.slack_s(truth.touched_at)
         return is_answered and has_begun and self.bench.mill.pulses == truth.quiet_pulses
 
+    def _homed(self) -> None:
+        """Once all axes are homed the person knows where the machine is, whatever was told before."""
+        seen, truth = self.seen, self.truth
+        if truth.homes_at is None or seen is None:
+            return
+        said = [says for _, says in seen.log[:max(0, seen.logs - truth.homes_at)]]
+        if any(says.endswith("homed: X Y Z") for says in said):
+            truth.offset, truth.is_place_known = (0.0, 0.0, 0.0), True
+        truth.homes_at = None
+
     def press(self, button: int, text: str) -> bool:
         """Presses a button, and sees that something comes of it; False where it isn't there any more."""
         before = self.tabs.see()
@@ -201,7 +214,7 @@ class Walk:
             self._confirms(before, button)
         if not before.buttons[button]["chosen"]:
             self._answered(text, before.buttons[button]["says"], before)
-        self._told_place(self.tabs.posts(before.posts))
+        self._told_place(self.tabs.posts(before.posts), before)
         return True
 
     def _stops(self) -> None:
@@ -226,18 +239,21 @@ class Walk:
         if off_mm > said_mm + 0.01:
             raise Wrong("confirmed further off", f"{'XYZ'[axis]} is {off_mm:.3f} mm off, told is {said_mm}")
 
-    def _told_place(self, posts: list[dict]) -> None:
+    def _told_place(self, posts: list[dict], before: Seen) -> None:
         """Where the person told that the machine stands: what is shown is off by as much from then on."""
         truth, at_mm = self.truth, self.bench.mill.at_mm
+        counted = dict(zip("XYZ", map(number, before.motors)))
+        is_asked = _BY_RECORD in (before.question or {}).get("text", "").lower()
         for post in posts:
-            tells = post["what"] in ("reference", "recover", "stands")
-            at = json.loads(post["body"] or "{}").get("at") if tells else {}
-            if at == "player":
-                at = dict(zip("XYZ", map(number, self.seen.motors)))
+            body = json.loads(post["body"] or "{}")
+            at = body.get("at") if post["what"] in ("reference", "recover", "stands") else None
+            if at == "player" or post["what"] == "answer" and body.get("yes") and is_asked:
+                at = counted
             if isinstance(at, list):
                 at = dict(zip("XYZ", at))
             if isinstance(at, dict) and at:
-                told = [float(at[axis]) - at_mm["XYZ".index(axis)] if axis in at else truth.offset["XYZ".index(axis)]
+                were = truth.offset or (0.0, 0.0, 0.0)
+                told = [float(at[axis]) - at_mm["XYZ".index(axis)] if axis in at else were["XYZ".index(axis)]
                         for axis in "XYZ"]
                 truth.offset, truth.is_place_known, truth.is_zero_asked = (told[0], told[1], told[2]), True, True
 
@@ -291,14 +307,14 @@ class Walk:
         was_quiet, axis = not truth.may_move, _AXIS.match(text)
         truth.may_move = True
         if axis:
-            ways = {"+": "+", "\u2212": "-", "": "+-"}[axis[2]]
-            truth.ways = {f"{axis[1]}{way}" for way in ways} if was_quiet else truth.ways
+            ways = {f"{axis[1]}{way}" for way in {"+": "+", "\u2212": "-", "": "+-"}[axis[2]]}
+            truth.ways = ways if was_quiet else truth.ways and truth.ways | ways
             truth.without_lines = True
             return
         truth.ways, truth.is_zero_asked = None, True
         truth.without_lines = text.startswith("Home")
         if text.startswith("Home"):
-            truth.offset, truth.is_place_known = (0.0, 0.0, 0.0), True
+            truth.homes_at, truth.offset = seen.logs, None if any(truth.offset or (1,)) else truth.offset
 
     def _zero_asked(self, text: str) -> None:
         if re.match(r"Set|Undo|Tool \d+ stands|Add|Load|Give up|Yes, give|Drop", text):
@@ -489,9 +505,19 @@ class Walk:
         if what == "player" and not self.bench.has_player():
             self.bench.start_player()
         elif what == "server" and not self.bench.has_server() and self.bench.has_player():
-            self.bench.start_server()
+            self._start_server()
             self._until(lambda s: not s.isLost and s.session != self.chosen_in, PATIENCE_S)
             self._chosen_again()
+
+    def _start_server(self) -> None:
+        """Starts the page's server, and the player again, where that was alone for so long that it has ended."""
+        try:
+            self.bench.start_server()
+        except AssertionError:
+            if self.bench.has_player():
+                raise
+            self.bench.start_player()
+            self.bench.start_server()
 
     def _chosen_again(self) -> None:
         """For a job that goes on what was chosen is in force again, or is named; for one that begins nothing is."""
@@ -511,13 +537,15 @@ class Walk:
         takes a program. Raises Wrong."""
         for step in (("door", "shuts"), ("stop", "freed"), ("start", "player"), ("start", "server")):
             self.do(step)
-        until = time.monotonic() + PATIENCE_S
-        for _ in range(WAYS):
+        until, ways = time.monotonic() + 2 * PATIENCE_S, 0
+        while ways < WAYS:
             self._until(lambda seen: "\u2026" not in seen.sheet, until - time.monotonic())  # `ngc` is at work on it
             seen = self.seen
             if any(one["id"] == "load" for one in seen.buttons) and not seen.sheet:
                 return
-            self.do(self._way_on(seen))
+            step = self._way_on(seen)
+            self.do(step)
+            ways += step[0] != "wait" or time.monotonic() > until
         raise Wrong("no way on", f"{self.seen.word}: {self.seen.detail}; enabled are"
                                  f" {[one['text'] for one in self.seen.buttons]}")
 

@@ -3,7 +3,8 @@
 A touch goes from the browser through the page, the server's thread and the session's to the player, and what it changes
 comes back the same way: each is woken, works for some milliseconds, and wakes the next one. So does a token here, again
 and again, through a chain of as many processes. Alone on a processor they take the time of their work; the rest is how
-late they were. Run as a program it is that chain: it writes when each round began and ended, by the monotonic clock."""
+late they were. Run as a program it is that chain: it writes when each round is to begin, and when it ended, by the
+monotonic clock."""
 import os
 import struct
 import subprocess
@@ -23,12 +24,13 @@ _MOMENT = struct.Struct("=d")
 
 
 class Lateness:
-    """What the chain tells."""
+    """What the chain tells: `rounds` are its latest, each from when to when. `pid` is its first process."""
 
     def __init__(self) -> None:
         words = [sys.executable, __file__]
         self._chain = subprocess.Popen(words, stdin=subprocess.DEVNULL, stdout=subprocess.PIPE, bufsize=0)
-        self._rounds: deque[tuple[float, float]] = deque([(0.0, 0.0)], maxlen=2000)
+        self.pid = self._chain.pid
+        self.rounds: deque[tuple[float, float]] = deque(maxlen=2000)
         self._begun = 0.0  # of the round that is under way
         self._thread = threading.Thread(target=self._read, daemon=True)
         self._thread.start()
@@ -37,14 +39,14 @@ class Lateness:
         while begun := self._chain.stdout.read(_MOMENT.size):
             self._begun = _MOMENT.unpack(begun)[0]
             if ended := self._chain.stdout.read(_MOMENT.size):
-                self._rounds.append((self._begun, _MOMENT.unpack(ended)[0]))
+                self.rounds.append((self._begun, _MOMENT.unpack(ended)[0]))
                 self._begun = 0.0
 
     def slack_s(self, since: float) -> float:
         """How much later than on a quiet machine something may be that began at a moment of the monotonic clock."""
         now, begun = time.monotonic(), self._begun
-        took = [ended - begin for begin, ended in list(self._rounds) if ended >= since - KEPT_S]
-        worst = max([*took, now - begun if begun else 0.0], default=0.0)
+        took = [ended - begin for begin, ended in list(self.rounds) if ended >= since - KEPT_S]
+        worst = max([*took, now - begun if begun else 0.0])
         return TIMES * max(0.0, worst - HOPS * WORK_S)
 
     def close(self) -> None:
@@ -82,11 +84,11 @@ def chain() -> None:
         os.close(given)
         wanted = following
     while True:
-        os.write(1, _MOMENT.pack(time.monotonic()))
+        os.write(1, _MOMENT.pack(time.monotonic() + APART_S))
+        time.sleep(APART_S)
         os.write(first, b".")
         os.read(wanted, 1)
         os.write(1, _MOMENT.pack(time.monotonic()))
-        time.sleep(APART_S)
 
 
 if __name__ == "__main__":

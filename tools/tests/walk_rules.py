@@ -13,6 +13,10 @@ FRESH_S = 0.8
 """What a state says may be so much older than when it was told."""
 SILENT_S = 3.5
 """A page that has heard nothing for so long says so, and shows no older state as if it were new."""
+CLOCKS_S = 0.1
+"""Clocks that are set by others differ by less."""
+ROUNDED_S = 0.6
+"""An age is told in tenths of seconds, of a minute and more in seconds."""
 HOLD_S = 0.1
 REST_S = 2.0
 """So long a page may say that the machine moves while it rests."""
@@ -54,7 +58,7 @@ class Truth:
 
     tool: int | None = 0
     tool_told_at: float = 0.0
-    offset: Point = (0.0, 0.0, 0.0)
+    offset: Point | None = (0.0, 0.0, 0.0)  # None as long as home is under way, since it changes axis by axis
     is_place_known: bool = True
     may_move: bool = False
     ways: set[str] | None = None  # the axes that may move, as X+; None for all
@@ -64,6 +68,14 @@ class Truth:
     touched_at: float = 0.0
     is_recovering: bool = False
     quiet_pulses: int = 0
+    homes_at: int | None = None  # how many entries Log had as home was asked for last
+
+    def rest(self) -> None:
+        """What was asked for is over: from now on nothing moves. Where another zero was asked for, the one that is
+        shown now is it."""
+        self.may_move, self.ways, self.without_lines = False, None, False
+        self.zero = None if self.is_zero_asked else self.zero
+        self.is_zero_asked = False
 
 
 class Judge:
@@ -74,6 +86,8 @@ class Judge:
         self.checked: dict[str, int] = {}
         self._runs_at_rest_since = 0.0
         self._rests_in_motion_since = 0.0
+        self._old_since = 0.0
+        self._wall_s = min(_clocks() for _ in range(5))[1]
 
     def _count(self, name: str) -> None:
         self.checked[name] = self.checked.get(name, 0) + 1
@@ -88,9 +102,11 @@ class Judge:
         if seen.isLost:
             return
         now = time.monotonic()
-        told, slack_s = seen.now - time.time() + now, self.slack_s(now)
+        told, slack_s = seen.now - self._wall_s, self.slack_s(now)
         if now - told > SILENT_S + slack_s:
-            raise Wrong("an old page", f"{seen.word}: {seen.detail}; that was told {now - told:.1f} s ago")
+            self._is_old(seen, now, told, slack_s)
+            return
+        self._old_since = 0.0
         since = told - FRESH_S - slack_s
         is_still = self.bench.mill.last_pulse_at() < since
         self.says_rest(seen, now, is_still)
@@ -103,6 +119,12 @@ class Judge:
             self.tool(seen)
         self.looks(seen)
         self.words(seen, is_still)
+
+    def _is_old(self, seen: Seen, now: float, told: float, slack_s: float) -> None:
+        """A page that hears nothing says so. It may have been looked at before it was woken."""
+        self._old_since = self._old_since or now
+        if now - self._old_since > 1 + slack_s:
+            raise Wrong("an old page", f"{seen.word}: {seen.detail}; that was told {now - told:.1f} s ago")
 
     # what moves
 
@@ -143,21 +165,20 @@ class Judge:
         """The machine's place is one where it was just now, or as long ago as is said; one by the record is off by as
         much as is said beside it. What somebody told wrong is off by that."""
         shown, unit = self._shown(seen), seen.units[0]
-        if shown is None:
+        if shown is None or self.truth.offset is None:
             return
-        wanted, mill = _difference(shown, self.truth.offset), self.bench.mill
-        if seen.blind and seen.risk.startswith("By the record"):
-            off_mm = max(abs(p - q) for p, q in zip(wanted, mill.at_mm))
-            is_so = off_mm <= float(seen.past or 0) + NEAR_MM[unit]
-        elif seen.blind and not seen.risk.startswith("As counted"):
+        wanted = _difference(shown, self.truth.offset)
+        if seen.blind and seen.past and seen.risk.startswith("By the record"):
+            is_so = self._was_at(wanted, unit, since, told, float(seen.past))
+        elif seen.blind and seen.risk.startswith("Last known"):
             ago_s = _seconds(seen.risk)
-            is_so = ago_s is None or self._was_at(wanted, unit, since - ago_s, told - ago_s + 1)
+            is_so = ago_s is None or self._was_at(wanted, unit, since - ago_s, told - ago_s + ROUNDED_S)
         else:
-            is_so = not self._is_known(seen) or self._was_at(wanted, unit, since, told + 1)
+            is_so = not self._is_known(seen) or self._was_at(wanted, unit, since, told)
         self._count("place")
         if not is_so:
             raise Wrong("place", f"{seen.word}: shown is {shown}, told wrong by {self.truth.offset}; the machine is at"
-                                 f" {mill.at_mm}; it says {seen.risk!r}, {seen.past!r}")
+                                 f" {self.bench.mill.at_mm}; it says {seen.risk!r}, {seen.past!r}")
 
     def _is_known(self, seen: Seen) -> bool:
         """Whether the person knows where the machine is, or the page says that it does. Of a machine whose player was
@@ -176,8 +197,8 @@ class Judge:
         unit = seen.units[0]
         return _scaled(point(seen.motors), unit), _scaled(point(seen.work), unit)
 
-    def _was_at(self, wanted: Point, unit: str, begin: float, end: float) -> bool:
-        return any(_is_near(wanted, at, unit) for at in self.bench.mill.places(begin, end))
+    def _was_at(self, wanted: Point, unit: str, begin: float, end: float, off_mm: float = 0.0) -> bool:
+        return any(_is_near(wanted, at, unit, off_mm) for at in self.bench.mill.places(begin, end + CLOCKS_S))
 
     def zero(self, seen: Seen) -> None:
         """What lies between machine and work stays at rest, where nobody asked for another zero."""
@@ -189,7 +210,6 @@ class Judge:
         if not truth.is_zero_asked and not is_same and not seen.busy:
             raise Wrong("work zero", f"it was {truth.zero}, and is {zero}: nobody asked for that")
         truth.zero = zero
-        truth.is_zero_asked = truth.is_zero_asked and bool(seen.busy)
 
     def outputs(self, seen: Seen, now: Outputs) -> None:
         """Spindle and coolant as the pins have them, or said not to be known."""
@@ -234,6 +254,8 @@ class Judge:
             raise Wrong("done while it runs", f"{seen.word}: {seen.detail}")
         if self.truth.without_lines and seen.runs and not is_still and re.search(r"\bline \d", seen.detail):
             raise Wrong("says lines run", f"{seen.word}: {seen.detail}; what moves is no line of the program")
+        if is_still and not seen.runs and number(seen.feed) and not seen.feed.endswith("set"):
+            raise Wrong("a feed at rest", f"{seen.word}: {seen.detail}; shown is {seen.feed!r}")
         if not all(unit in _UNITS for unit in seen.units):
             raise Wrong("no unit", f"the place has no unit: {seen.place!r}")
 
@@ -263,6 +285,12 @@ class Judge:
             raise Wrong("hold too far", f"{way_mm:.3f} mm at {rate:.1f} mm/s")
 
 
+def _clocks() -> tuple[float, float]:
+    """How long it took to read both clocks, and what that of the wall is ahead of the monotonic one, in s."""
+    begun, wall, ended = time.monotonic(), time.time(), time.monotonic()
+    return ended - begun, wall - (begun + ended) / 2
+
+
 def _seconds(text: str) -> float | None:
     """How long ago something was, as the page says it: `12.3 s ago`, `2:05 min ago`; None where it says nothing."""
     match = re.search(r"(?:(\d+):)?(?:(\d+):)?(\d+(?:\.\d+)?) (?:s|min|h) ago", text)
@@ -286,8 +314,8 @@ def _scaled(at: Point | None, unit: str) -> Point | None:
     return at and (at[0] * factor, at[1] * factor, at[2] * factor)
 
 
-def _is_near(a: Point, b: Point, unit: str) -> bool:
-    return max(abs(p - q) for p, q in zip(a, b)) < NEAR_MM.get(unit, NEAR_MM["mm"])
+def _is_near(a: Point, b: Point, unit: str, off_mm: float = 0.0) -> bool:
+    return max(abs(p - q) for p, q in zip(a, b)) < off_mm + NEAR_MM.get(unit, NEAR_MM["mm"])
 
 
 def changes(before: Seen, after: Seen) -> Iterator[str]:

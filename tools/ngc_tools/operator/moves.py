@@ -16,6 +16,7 @@ from ngc_tools.operator.modes import trimmed
 from ngc_tools.operator.motors import Motors
 from ngc_tools.operator.next_session import NextSession
 from ngc_tools.operator.numbers import length_of, nanometres_of
+from ngc_tools.operator.places import is_same_place
 from ngc_tools.operator.session import ALARM, BROKEN, Session
 from ngc_tools.player.progress import Link, MoveReport, NoAnswer, Report
 
@@ -37,6 +38,8 @@ _FORMS = {
 _NOT_KNOWN = "home, jog and seek are of tools/player with -m"
 _ANEW = ("what the player had in hand in the alarm is never carried out: another session begins, and goes on as after a"
          " loss of power")
+_UNSURE = ("ngc isn't told where the machine is, since it wasn't known before, and not each axis is homed: reference"
+           " player, or reference X Y Z")
 _LATER = "ngc isn't told where the machine is, since {half} is under way: stop ends it"
 
 MoveAnswer = tuple[int, str]
@@ -124,7 +127,7 @@ class Moves:
 
     def _go(self, name: str, begin: Callable[[Link], MoveAnswer], keep: Callable[[int], None] | None = None) -> None:
         """Makes a move, and says how it ended. `keep` is called with its number as long as it goes."""
-        self.touched = None
+        self.touched, is_sure = None, self._is_sure()
         try:
             number, why = begin(self.session.meter.link)
             if why:
@@ -138,7 +141,13 @@ class Moves:
             self.session.face.live(None)
         if keep is None or machine.how not in USUAL:
             self._say(name, machine)
-        self.tell()
+        self.tell(is_sure or machine.homed == "XYZ")
+
+    def _is_sure(self) -> bool:
+        """Whether `ngc` knows where the machine is, and the player counts it there."""
+        status, report = self.session.console.status(), self.session.report()
+        return (status.known and report is not None and report.word not in (ALARM, BROKEN)
+                and is_same_place(self.session.settings, report.at.split(), status.at))
 
     def say_silent(self, error: NoAnswer) -> None:
         """Says that the player doesn't answer, or is gone."""
@@ -202,8 +211,8 @@ class Moves:
         except NoAnswer as error:
             self.session.face.say(str(error), WARNING)
 
-    def tell(self) -> None:
-        """Tells `ngc` where the machine is now."""
+    def tell(self, is_sure: bool = True) -> None:
+        """Tells `ngc` where the machine is now; where no half-done block asks for that, only if it is sure."""
         session = self.session
         report, status = session.report(), session.console.status()
         if report is None:
@@ -216,6 +225,10 @@ class Moves:
             return
         if status.does not in ("idle", "stopped"):
             session.face.say(_LATER.format(half=session.half(status)), WARNING)
+            return
+        if status.half == "none" and not is_sure:
+            session.face.say(_UNSURE, WARNING)
+            Look(session).after_work()
             return
         if status.half == "none":
             self.left.keep()

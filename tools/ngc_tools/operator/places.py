@@ -2,6 +2,7 @@
 import re
 
 from ngc_tools.formats.position import Position
+from ngc_tools.formats.settings import Settings
 from ngc_tools.job.figures import millimetres as rounded
 from ngc_tools.job.moves import distance
 from ngc_tools.ngc.console import Status
@@ -20,6 +21,12 @@ _STOPS = re.compile(r"(?:N\d{1,5})?(?:M0*[59])+", re.IGNORECASE)
 def stops_outputs(line: str) -> bool:
     """Whether a line has M5 and M9 alone, which stop spindle and coolant and move nothing."""
     return _STOPS.fullmatch("".join(line.split())) is not None
+
+
+def is_same_place(settings: Settings, one: list[str] | tuple[str, ...], two: list[str] | tuple[str, ...]) -> bool:
+    """Whether two points are the same place, in whole steps."""
+    places = [Position(settings.step_nm, [nanometres_of(number) or 0 for number in at]).steps for at in (one, two)]
+    return places[0] == places[1]
 
 
 class Places:
@@ -110,9 +117,7 @@ class Places:
 
     def _same(self, one: list[str] | tuple[str, ...], two: list[str] | tuple[str, ...]) -> bool:
         """Whether both are the same place, in whole steps."""
-        places = [Position(self.session.settings.step_nm, [nanometres_of(number) or 0 for number in at]).steps
-                  for at in (one, two)]
-        return places[0] == places[1]
+        return is_same_place(self.session.settings, one, two)
 
     def _tell_player(self) -> None:
         """Tells the player where the machine stands, as `ngc` took it."""

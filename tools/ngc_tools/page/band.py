@@ -24,6 +24,7 @@ _MOVES = {"home": "Homing", "jog": "Jogging", "seek": "Seeking"}
 _SEEKS = "until the probe is touched"
 _TYPED = ("mdi", "restore")
 """The commands that do lines of one's own: before one has begun, and after it, no line of the program runs."""
+_STARTS = "ngc looks at the program first; nothing moves yet"
 _APART = "The motors aren't where the last line ended: tell which of the two is so, or home"
 
 
@@ -97,11 +98,17 @@ class Standing:
             return None
         if self.held_by not in ("", "here"):
             return "Held", "hold", self._held_by()
+        if command.word == "run" and session.face.last is None and not self._is_in_hand():
+            return "Starting", "idle", _STARTS
         if session.under and session.under.word in ("resume", "recover") and not session.face.has_looked:
             return "On the way", "run", "To where the line was cut off. Hold stops it"
         waits = ": the spindle isn't at its speed yet" if self.report and self.report.word == WAITS_SPINDLE else ""
         line = session.operator.session.own or ("" if command.word in _TYPED else self.here)
         return "Running", "run", line + waits
+
+    def _is_in_hand(self) -> bool:
+        """Whether the motors have lines to carry out."""
+        return self.report is not None and self.report.behind > 0
 
     def _held_by(self) -> str:
         """What holds the motors that nobody told to hold from here."""

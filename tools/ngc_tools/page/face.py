@@ -57,6 +57,7 @@ class PageFace:
         self.version = 0
         self.log: deque[Entry] = deque(maxlen=ENTRIES)
         self.view: UnderWay | None = None
+        self.last: UnderWay | None = None  # what was under way last, since the command began
         self.report: Report | None = None
         self.reported_at = 0.0  # when that came, in seconds since 1970
         self.message = ""  # of the program, since it was started or went on
@@ -99,6 +100,7 @@ class PageFace:
     def live(self, view: UnderWay | None) -> None:
         """Takes what is under way."""
         before, self.view = self.view, view
+        self.last = view or self.last
         self._publish_sometimes(view is None or before is None or before.status.does != view.status.does)
 
     def moved(self, report: Report) -> None:
@@ -200,7 +202,7 @@ class PageFace:
     def begin(self, heeded: int) -> None:
         """A command begins; whoever gave it had seen so many wishes to hold."""
         self.level.begin(heeded)
-        self.refusal, self.has_looked = "", False
+        self.refusal, self.has_looked, self.last = "", False, None
         self._said.clear()
 
     def last_id(self) -> int:

@@ -116,6 +116,7 @@ class PageSession:
         self.past, self.past_mm, self.past_at = "", "", ""
         self.started = 0.0  # when the program was started in this session, in seconds since 1970
         self.is_finished = False  # it ran to its end, and nothing was begun since
+        self.is_beginning = False  # another session begins: what a player says meanwhile is by its record
         self._word = ""  # of the player's report at rest
         self.held_from = ""  # the page that held last, or LOST, since something was begun
         self._next: SessionCommand | None = None
@@ -382,10 +383,18 @@ class PageSession:
         self._thread.join()
         with self._restarts:
             if self.ended:
-                self.opened.close()
-                self._begin()
+                self._begin_again()
                 self.start()
         self.face.publish()
+
+    def _begin_again(self) -> None:
+        """Begins another session, where one has ended."""
+        self.opened.close()
+        self.is_beginning = True
+        try:
+            self._begin()
+        finally:
+            self.is_beginning = False
 
     def quit(self) -> None:
         """Ends the session, once a person agrees to what that leaves. Raises Busy."""
@@ -487,7 +496,9 @@ class PageSession:
         ran = command.word in ("run", "resume", "recover") and (before.place or before.half == "program"
                                                                 or before.entries != status.entries)
         at_start = status.does == "idle" and status.half == "none" and not status.place
-        self.is_finished = bool(ran and at_start and not self.face.refusal)
+        seen = self.operator.session.seen
+        is_through = seen is None or not seen.behind  # nor were the motors held before its end
+        self.is_finished = bool(ran and at_start and is_through and not self.face.refusal)
 
     def _quit(self) -> None:
         """The end that a person wanted."""

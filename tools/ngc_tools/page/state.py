@@ -20,6 +20,10 @@ from ngc_tools.player.progress import MoveReport, Report
 LOOKED_AT = 3
 """So many things are looked at before anything moves."""
 _IN_MODES = ("unit", "distance", "plane", "system", "feed_mode", "motion")
+_LINES = ("run", "resume", "recover")
+"""The commands that run to the program's end."""
+_CONFIRMED = ("recover", "resume", "release")
+"""What goes from where somebody has told that the motors stand."""
 HERE = "here"
 """What holds the motors, where that was one of the pages."""
 
@@ -31,6 +35,8 @@ class Pictured:
         self.session, self.face, self.page = session, session.face, page
         self.operator, self.stand = session.operator, session.stand
         self.command, view = session.under, session.face.view
+        if view is None and session.face.question is None:
+            view = session.face.last  # until the command is over; then `stand` has what came of it
         self.status: Status = view.status if view and self.command else self.stand.status
         self.report: Report | None = self.face.report
         self.device: Device = session.kept.at(self.status, self.command is not None)
@@ -43,8 +49,18 @@ class Pictured:
 
     @property
     def number(self) -> int:
-        """The line under way, from 1: of a player that waits for a tool that of the change."""
-        return self.program.number(self.status.place) if self._change is None else self._change
+        """The line under way, from 1: of a player that waits for a tool that of the change. Once all is handed out
+        `ngc` is at the first line again: then it is the last one, until nothing is under way."""
+        if self._change is not None:
+            return self._change
+        status, runs = self.status, self.command is not None and self.command.word in _LINES
+        is_through = status.half == "none" and not status.place and status.entries != self.stand.status.entries
+        return self.program.count if runs and is_through else self.program.number(status.place)
+
+    @property
+    def is_finished(self) -> bool:
+        """Whether the program ran to its end, and nothing is under way any more."""
+        return self.session.is_finished and self.command is None
 
     @property
     def _change(self) -> int | None:
@@ -192,8 +208,11 @@ class Pictured:
     def _apart(self) -> list[bool]:
         """Of each axis whether the motors rest at another place than where `ngc` takes them to be, by a step or more.
         """
-        report, status = self.report, self.status
-        if report is None or report.behind or not status.known or self.command or self.stand.gone:
+        return [False] * 3 if self.command else self._apart_of(self.status, self.report)
+
+    def _apart_of(self, status: Status, report: Report | None) -> list[bool]:
+        """The same, of what was told."""
+        if report is None or report.behind or not status.known or self.stand.gone:
             return [False] * 3
         steps = [Position(self.session.settings.step_nm, list(map(nanometres, at))).steps
                  for at in (report.at.split(), status.at)]
@@ -221,19 +240,28 @@ class Pictured:
     def _stale(self) -> dict | None:
         """Why the place isn't known any more that is shown, and when it was, in seconds since 1970, if that is known;
         None where it is the machine's."""
-        if self.stand.gone or self.session.ended:
-            return {"why": "player", "at": self.face.reported_at}
         if self.report and self.report.word == ALARM:
             return {"why": "alarm", "at": 0}
-        is_lost = self.command is None and self.status.does == "idle" and (not self.status.known or self._has_left)
-        return {"why": "power", "at": self.session.opened.left_at} if is_lost else None
+        if self._is_lost or self.session.is_beginning:
+            return {"why": "power", "at": self.session.opened.left_at}
+        is_gone = self.stand.gone or self.session.ended  # what wasn't known before isn't "known last" by that
+        return {"why": "player", "at": self.face.reported_at} if is_gone else None
+
+    @property
+    def _is_lost(self) -> bool:
+        """Whether nobody knows where the machine is: until somebody tells, and it goes from there, or it is homed."""
+        command, report = self.command.word if self.command else "", self.report
+        if self.status.does != "idle" or command in _CONFIRMED and report and report.at != self.session.past_at:
+            return False
+        is_apart = command in WITHOUT_LINES and any(self._apart_of(self.stand.status, self.stand.report))
+        return not self.status.known or self._has_left or is_apart
 
     def _session(self) -> dict:
         session, setter_nm = self.session, self.operator.touch.setter_nm
         return {"session": session.ident, "ended": session.ended, "over": session.over.is_set(),
                 "program": {"id": session.program_id, "name": session.name, "lines": self.program.count},
                 "job": session.drawer.count + session.never_cut.count,
-                "finished": session.is_finished, "started": session.started,
+                "finished": self.is_finished, "started": session.started,
                 "given_back": self.operator.choices.given, "not_given_back": self.operator.choices.lost,
                 "left_at": session.opened.left_at, "broken": self.stand.is_broken, "undo": self.operator.touch.undoes,
                 "setter": None if setter_nm is None else millimetres(setter_nm),

@@ -68,7 +68,8 @@ function show(s) {
   showControls(s);
   const reached = progress(s);
   readout.show(s, rate(s, reached));
-  program.follow(s.line, s.half === 'program' || s.busy && PROGRAM.includes(s.command?.word), s.finished);
+  const isOfProgram = s.half === 'program' || s.half === 'none' && s.busy && PROGRAM.includes(s.command?.word);
+  program.follow(s.line, isOfProgram, s.finished);
   setup.show(s, app.isIdle && !s.apart.some(Boolean));
   tools.show(s, app.isIdle, asks);
   log.show(s.log, noticed(s));
@@ -218,7 +219,7 @@ function showTimes(s, done, share) {
 
 // How fast the motors go, by the step that they are on.
 function rate(s, { step }) {
-  if (!app.job || step < 0 || !s.busy || s.half === 'none' || s.held_motors || s.does_move) return null;
+  if (!app.job || step < 0 || s.tone !== 'run' || s.half === 'none' || s.does_move) return null;
   const mean = app.job.rate(step) * (s.percent ?? 100) / 100;
   return mean ? { feed: mean, isTraverse: app.job.kind[step] === TRAVERSE } : null;
 }

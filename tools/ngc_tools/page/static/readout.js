@@ -87,7 +87,7 @@ export class Readout {
     else fill(gauges.Feed, s.feed ? feed(s.feed) : '\u2013', s.feed ? `${each} set` : '', true);
     fill(gauges.Tool, s.slot ? `T${s.slot}` : 'none', s.slot && length ? `${this.length(length)} ${this.unit}` : '',
       !s.slot);
-    if (s.player_gone) {
+    if (s.player_gone || s.ended) { // nobody asks the player any more
       fill(gauges.Spindle, 'not known', '', true);
       fill(gauges.Coolant, 'not known', '', true);
       return;
