@@ -23,6 +23,7 @@ from typing import Any
 from ngc_tools.failure import Failure
 from ngc_tools.files import cause
 from ngc_tools.formats.device import MOST_LARGE_PROGRAM
+from ngc_tools.formats.text import shown, shown_lines
 from ngc_tools.page import websocket
 from ngc_tools.page.aside import Wanted
 from ngc_tools.page.deeds import DEEDS, WAITING, BadWords, Given, cam_answers, keep_checked
@@ -182,7 +183,7 @@ class Server:
     def program(self) -> bytes:
         """The program that is stored."""
         session = self.session
-        text = session.operator.session.program.text.decode("utf-8", "replace")
+        text = shown_lines(session.operator.session.program.text)
         return _json({"id": session.program_id, "name": session.name, "text": text})
 
     def job(self) -> bytes:
@@ -449,6 +450,5 @@ def _json(what: dict) -> bytes:
 
 
 def _name(header: str) -> str:
-    """The name of an upload, for people: no path, and nothing that isn't printable."""
-    name = urllib.parse.unquote(header).replace("\\", "/").rpartition("/")[2]
-    return "".join(sign if sign.isprintable() else "\ufffd" for sign in name)[:80] or "a program"
+    """The name of an upload, for people: no path, and what isn't printable as its escapes."""
+    return shown(urllib.parse.unquote(header).replace("\\", "/").rpartition("/")[2])[:80] or "a program"
