@@ -100,9 +100,7 @@ class Served(unittest.TestCase):
 
     def line(self, name: str = PAGE) -> "Line":
         """The line of a page."""
-        upgrade = (f"Upgrade: websocket\r\nConnection: Upgrade\r\nSec-WebSocket-Version: 13\r\nSec-WebSocket-Key: "
-                   f"{base64.b64encode(bytes(16)).decode()}\r\n")
-        return Line(self.connect(self.head(f"line?page={name}", upgrade, "GET", name)))
+        return Line(self.connect(upgrade(self.server.port, KEY, name)))
 
     def wait_for(self, what: str, holds: object) -> None:
         """Waits until something holds."""
@@ -110,6 +108,13 @@ class Served(unittest.TestCase):
         while not holds():
             self.assertLess(time.monotonic(), until, what)
             time.sleep(0.005)
+
+
+def upgrade(port: int, key: str, name: str) -> str:
+    """What a page asks for its line by."""
+    return (f"GET /{key}/line?page={name} HTTP/1.1\r\nHost: 127.0.0.1:{port}\r\nOrigin: http://127.0.0.1:{port}\r\n"
+            "Upgrade: websocket\r\nConnection: Upgrade\r\nSec-WebSocket-Version: 13\r\nSec-WebSocket-Key: "
+            f"{base64.b64encode(bytes(16)).decode()}\r\n\r\n")
 
 
 class Line:

@@ -23,7 +23,7 @@ from typing import Any, BinaryIO
 from ngc_tools import scratch
 from ngc_tools.failure import Failure
 
-MOST_MEMORY = 1 << 30
+MOST_MEMORY = 1 << 31
 """Bytes of memory that a child may take, and each process that it starts."""
 MOST_CPU_S = 300
 """Seconds of processor time of a child, with those of what it starts."""

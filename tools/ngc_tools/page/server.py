@@ -37,11 +37,10 @@ MOST_CONNECTIONS = 64
 _KINDS = {".html": "text/html; charset=utf-8", ".css": "text/css; charset=utf-8", ".svg": "image/svg+xml",
           ".js": "text/javascript; charset=utf-8", ".png": "image/png", ".woff2": "font/woff2"}
 _JSON = "application/json"
-_POLICY = ("default-src 'none'; script-src 'self'; style-src 'self'; connect-src 'self'; font-src 'self';"
+_POLICY = ("default-src 'none'; script-src 'self'; style-src 'self'; connect-src 'self' {lines}; font-src 'self';"
            " img-src 'self' data:; base-uri 'none'; form-action 'none'; frame-ancestors 'none'")
 _HEADERS = {"Cache-Control": "no-store", "Referrer-Policy": "no-referrer", "X-Content-Type-Options": "nosniff",
-            "Content-Security-Policy": _POLICY, "Cross-Origin-Opener-Policy": "same-origin",
-            "Cross-Origin-Resource-Policy": "same-origin"}
+            "Cross-Origin-Opener-Policy": "same-origin", "Cross-Origin-Resource-Policy": "same-origin"}
 _UPLOADS = ("check", "draw")
 """What is asked with a program as it is."""
 _AT_ANY_AGE = ("hold", "stop", "jogstop")
@@ -85,6 +84,8 @@ class Server:
         listening.setsockopt(socket.SOL_SOCKET, socket.SO_SNDBUF, _UNSENT)
         self._origins |= {f"http://{name}:{self.port}" for name in (host, "127.0.0.1", "localhost")}
         self._names = {origin.partition("://")[2] for origin in self._origins}
+        lines = " ".join(sorted(origin.replace("http", "ws", 1) for origin in self._origins))
+        self.headers = _HEADERS | {"Content-Security-Policy": _POLICY.format(lines=lines)}
         self._loop.set_exception_handler(lambda _, context: tell_bug(context.get("exception")))
         self._thread.start()
         self._call(asyncio.start_server(self._connected, sock=listening, limit=MOST_HEAD))
@@ -226,9 +227,6 @@ class Server:
             return {}
         if name == "checking":
             return {"told": self.session.checking(page)}
-        if name == "uncheck":
-            self.session.end_check(page)
-            return {}
         if page != self.pages.commands:
             raise RequestRefused(HTTPStatus.FORBIDDEN, "another page commands: take over first")
         if name not in DEEDS:
@@ -401,7 +399,7 @@ class _Connection:
         try:
             self.writer.get_extra_info("socket").setsockopt(socket.IPPROTO_TCP, socket.TCP_USER_TIMEOUT,
                                                             int(1000 * LOST_S))
-            self.writer.write(head_of(HTTPStatus.OK, _HEADERS, "text/event-stream", None) + _AGAIN)
+            self.writer.write(head_of(HTTPStatus.OK, self.server.headers, "text/event-stream", None) + _AGAIN)
             await self._tell(page)
         finally:
             self.server.pages.went(page)
@@ -426,7 +424,7 @@ class _Connection:
 
     async def _send(self, status: HTTPStatus, content: bytes, kind: str, more: dict[str, str] | None = None) -> None:
         """Sends an answer. Raises TimeoutError for one that isn't taken."""
-        self.writer.write(head_of(status, _HEADERS | (more or {}), kind, len(content)) + content)
+        self.writer.write(head_of(status, self.server.headers | (more or {}), kind, len(content)) + content)
         async with asyncio.timeout(_REQUEST_S):
             await self.writer.drain()
 
