@@ -173,6 +173,9 @@ class Lines(Served):
             line.say(text, kind)
             self.assertEqual(line.hear(), "", (kind, text))
         line = self.line()
+        line.say("beat now")
+        self.assertEqual(line.hear(), "")
+        line = self.line()
         line.link.sendall(struct.pack(">BBQ", 0x81, 0xFF, 1 << 40))
         self.assertEqual((line.hear(), self.session.held), ("", []))
 
@@ -233,7 +236,7 @@ class Floods(Served):
         for link in links:
             link.close()
         self.assertTrue(self.session.works.wait(PATIENCE_S))
-        self.wait_for("all end", lambda: self.session.ended.count("check") >= 4)
+        self.wait_for("all end", lambda: self.session.ended.count("check") >= 2)
 
     def test_streams(self) -> None:
         """Streams that nobody reads; each page but those four is refused, and the one that was there stays."""
@@ -334,6 +337,10 @@ class Children(InFolder):
             with mock.patch.dict(os.environ, {"PYTHONPATH": path} if path else {}):
                 self.assertEqual(self.aside.call(divmod, 7, 2), (3, 1))
         self.assertFalse(Path("ran").exists())
+
+    def test_killed_first(self) -> None:
+        """Where the computer's memory runs out all the same, the system ends it before a player."""
+        self.assertEqual(self.aside.call(Path.read_text, Path("/proc/self/oom_score_adj")), "1000\n")
 
     def test_memory(self) -> None:
         """One that takes too much memory is ended, which is said with the bound, and leaves nothing behind."""

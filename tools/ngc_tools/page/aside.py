@@ -206,6 +206,8 @@ def _bound(most_memory: int, most_cpu_s: int) -> None:
     resource.setrlimit(resource.RLIMIT_AS, (most_memory, most_memory))
     resource.setrlimit(resource.RLIMIT_CPU, (most_cpu_s, most_cpu_s))
     resource.setrlimit(resource.RLIMIT_CORE, (0, 0))
+    with suppress(OSError):  # where memory runs out all the same, the system ends this, and no player
+        Path("/proc/self/oom_score_adj").write_text("1000")
 
 
 def _watch(given: BinaryIO, folder: str) -> None:

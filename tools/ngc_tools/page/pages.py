@@ -38,6 +38,11 @@ class Stamp:
         return f"{self.ms}-{self.holds}"
 
     @staticmethod
+    def is_one(text: object) -> bool:
+        """Whether it is what a page gives back."""
+        return isinstance(text, str) and _STAMP.fullmatch(text) is not None
+
+    @staticmethod
     def read(text: object) -> "Stamp":
         """Reads what a page gives back. Raises RequestRefused."""
         match = _STAMP.fullmatch(text) if isinstance(text, str) else None
