@@ -56,7 +56,7 @@ class Server:
         self._all: dict[asyncio.Task, Connection] = {}
         self._count = 0
         self._new = asyncio.Event()
-        self._uploads = asyncio.Semaphore(2)
+        self._uploads = asyncio.Semaphore(4)
         self._loop = asyncio.new_event_loop()
         self._thread = threading.Thread(target=self._loop.run_forever, name="server", daemon=True)
 

@@ -140,12 +140,13 @@ export function upload(what, file, signal, answers = {}) {
 // Asks for the drawing of a program that was looked at.
 export const drawChecked = (id, signal) => send('draw', '', { 'X-Checked': id }, signal);
 
-let before = Promise.resolve(); // one at a time: a browser has six connections, and commands need one
+const before = {}; // one of each at a time: a browser has six connections, and commands need one
 
 function send(what, body, more, signal) {
   const headers = { 'Content-Type': 'application/octet-stream', 'X-Page': page, ...more };
-  const mine = before.then(() => answered(fetch(what, { method: 'POST', body, headers, signal })));
-  before = mine.catch(() => {});
+  const asked = () => answered(fetch(what, { method: 'POST', body, headers, signal }));
+  const mine = Promise.resolve(before[what]).then(asked);
+  before[what] = mine.catch(() => {});
   return mine;
 }
 
