@@ -10,8 +10,15 @@ from pathlib import Path
 from ngc_tools.files import naming
 
 _MEMORY = "/dev/shm"  # a sync costs nothing there
+_folders = [_MEMORY]  # where folders are made, the last one
 _made: set[str] = set()  # what is to be removed
 _ENDINGS = {signal.SIGINT, signal.SIGTERM, signal.SIGHUP}
+
+
+def use(folder: str) -> None:
+    """From now on this process makes all of it in a folder, which somebody else removes."""
+    _folders.append(folder)
+    tempfile.tempdir = folder
 
 
 class Scratch(tempfile.TemporaryDirectory):
@@ -20,7 +27,7 @@ class Scratch(tempfile.TemporaryDirectory):
 
     def __init__(self, prefix: str) -> None:
         with _waiting():
-            super().__init__(prefix=prefix, dir=_MEMORY if Path(_MEMORY).is_dir() else None)
+            super().__init__(prefix=prefix, dir=_folders[-1] if Path(_folders[-1]).is_dir() else None)
             _made.add(self.name)
 
     def cleanup(self) -> None:

@@ -1,5 +1,5 @@
 #!/usr/bin/env python3
-"""A model of Hold: two pages, the page's server, the operator's thread and a player, with all interleavings of what they
+"""A model of Hold: two pages, the page's server, the operator's thread, a player, and all interleavings of what they
 do. After Hold is answered no motion begins until somebody asks to go on, and what a lost page ran is held.
 
     tests/hold_model.py

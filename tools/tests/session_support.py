@@ -52,6 +52,14 @@ def told(main: Callable[[list[str]], int], *words: str) -> tuple[int, str, str]:
     return status, out.getvalue(), error.getvalue()
 
 
+def is_alive(pid: str) -> bool:
+    """Whether a process runs."""
+    try:
+        return Path(f"/proc/{pid}/stat").read_text().rpartition(")")[2].split()[0] != "Z"
+    except OSError:
+        return False
+
+
 @cache
 def memory() -> str | None:
     """A folder in memory, in which a sync costs nothing, if it has a GB of room and says when a file was made, as disks

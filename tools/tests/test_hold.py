@@ -66,7 +66,8 @@ class Levels(InFolder):
         link.release()
         level.wish()
         starts = (link.release, link.go, lambda: link.along(1), lambda: link.legs("0", "0 0 0", 1), link.home,
-                  lambda: link.straight("0 0 0", 1, "1"), lambda: link.jog("X+", "60"), lambda: link.seek("Z-", "1", "1"))
+                  lambda: link.straight("0 0 0", 1, "1"), lambda: link.jog("X+", "60"),
+                  lambda: link.seek("Z-", "1", "1"))
         for start in starts:
             with self.assertRaises(HeldBack):
                 start()

@@ -33,7 +33,7 @@ MAINS = {"ngc-adapt": adapt.main, "ngc-check": check.main, "ngc-device": device.
 ASKS = [name for name in MAINS if name not in ("ngc-device", "ngc-player")]
 TEXT = "G21 G90 G17\n(Stück)\nM3 S1000\nG0 X5 Y0 Z5\nG1 X8 F600\nG2 X9 Y1 I1\nM2\n"
 LIMIT_S = 60  # also where the machine has other work
-KEY = "key"  # of the address of ngc-page
+KEY = "MmJ0pTn-Qe7Y_h3sKx4v1A"  # of the address of ngc-page
 # Each tool with words that go well; ODD stands in turn for each file that it takes. ngc-page goes on until Ctrl-C.
 GOOD = {
     "ngc-adapt": ("part.ngc",), "ngc-check": ("part.ngc",), "ngc-device": ("mill.dev",),

@@ -19,7 +19,7 @@ sys.path.insert(0, str(Path(__file__).resolve().parent))
 
 from machine_support import SocketMachine  # noqa: E402
 from page_support import CUT, OTHER, PAGE, SLOW, Page, Served, request  # noqa: E402
-from session_support import FIRST, PATIENCE_S, TOOLS, InFolder, ngc, told  # noqa: E402
+from session_support import FIRST, PATIENCE_S, TOOLS, InFolder, is_alive, ngc, told  # noqa: E402
 
 from ngc_tools.cli.page import main  # noqa: E402
 from ngc_tools.formats.lines import Program  # noqa: E402
@@ -296,7 +296,7 @@ class Work(Served):
         self.assertEqual(state["message"], "<script>alert</script>")
         status, text, headers = page.get("program")
         self.assertEqual((status, headers["Content-Type"]), (200, "application/json"))
-        self.assertIn("\x1b[2J", json.loads(text)["text"])
+        self.assertIn("\\x1b[2J", json.loads(text)["text"])
 
     def test_lines_are_lines(self) -> None:
         """A line of G-code is no command of the core, whatever it says: no file of the server's is read."""
@@ -1118,14 +1118,6 @@ class Words(InFolder):
             status, out, error = told(main, *words, "--ngc", ngc())
             self.assertEqual((status, out), (2, ""), words)
             self.assertIn(why, error.splitlines()[-1])
-
-
-def is_alive(pid: str) -> bool:
-    """Whether a process runs."""
-    try:
-        return Path(f"/proc/{pid}/stat").read_text().rpartition(")")[2].split()[0] != "Z"
-    except OSError:
-        return False
 
 
 def told_of_device() -> str:

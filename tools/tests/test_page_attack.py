@@ -1,9 +1,11 @@
-"""Who attacks the page's server, with the key or without it: Hold is taken all the same, and nothing is kept for ever."""
+"""Attacks on the page's server, with the key or without: Hold is taken all the same, and nothing is kept for ever."""
 import base64
 import http.client
+import json
 import os
 import socket
 import struct
+import subprocess
 import sys
 import threading
 import time
@@ -15,15 +17,21 @@ from unittest import mock
 sys.path.insert(0, str(Path(__file__).resolve().parent))
 
 from page_support import OTHER, PAGE, Page  # noqa: E402
-from session_support import PATIENCE_S  # noqa: E402
+from session_support import PATIENCE_S, TOOLS, InFolder, is_alive  # noqa: E402
+from tests.aside_work import take_memory, work_for_ever  # noqa: E402
 
-from ngc_tools.cli.page import listening  # noqa: E402
+from ngc_tools import scratch  # noqa: E402
+from ngc_tools.cli.page import key_of, listening  # noqa: E402
+from ngc_tools.failure import WrongWords  # noqa: E402
+from ngc_tools.operator.face import MESSAGE  # noqa: E402
+from ngc_tools.page import aside as aside_module  # noqa: E402
 from ngc_tools.page import server as server_module  # noqa: E402
+from ngc_tools.page.aside import Aside, NotDone, Wanted  # noqa: E402
 from ngc_tools.page.face import PageFace  # noqa: E402
 from ngc_tools.page.jog import HeldJog  # noqa: E402
 from ngc_tools.page.server import MOST_CONNECTIONS, Server  # noqa: E402
 
-KEY = "a-key-of-twenty-two-signs"
+KEY = "MmJ0pTn-Qe7Y_h3sKx4v1A"
 
 
 class Session:
@@ -92,9 +100,7 @@ class Served(unittest.TestCase):
 
     def line(self, name: str = PAGE) -> "Line":
         """The line of a page."""
-        upgrade = (f"Upgrade: websocket\r\nConnection: Upgrade\r\nSec-WebSocket-Version: 13\r\nSec-WebSocket-Key: "
-                   f"{base64.b64encode(bytes(16)).decode()}\r\n")
-        return Line(self.connect(self.head(f"line?page={name}", upgrade, "GET", name)))
+        return Line(self.connect(upgrade(self.server.port, KEY, name)))
 
     def wait_for(self, what: str, holds: object) -> None:
         """Waits until something holds."""
@@ -102,6 +108,13 @@ class Served(unittest.TestCase):
         while not holds():
             self.assertLess(time.monotonic(), until, what)
             time.sleep(0.005)
+
+
+def upgrade(port: int, key: str, name: str) -> str:
+    """What a page asks for its line by."""
+    return (f"GET /{key}/line?page={name} HTTP/1.1\r\nHost: 127.0.0.1:{port}\r\nOrigin: http://127.0.0.1:{port}\r\n"
+            "Upgrade: websocket\r\nConnection: Upgrade\r\nSec-WebSocket-Version: 13\r\nSec-WebSocket-Key: "
+            f"{base64.b64encode(bytes(16)).decode()}\r\n\r\n")
 
 
 class Line:
@@ -150,14 +163,18 @@ class Lines(Served):
         self.page()
         upgrade = "Upgrade: websocket\r\nSec-WebSocket-Version: 13\r\nSec-WebSocket-Key: a\r\n"
         head = self.head(f"line?page={PAGE}", upgrade, "GET")
-        for text, status in ((head.replace("Origin: http://127", "Origin: http://128"), 403), (head.replace("a-k", "b-k"), 404),
-                             (head.replace("Upgrade: w", "Upgrade: x"), 400), (head.replace(" 13", " 12"), 400),
+        for text, status in ((head.replace("Origin: http://127", "Origin: http://128"), 403),
+                             (head.replace("MmJ", "MmK"), 404), (head.replace("Upgrade: w", "Upgrade: x"), 400),
+                             (head.replace(" 13", " 12"), 400),
                              (head.replace("Origin:", "Other:"), 400), (head.replace("page=page", "page=<b>"), 400)):
             self.assertIn(f" {status} ".encode(), Line(self.connect(text)).head)
         for kind, text in ((0x82, "hold"), (0x01, "hold"), (0x81, "run"), (0x88, "")):
             line = self.line()
             line.say(text, kind)
             self.assertEqual(line.hear(), "", (kind, text))
+        line = self.line()
+        line.say("beat now")
+        self.assertEqual(line.hear(), "")
         line = self.line()
         line.link.sendall(struct.pack(">BBQ", 0x81, 0xFF, 1 << 40))
         self.assertEqual((line.hear(), self.session.held), ("", []))
@@ -219,7 +236,7 @@ class Floods(Served):
         for link in links:
             link.close()
         self.assertTrue(self.session.works.wait(PATIENCE_S))
-        self.wait_for("all end", lambda: self.session.ended.count("check") >= 4)
+        self.wait_for("all end", lambda: self.session.ended.count("check") >= 2)
 
     def test_streams(self) -> None:
         """Streams that nobody reads; each page but those four is refused, and the one that was there stays."""
@@ -259,6 +276,112 @@ class Floods(Served):
             return True
 
         self.wait_for("they are closed", lambda: sum(map(is_closed, links)) >= MOST_CONNECTIONS)
+
+
+class Texts(Served):
+    """What somebody wrote is shown without what turns or hides it."""
+
+    def test_texts(self) -> None:
+        """Names, rows of a program, what is said and what is asked."""
+        text = "M2 (\u202eevil\x1b[2J\x85\x00)\r\n\xff".encode("latin-1", "ignore") + "(\u2066b\u2069 é)\n".encode()
+        program = SimpleNamespace(session=SimpleNamespace(program=SimpleNamespace(text=text)))
+        self.session.operator, self.session.program_id, self.session.name = program, 1, "part.ngc"
+        self.assertEqual(json.loads(self.server.program())["text"],
+                         "M2 (evil\\x1b[2J\\x85\\x00)\n\\xff(\\u2066b\\u2069 é)\n")
+        self.assertEqual(server_module._name("..%2Fa%E2%80%AEcgn.b%00"), "a\\u202ecgn.b\\x00")
+        face = self.session.face
+        face.say("line 1: \u202ea\tb\nline 2", MESSAGE)
+        self.assertEqual((face.log[-1].text, face.message), ("line 1: \\u202ea b\nline 2", "\\u202ea b\nline 2"))
+        face.look = face.hold
+        with mock.patch.object(face, "publish", lambda: self.session.held.append(face.question)):
+            face.agrees("\u202ego? ")
+        self.assertEqual(self.session.held[0].text, "\\u202ego?")
+
+
+class Keys(unittest.TestCase):
+    """The key in the path."""
+
+    def test_keys(self) -> None:
+        """A new one has 128 bits; one that is given stays the same, and a weak one is refused by its name."""
+        self.assertEqual({len(key_of({})) for _ in range(20)}, {22})  # of 6 bits each
+        self.assertEqual(len({key_of({"NGC_PAGE_KEY": ""}) for _ in range(20)}), 20)
+        self.assertEqual(key_of({"NGC_PAGE_KEY": KEY}), KEY)
+        for weak in ("a", KEY[:21], "a" * 22, "1234567" * 4, f"{KEY}/..", f"{KEY} x", f"{KEY}é", KEY * 4):
+            with self.assertRaisesRegex(WrongWords, "NGC_PAGE_KEY: a key that somebody could guess"):
+                key_of({"NGC_PAGE_KEY": weak})
+
+
+class Children(InFolder):
+    """What the page does aside."""
+
+    def setUp(self) -> None:
+        """Nothing is aside yet."""
+        super().setUp()
+        self.aside = Aside()
+        self.addCleanup(self.aside.close)
+        self.enterContext(mock.patch.object(scratch, "_folders", [str(self.folder)]))
+
+    def left(self) -> list[Path]:
+        """What is left of children."""
+        return list(self.folder.glob("ngc-*"))
+
+    def starts(self) -> bool:
+        """Whether `work_for_ever` is at work."""
+        return Path("pids").exists() and "\n" in Path("pids").read_text()
+
+    def test_folder(self) -> None:
+        """No Python of the current folder is run, whatever is named like a module there."""
+        for name in ("sitecustomize", "usercustomize", "json", "pickle", "ngc_tools", "resource"):
+            Path(f"{name}.py").write_text("open('ran', 'w').close()\n")
+        for path in ("", ":/tmp"):
+            with mock.patch.dict(os.environ, {"PYTHONPATH": path} if path else {}):
+                self.assertEqual(self.aside.call(divmod, 7, 2), (3, 1))
+        self.assertFalse(Path("ran").exists())
+
+    def test_killed_first(self) -> None:
+        """Where the computer's memory runs out all the same, the system ends it before a player."""
+        self.assertEqual(self.aside.call(Path.read_text, Path("/proc/self/oom_score_adj")), "1000\n")
+
+    def test_memory(self) -> None:
+        """One that takes too much memory is ended, which is said with the bound, and leaves nothing behind."""
+        with mock.patch.object(aside_module, "MOST_MEMORY", 300 << 20), self.assertRaises(NotDone) as ended:
+            self.aside.call(take_memory, "left")
+        self.assertEqual(ended.exception.said(), "it takes more than 300 MiB of memory, and was ended")
+        self.assertEqual(self.left(), [])
+
+    def test_time(self) -> None:
+        """So is one that takes too long, with what it started."""
+        with mock.patch.object(aside_module, "MOST_CPU_S", 0.01), self.assertRaises(NotDone) as ended:
+            self.aside.call(time.sleep, 1000)
+        self.assertEqual(ended.exception.said(), "it takes more than 0.01 s of processor time, and was ended")
+        self.assertEqual(self.left(), [])
+
+    def test_given_up(self) -> None:
+        """One that nobody wants any more leaves nothing behind; one that was given up before it began ends too."""
+        wanted, early = Wanted(), Wanted()
+        child = wanted.by(self.aside.begin(work_for_ever, str(self.folder / "pids")))
+        ending = threading.Thread(target=lambda: self.wait_for("it works", self.starts) or wanted.end())
+        ending.start()
+        with self.assertRaises(NotDone):
+            self.aside.finish(child)
+        ending.join()
+        early.end()
+        with self.assertRaises(NotDone):
+            self.aside.finish(early.by(self.aside.begin(time.sleep, 1000)))
+        self.assertEqual(self.left(), [])
+
+    def test_killed(self) -> None:
+        """A kill of whoever asked leaves nothing behind either."""
+        text = ("import sys; sys.path.insert(0, sys.argv[1]); from tests.aside_work import work_for_ever;"
+                "from ngc_tools.page.aside import Aside; Aside().call(work_for_ever, sys.argv[2])")
+        words = [sys.executable, "-P", "-c", text, str(TOOLS), str(self.folder / "pids")]
+        asking = subprocess.Popen(words, stdout=subprocess.DEVNULL)
+        self.addCleanup(asking.wait)
+        self.wait_for("it works", self.starts)
+        folder, pid = Path("pids").read_text().split()
+        self.assertTrue(os.path.exists(folder))
+        asking.kill()
+        self.wait_for("all is gone", lambda: not is_alive(pid) and not os.path.exists(folder))
 
 
 class Lost(Served):

@@ -1,8 +1,8 @@
 """A CAM system's text on the page: what is changed, what has to be said first, how far a check is, and its end."""
+import http.client
 import json
 import random
 import sys
-import threading
 import unittest
 from pathlib import Path
 from unittest import mock
@@ -10,7 +10,7 @@ from unittest import mock
 sys.path.insert(0, str(Path(__file__).resolve().parent))
 
 from page_support import Page, Served  # noqa: E402
-from session_support import InFolder, ngc, told  # noqa: E402
+from session_support import PATIENCE_S, InFolder, ngc, told  # noqa: E402
 
 from ngc_tools.cli.check import main as check  # noqa: E402
 from ngc_tools.formats.device import Device  # noqa: E402
@@ -89,21 +89,18 @@ class Cam(Served):
         self.assertEqual(page.post("check", b"M2\n", X_Answers="[]", Content_Type="x/y")[0], 422)
 
     def test_ended(self) -> None:
-        """How far a check is can be asked, by its own page; it is ended at once where nobody wants it."""
-        page, answers = self.page(), []
+        """How far a check is can be asked, by its own page; it ends with the connection of whoever asked."""
+        page = self.page()
         text = b"G17 G21 G90 G94\n" + b"G1 X1 F600\nG1 X0\n" * 20_000 + b"M2\n"
-        thread = threading.Thread(target=lambda: answers.append(page.post(
-            "check", text, X_Name="long.nc", Content_Type="application/octet-stream")))
-        thread.start()
+        asking = http.client.HTTPConnection("127.0.0.1", page.port, timeout=PATIENCE_S)
+        asking.request("POST", f"/{page.key}/check", text, page.given() | {"X-Name": "long.nc"})
         self.wait_for("it tells", lambda: page.post("checking")[1]["told"])
         found = page.post("checking")[1]["told"]
         self.assertIn(found["what"], ("lines", "warnings"))
         self.assertTrue(0 <= found["done"] <= found["of"])
         self.assertEqual(self.page("page-number-2").post("checking"), (200, {"told": None}))
-        self.assertEqual(page.post("uncheck"), (200, {}))
-        thread.join()
-        self.assertEqual(answers, [(200, {"ended": True})])
-        self.assertEqual(page.post("checking"), (200, {"told": None}))
+        asking.close()
+        self.wait_for("it is ended", lambda: page.post("checking") == (200, {"told": None}))
         self.look(page, "M2\n")
 
     def test_no_stop(self) -> None:

@@ -5,6 +5,7 @@ import re
 import secrets
 import socket
 import sys
+from collections.abc import Mapping
 from dataclasses import dataclass
 
 from ngc_tools.cli.operate import as_found, bound, check_ahead, metered
@@ -39,11 +40,18 @@ EXAMPLE = """example:
   ngc-player axis mill.toml position --progress progress    (in another terminal)
   ngc-page mill.dev mill.toml axis --player progress
 
+environment:
+  NGC_PAGE_KEY  the key in the address, where it is to stay the same; without it each start makes a new one
+
 exit status:
   0  the session was ended by quit
   2  the words are wrong, `ngc run` can't be started or failed, a signal came: it says why"""
 
 _ADDRESS = re.compile(r"https?://[A-Za-z0-9.-]+(?::[0-9]{1,5})?")
+_KEY = re.compile(r"[A-Za-z0-9_-]{22,86}")
+_LEAST_SIGNS = 10  # that differ; of 22 by chance fewer never do
+_WEAK = ("NGC_PAGE_KEY: a key that somebody could guess. It takes 22 to 86 signs of A-Z a-z 0-9 _ - by chance, as"
+         " `python3 -c 'import secrets; print(secrets.token_urlsafe(16))'` prints")
 _ALL = ("0.0.0.0", "[::]", "::")
 _ANSWERS_S = 1.0  # a player that doesn't answer for so long doesn't know the question
 _SWITCH_S = 0.0005  # after so long threads take turns, so that a tick doesn't wait for a page
@@ -88,6 +96,7 @@ def work(args: argparse.Namespace) -> int:
     if args.start_player is not None and args.player is None:
         raise WrongWords("--start-player COMMAND goes with --player SOCKET")
     starter = PlayerStarter(args.start_player, args.player) if args.start_player is not None else None
+    key = key_of(os.environ)
     ngc = find_ngc(args.ngc)
     if args.machine:
         look_at_settings(ngc, args.settings)
@@ -97,7 +106,7 @@ def work(args: argparse.Namespace) -> int:
         session = PageSession(Opener(ngc, args, starter), PageFace(), args.machine or "")
         try:
             session.start()
-            serve(session, host, file, args.address)
+            serve(session, key, host, file, args.address)
         finally:
             status = ended(session)
     if status:
@@ -113,6 +122,14 @@ def address(text: str) -> tuple[str, int]:
     if host in _ALL:
         raise WrongWords(f"{text}: name the address of one network, since pages have to come by its name")
     return host, int(port)
+
+
+def key_of(environment: Mapping[str, str]) -> str:
+    """The key in the path: that of the environment, else a new one of 128 bits. Raises WrongWords for a weak one."""
+    key = environment.get("NGC_PAGE_KEY") or secrets.token_urlsafe(16)
+    if not _KEY.fullmatch(key) or len(set(key)) < _LEAST_SIGNS:
+        raise WrongWords(_WEAK)
+    return key
 
 
 def listening(host: str, port: int) -> socket.socket:
@@ -207,9 +224,9 @@ class PagePatience:
                 raise CannotBegin("ended; a block that was under way is half-done")
 
 
-def serve(session: PageSession, host: str, file: socket.socket, addresses: list[str]) -> None:
-    """Serves pages until the session is over. Raises OSError."""
-    server = Server(os.environ.get("NGC_PAGE_KEY") or secrets.token_urlsafe(16), session, addresses)
+def serve(session: PageSession, key: str, host: str, file: socket.socket, addresses: list[str]) -> None:
+    """Serves pages that know a key until the session is over. Raises OSError."""
+    server = Server(key, session, addresses)
     server.listen(host, file)
     for origin in (f"http://{host}:{server.port}", *addresses):
         print(f"{origin}/{server.key}/", flush=True)

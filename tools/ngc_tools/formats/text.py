@@ -16,6 +16,12 @@ def shown_line(line: bytes | str) -> str:
     return shown(line.rstrip(b"\r\n") if isinstance(line, bytes) else line.rstrip("\r\n"))
 
 
+def shown_lines(text: bytes | str) -> str:
+    """The same of lines, as many as there are."""
+    lines = text.split(b"\n") if isinstance(text, bytes) else text.split("\n")
+    return "\n".join(map(shown_line, lines))
+
+
 def _escaped(letter: str) -> str:
     """A letter as Python writes it; a byte that is no text as `\\xff`."""
     code = ord(letter)

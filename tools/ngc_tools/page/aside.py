@@ -1,22 +1,37 @@
 """Work that takes long, done in a process of its own, so that it takes no time from the ticks of a session.
 
 A child keeps its standard input open. Where that ends, since whoever asked gave up or was killed, it ends itself with
-all that it started."""
+all that it started. It has bounds, so that no player beside it goes without memory, and a folder for its files, which
+is removed whatever ends it. Nothing of the current folder is run as Python."""
 import gc
-import importlib
+import math
 import os
 import pickle
+import resource
+import shutil
 import signal
 import struct
 import subprocess
 import sys
 import threading
+import time
 from collections.abc import Callable
 from contextlib import suppress
 from pathlib import Path
 from typing import Any, BinaryIO
 
+from ngc_tools import scratch
 from ngc_tools.failure import Failure
+
+MOST_MEMORY = 1 << 31
+"""Bytes of memory that a child may take, and each process that it starts."""
+MOST_CPU_S = 300
+"""Seconds of processor time of a child, with those of what it starts."""
+_TOO_MUCH_MEMORY = "it takes more than {mib:,} MiB of memory, and was ended"
+_TOO_LONG = "it takes more than {seconds} s of processor time, and was ended"
+_BEGIN = "import sys; sys.path.insert(0, sys.argv[1]); from ngc_tools.page import aside; aside.main(*sys.argv[2:])"
+_ROOT = str(Path(__file__).resolve().parents[2])
+_LOOK_S = 0.25
 
 _HEAD = struct.Struct("<Q")
 _TOLD, _DONE = "told", "done"
@@ -32,10 +47,16 @@ class Child:
 
     def __init__(self, function: Callable, *given: Any) -> None:
         """Begins it. Raises OSError."""
-        paths = os.pathsep.join([str(Path(__file__).resolve().parents[2]), os.environ.get("PYTHONPATH", "")])
-        self._process = subprocess.Popen([sys.executable, "-m", "ngc_tools.page.aside"], stdin=subprocess.PIPE,
-                                         stdout=subprocess.PIPE, stderr=subprocess.DEVNULL, process_group=0,
-                                         env=os.environ | {"PYTHONPATH": paths})
+        self._folder = scratch.Scratch("ngc-page-")
+        words = [sys.executable, "-P", "-c", _BEGIN, _ROOT, self._folder.name, str(MOST_MEMORY), str(MOST_CPU_S)]
+        paths = filter(os.path.isabs, os.environ.get("PYTHONPATH", "").split(os.pathsep))  # others are of this folder
+        try:
+            self._process = subprocess.Popen(words, stdin=subprocess.PIPE, stdout=subprocess.PIPE,
+                                             stderr=subprocess.DEVNULL, process_group=0,
+                                             env=os.environ | {"PYTHONPATH": os.pathsep.join(paths)})
+        except OSError:
+            self._folder.cleanup()
+            raise
         self._work = pickle.dumps((function, given))
         self.told: Any = None  # what the function told of its progress last
 
@@ -49,6 +70,7 @@ class Child:
         self.give_up()
         self._process.wait()
         self._process.stdout.close()
+        self._folder.cleanup()
         if said is None:
             raise NotDone("it was ended before it was done")
         is_done, result = said
@@ -137,47 +159,70 @@ class Aside:
             child.give_up()
 
 
-def main() -> None:
-    """The child: does what it is told on its standard input."""
+def main(folder: str, most_memory: str, most_cpu_s: str) -> None:
+    """The child: does what it is told on its standard input, with its files in a folder, within bounds."""
     os.nice(10)
     gc.disable()  # it lives for one piece of work
     given, said = sys.stdin.buffer, os.dup(1)
     os.dup2(2, 1)  # what it starts writes nowhere
-    _aside()._says.append(said)
+    _says.append(said)
+    scratch.use(folder)
+    _bound(int(most_memory), math.ceil(2 * float(most_cpu_s)))
     (size,) = _HEAD.unpack(given.read(_HEAD.size))
-    function, arguments = pickle.loads(given.read(size))  # noqa: S301  of its parent
-    threading.Thread(target=_watch, args=[given], daemon=True).start()
+    work = given.read(size)
+    threading.Thread(target=_watch, args=[given, folder], daemon=True).start()
+    threading.Thread(target=_watch_time, args=[said, float(most_cpu_s)], daemon=True).start()
     try:
-        result = (True, function(*arguments))
+        function, arguments = pickle.loads(work)  # noqa: S301  of its parent
+        text = _packed(_DONE, (True, function(*arguments)))
+    except MemoryError:
+        text = _packed(_DONE, (False, _TOO_MUCH_MEMORY.format(mib=int(most_memory) >> 20)))
     except Exception as error:  # whoever asked is told
-        result = (False, error.said() if isinstance(error, Failure) else f"{type(error).__name__}: {error}")
-    _say(said, _DONE, result)
+        why = error.said() if isinstance(error, Failure) else f"{type(error).__name__}: {error}"
+        text = _packed(_DONE, (False, why))
+    _write(said, text)
 
 
 def tell(progress: Any) -> None:
     """A function at work tells how far it is; of one that isn't aside nobody hears it."""
     if _says:
-        _say(_says[0], _TOLD, progress)
+        _write(_says[0], _packed(_TOLD, progress))
 
 
-def _say(to: int, kind: str, what: Any) -> None:
+def _packed(kind: str, what: Any) -> bytes:
     """One answer, whole."""
     text = pickle.dumps((kind, what))
-    left = memoryview(_HEAD.pack(len(text)) + text)
+    return _HEAD.pack(len(text)) + text
+
+
+def _write(to: int, text: bytes) -> None:
+    left = memoryview(text)
     while left:
         left = left[os.write(to, left):]
 
 
-def _aside() -> Any:
-    """This module by its name, as a function at work imports it: the child runs it as `__main__`."""
-    return importlib.import_module("ngc_tools.page.aside")
+def _bound(most_memory: int, most_cpu_s: int) -> None:
+    """Bounds this process, and each that it starts. Of their time together `_watch_time` says it, before that."""
+    resource.setrlimit(resource.RLIMIT_AS, (most_memory, most_memory))
+    resource.setrlimit(resource.RLIMIT_CPU, (most_cpu_s, most_cpu_s))
+    resource.setrlimit(resource.RLIMIT_CORE, (0, 0))
+    with suppress(OSError):  # where memory runs out all the same, the system ends this, and no player
+        Path("/proc/self/oom_score_adj").write_text("1000")
 
 
-def _watch(given: BinaryIO) -> None:
-    """Ends this process and what it started once its input ends."""
+def _watch(given: BinaryIO, folder: str) -> None:
+    """Ends this process and what it started once its input ends, and removes its files."""
     given.read()
+    shutil.rmtree(folder, ignore_errors=True)
     os.killpg(os.getpgrp(), signal.SIGKILL)
 
 
-if __name__ == "__main__":
-    main()
+def _watch_time(said: int, most_cpu_s: float) -> None:
+    """Ends it once it took too much time of the processors."""
+    used_s = 0.0
+    while used_s <= most_cpu_s:
+        time.sleep(_LOOK_S)
+        used = [resource.getrusage(who) for who in (resource.RUSAGE_SELF, resource.RUSAGE_CHILDREN)]
+        used_s = sum(each.ru_utime + each.ru_stime for each in used)
+    _write(said, _packed(_DONE, (False, _TOO_LONG.format(seconds=f"{most_cpu_s:g}"))))
+    os.killpg(os.getpgrp(), signal.SIGKILL)

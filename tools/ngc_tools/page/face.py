@@ -5,6 +5,7 @@ from collections import deque
 from collections.abc import Callable, Container
 from dataclasses import dataclass
 
+from ngc_tools.formats.text import shown_lines
 from ngc_tools.hold_level import HoldLevel
 from ngc_tools.operator.face import MESSAGE, REFUSED, SAID, WARNING, WHERE, UnderWay
 from ngc_tools.operator.sentences import GO_ON, LOOK, LOOK_AGAIN, LOOK_SWITCHED, SWITCHED, SWITCHED_THERE
@@ -80,6 +81,7 @@ class PageFace:
         """Adds an entry to the log; what a page shows anyway isn't said."""
         if kind == WHERE:
             return
+        text = shown_lines(text)
         if kind == MESSAGE:
             self.message = text.partition(": ")[2]
         if kind in (REFUSED, WARNING):
@@ -143,7 +145,7 @@ class PageFace:
         with self._lock:
             self._count += 1
             self._answer = None
-            self.question = Question(self._count, text.strip(), kind)
+            self.question = Question(self._count, shown_lines(text.strip()), kind)
         self.publish()
         try:
             while not self._is_answered():

@@ -29,13 +29,18 @@ _HELD = "somebody held since it was touched, and so it isn't done: touch it agai
 @dataclass(frozen=True, slots=True)
 class Stamp:
     """What the server tells of a moment, in ms of its own clock, and how many wishes to hold there had been then. Pages
-    give it back as it is."""
+    give the newest one back; with a command they add how long ago it came."""
 
     ms: int
     holds: int
 
     def __str__(self) -> str:
         return f"{self.ms}-{self.holds}"
+
+    @staticmethod
+    def is_one(text: object) -> bool:
+        """Whether it is what a page gives back."""
+        return isinstance(text, str) and _STAMP.fullmatch(text) is not None
 
     @staticmethod
     def read(text: object) -> "Stamp":
@@ -76,7 +81,7 @@ class Pages:
 
     def check_age(self, stamp: Stamp) -> None:
         """Raises RequestRefused for what was asked for too long ago, or before somebody held."""
-        if not 0 <= self.stamp().ms - stamp.ms <= 1000 * OLDEST_S:
+        if abs(self.stamp().ms - stamp.ms) > 1000 * OLDEST_S:
             raise RequestRefused(HTTPStatus.CONFLICT, _OLD)
         self.check_holds(stamp)
 

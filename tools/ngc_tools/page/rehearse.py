@@ -6,6 +6,7 @@ from ngc_tools.formats.device import Device
 from ngc_tools.formats.lines import Program
 from ngc_tools.formats.position import millimetres, nanometres
 from ngc_tools.formats.settings import Settings
+from ngc_tools.formats.text import shown_lines
 from ngc_tools.job.figures import duration, micrometres
 from ngc_tools.job.figures import millimetres as rounded
 from ngc_tools.job.moves import CUT, Move, Point, distance, of_out
@@ -93,9 +94,9 @@ def rehearsed(asked: RehearsalRequest) -> dict:
     rehearsal = Rehearsal(asked.ngc, asked.settings, asked.image, asked.at)
     found = {"begins": [], "rest": "", "rest_us": 0, "comes_on": "", "approach": None, "differs": [], "along": None}
     try:
-        lines = rehearsal.lines()
+        lines = list(map(shown_lines, rehearsal.lines()))
     except CommandRefused as error:
-        return found | {"refused": _refusal(error, asked.settings), "lines": [str(error)]}
+        return found | {"refused": _refusal(error, asked.settings), "lines": [shown_lines(str(error))]}
     comes_on = outputs(rehearsal.comes_on) if rehearsal.comes_on else ""
     approach = _approach(asked, *rehearsal.approach) if rehearsal.approach else None
     return found | {"lines": lines, "begins": rehearsal.begins, "rest": duration(rehearsal.rest_us),

@@ -336,7 +336,8 @@ class PageSession:
 
     def check(self, page: str, text: bytes, answers: HomeAnswers, wanted: Wanted) -> tuple[dict, bytes]:
         """What `ngc-check` and `ngc-adapt` find of a text, which begins as the device stands, and the text that is
-        meant, as long as it is wanted. A page has one check under way. Raises Unwanted where that is ended, NotDone, OSError."""
+        meant, as long as it is wanted. A page has one check under way. Raises Unwanted where that is ended, NotDone,
+        OSError."""
         console, session = self.operator.console, self.operator.session
         check = Check(console.ngc, console.settings, self.kept.device.image, session.delete, session.meter is not None,
                       answers)

@@ -1,12 +1,14 @@
 // The connection to the server: one stream of states in, requests out, and a line of its own for Hold.
 const SILENT_MS = 2500;
 const BEAT_MS = 400;          // so often the server hears at most what came here last
-const HELD_MS = 250;          // without an answer for so long Hold is asked for once more
+const HELD_MS = 250;          // without an answer for so long Hold is asked for by a request too
+const TAKES_MS = 2000, TRIES = 10;
 const AGAIN_MS = 500;
 const MOST_BYTES = 1048576; // of a program on a large device
 const page = sessionStorage.page ??= named();
-let stamp = '0-0';            // the newest of the server's: it tells how old a request is
-let line = null, beaten = 0, beats = false;
+let stamp = '0-0', heard = 0; // the newest of the server's, and when it came: they tell how old a request is
+let line = null, opened = -Infinity, held = () => {};
+let beaten = 0, beats = false;
 
 function named() {
   const bytes = crypto.getRandomValues(new Uint8Array(16));
@@ -21,6 +23,7 @@ export function connect({ state, lost, back }) {
     if (isLost) back();
     isLost = false;
     newer(said);
+    openLine();
     beat(said);
   };
   const open = () => {
@@ -41,29 +44,36 @@ export function connect({ state, lost, back }) {
     if (source.readyState === EventSource.CLOSED) open();
   };
   open();
-  openLine();
   setInterval(look, 250);
 }
 
-// The newest stamp that came here.
-export const now = () => stamp;
+// The stamp of a touch: the newest one, and how long ago that came.
+export function now() {
+  const [ms, holds] = stamp.split('-');
+  return `${Number(ms) + Math.round(performance.now() - heard)}-${holds}`;
+}
 
 const after = (one, other) => parseInt(one, 10) >= parseInt(other, 10);
 
 function newer(said) {
-  if (said && after(said, stamp)) stamp = said;
+  if (!said || !after(said, stamp)) return;
+  stamp = said;
+  heard = performance.now();
 }
 
 // ---- the line: it waits for no other request of this page, and says that the stream is read
 
+// It is opened once the stream is, and again behind one that broke.
 function openLine() {
-  line = new WebSocket(new URL(`line?page=${page}`, location).href.replace('http', 'ws'));
+  if (line || performance.now() - opened < AGAIN_MS) return;
+  opened = performance.now();
+  const mine = line = new WebSocket(new URL(`line?page=${page}`, location).href.replace('http', 'ws'));
   line.onmessage = event => {
     const [word, said] = event.data.split(' ');
     newer(said);
-    if (word === 'held') line.held?.();
+    if (word === 'held') held();
   };
-  line.onclose = () => setTimeout(openLine, AGAIN_MS);
+  line.onclose = () => { if (line === mine) line = null; };
 }
 
 const isOpen = () => line?.readyState === WebSocket.OPEN;
@@ -82,16 +92,19 @@ function beat(said) {
 // Holds: by the line, and by requests until something answers. Throws an Error that says why it isn't done.
 export async function hold() {
   let isHeld = false;
-  const answer = new Promise(done => { line.held = done; }).then(() => { isHeld = true; });
+  const answer = new Promise(done => { held = done; }).then(() => { isHeld = true; });
   if (isOpen()) {
     line.send('hold');
     await Promise.race([answer, pause(HELD_MS)]);
   }
-  for (let tries = 0; !isHeld; tries += 1) {
-    const asked = post('hold').then(() => { isHeld = true; }, error => error);
-    const error = await Promise.race([asked, answer, pause(AGAIN_MS)]);
-    if (error && tries > 20) throw error;
-    if (error) await Promise.race([answer, pause(AGAIN_MS)]);
+  for (let tries = 1; !isHeld; tries += 1) {
+    const asked = post('hold', {}, AbortSignal.timeout(TAKES_MS)).then(() => { isHeld = true; });
+    try {
+      await Promise.race([asked, answer]);
+    } catch (error) {
+      if (tries === TRIES) throw error;
+      await Promise.race([answer, pause(AGAIN_MS)]);
+    }
   }
 }
 
@@ -109,9 +122,9 @@ async function answered(request) {
 }
 
 // Asks for something. Throws an Error that says why it isn't done.
-export function post(what, body = {}) {
-  const headers = { 'Content-Type': 'application/json', 'X-Page': page, 'X-Stamp': stamp };
-  return answered(fetch(what, { method: 'POST', headers, body: JSON.stringify(body) }));
+export function post(what, body = {}, signal = undefined) {
+  const headers = { 'Content-Type': 'application/json', 'X-Page': page, 'X-Stamp': now() };
+  return answered(fetch(what, { method: 'POST', headers, body: JSON.stringify(body), signal }));
 }
 
 // Sends a program, to be looked at by `check`, or drawn by `draw`; `answers` are what a person said of it. Nobody wants
@@ -127,12 +140,13 @@ export function upload(what, file, signal, answers = {}) {
 // Asks for the drawing of a program that was looked at.
 export const drawChecked = (id, signal) => send('draw', '', { 'X-Checked': id }, signal);
 
-let before = Promise.resolve(); // one at a time: a browser has six connections, and commands need one
+const before = {}; // one of each at a time: a browser has six connections, and commands need one
 
 function send(what, body, more, signal) {
   const headers = { 'Content-Type': 'application/octet-stream', 'X-Page': page, ...more };
-  const mine = before.then(() => answered(fetch(what, { method: 'POST', body, headers, signal })));
-  before = mine.catch(() => {});
+  const asked = () => answered(fetch(what, { method: 'POST', body, headers, signal }));
+  const mine = Promise.resolve(before[what]).then(asked);
+  before[what] = mine.catch(() => {});
   return mine;
 }
 

@@ -21,7 +21,6 @@ export async function load(file, app, asks, answers = {}) {
   sheet.ending(() => {
     wait.end();
     wanted.abort();
-    post('uncheck').catch(() => {});
   });
   sight.look(true);
   draw(() => upload('draw', file, wanted.signal), app, sight.picture);
