@@ -1,7 +1,7 @@
 /* Judges the pacer of tools/player over streams by chance, with motors, lines in hand, holds, overrides and ends by
- * chance. The words are the first seed and how many; a file behind them gets the last stream with its times. It prints
- * how many streams were right and how many lines there were, and what is wrong with others: then it ends with status
- * 1. */
+ * chance. The words are the first seed, how many, and of how much of the motors' acceleration, in percent, the judge is
+ * told; a file behind them gets the last stream with its times. It prints what is wrong with streams, then how many are
+ * right, and how many lines there were. */
 #include <inttypes.h>
 #include <math.h>
 #include <stdio.h>
@@ -50,14 +50,21 @@ static void show(const char *path, const struct motors *motors) {
 }
 
 int main(int words, char **given) {
-    uint64_t first = words > 1 ? strtoull(given[1], NULL, 10) : 1;
-    uint64_t seeds = words > 2 ? strtoull(given[2], NULL, 10) : 1;
+    if (words != 4 && words != 5) {
+        return 2;
+    }
+    uint64_t first = strtoull(given[1], NULL, 10);
+    uint64_t seeds = strtoull(given[2], NULL, 10);
+    double percent = strtod(given[3], NULL);
     uint64_t right_streams = 0, all_lines = 0;
     for (uint64_t seed = first; seed < first + seeds; seed++) {
         chance = chance_of(seed);
         struct motors motors = some_motors();
         make_stream(&motors, 1);
         pace_all(&motors);
+        for (int axis = 0; axis < 3; axis++) {
+            motors.accel[axis] *= percent / 100;
+        }
         struct verdict verdict = judge(lines, &motors);
         all_lines += count;
         right_streams += verdict.what == NULL;
@@ -65,10 +72,10 @@ int main(int words, char **given) {
             printf("seed %" PRIu64 ", line %zu: %s: %.6g, at most %.6g\n", seed, verdict.line + 1, verdict.what,
                    verdict.is, verdict.most);
         }
-        if (words > 3) {
-            show(given[3], &motors);
+        if (words == 5) {
+            show(given[4], &motors);
         }
     }
     printf("%" PRIu64 " %" PRIu64 "\n", right_streams, all_lines);
-    return right_streams != seeds;
+    return 0;
 }

@@ -207,6 +207,9 @@ static void pulse(struct reached *reached, const struct bounds *bounds, const st
 }
 
 static struct verdict judge_axis(const struct timed_line *lines, int axis, const struct bounds *bounds) {
+    static const char *const what[] = {"no motor follows X within its acceleration, so many steps off",
+                                       "no motor follows Y within its acceleration, so many steps off",
+                                       "no motor follows Z within its acceleration, so many steps off"};
     double most = bounds->still;
     double off = bounds->off;
     struct reached reached = {4, {{-off, -most}, {off, -most}, {off, most}, {-off, most}}};
@@ -218,7 +221,7 @@ static struct verdict judge_axis(const struct timed_line *lines, int axis, const
             pulse(&reached, bounds, line, line->step[axis], &moment_ns);
         }
         if (reached.count <= 2) {
-            return at_most("no motor follows within its acceleration: axis", at, axis, -1);
+            return at_most(what[axis], at, INFINITY, off);
         }
     }
     return right();

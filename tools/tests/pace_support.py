@@ -45,7 +45,7 @@ def by_turns() -> str:
 
 def fine_spline() -> str:
     """A wave of lines of 0.004 mm: of one or two steps of 3,125 nm, whose periods differ."""
-    points = ((0.004 * k, 0.2 * math.sin(0.02 * k)) for k in range(1, 1501))
+    points = ((0.004 * k, 0.5 * math.sin(0.004 * k)) for k in range(1, 3001))
     return "".join(f"X{x:.4f}Y{y:.4f}\n" for x, y in points)
 
 

@@ -190,7 +190,7 @@ class Refused(InFolder):
 
     def test_corners(self) -> None:
         """A right angle is turned at sqrt(8 a slack) steps a second at most, or half a step more; not at full rate."""
-        for ramp, allowed in ((4, ""), (500, "no motor follows within its acceleration")):
+        for ramp, allowed in ((4, ""), (500, "no motor follows X within its acceleration")):
             moments = self.there(self.accel, ramp, 2)
             half = len(moments) // 2
             lines = ["P 1 0 0 1"] * half + ["P 0 1 0 1"] * (len(moments) - 1 - half) + [STOP]
@@ -213,15 +213,24 @@ class Refused(InFolder):
 class ByChance(unittest.TestCase):
     """Of tools/player, over streams by chance with motors by chance, held, slowed down and starved."""
 
-    def test_right(self) -> None:
-        """The judge finds nothing."""
+    def judged(self, count: int, percent: int) -> tuple[int, int, str]:
+        """How many of so many streams are right, where the judge is told of so much of the motors' acceleration; how
+        many lines there are; and what is said."""
         program = with_pacer("judge_chance.c", "-O2",
                              beside=("chance_paced.c", "chance_streams.c", "judge_rates.c", "judge_motion.c"))
-        done = subprocess.run([program, "1", str(STREAMS)], capture_output=True, text=True)
-        self.assertEqual((done.returncode, done.stderr), (0, ""), done.stdout)
-        streams, lines = map(int, done.stdout.split())
-        self.assertEqual(streams, STREAMS)
+        done = subprocess.run([program, "1", str(count), str(percent)], capture_output=True, text=True, check=True)
+        right, lines = map(int, done.stdout.splitlines()[-1].split())
+        return right, lines, done.stdout
+
+    def test_right(self) -> None:
+        """The judge finds nothing."""
+        right, lines, said = self.judged(STREAMS, 100)
+        self.assertEqual(right, STREAMS, said)
         self.assertGreater(lines, 1000 * STREAMS)
+
+    def test_wrong(self) -> None:
+        """For motors of a hundredth less acceleration it refuses the same times of most streams."""
+        self.assertLess(self.judged(100, 99)[0], 40)
 
 
 class Rotor(OfPrograms):
