@@ -1,1 +1,2 @@
 mod ByteWriteLemmas
+mod CacheLemmas

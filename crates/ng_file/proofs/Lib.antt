@@ -5,3 +5,4 @@ pub mod ByteAppendLemmas
 pub mod ZeroAppendLemmas
 mod StopLemmas
 pub mod HandOutLemmas
+pub mod WeakPromiseLemmas

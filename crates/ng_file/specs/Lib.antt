@@ -4,3 +4,4 @@ pub mod Rig
 pub mod Promise
 pub mod Sectors
 pub mod HandOuts
+pub mod WeakPromise

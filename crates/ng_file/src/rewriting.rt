@@ -1,5 +1,6 @@
 //! Writing sectors of a file again as they are.
 ghost use Rattle.std.specs.Prelude.{◌≡◌, ◌+◌, ◌*◌, ◌<◌, ◌^◌, IfSome, Some};
+ghost use Rattle.ng_file.specs.WeakPromise.{IfWeaklyPromised, IsOuter, Rewrites};
 
 use crate::storage::{SECTOR, Storage};
 use std::io;
@@ -12,6 +13,8 @@ use std::io;
 pub fn rewrite<S: Storage>(file: &mut S) -> io::Result<()>
     ensures same { IfSome (S.content file.old) (λ held. S.content file.new ≡ Some held) }
     ensures honest { (S.promise file.old).honest → (S.promise file.new).honest }
+    ensures weakly { IfWeaklyPromised (S.weak_promise file.old) (S.weak_promise file.new)
+        (Rewrites result (S.content file.old) (S.weak_promise file.old) (S.weak_promise file.new) IsOuter) }
 {
     let sectors = file.length()? / SECTOR as u64;
     rewrite_sector(file, 0)?;
@@ -24,6 +27,8 @@ pub(crate) fn rewrite_sector<S: Storage>(file: &mut S, sector: u64) -> io::Resul
     requires { 512 * sector + 512 < 2 ^ 64 }
     ensures same { IfSome (S.content file.old) (λ held. S.content file.new ≡ Some held) }
     ensures honest { (S.promise file.old).honest → (S.promise file.new).honest }
+    ensures weakly { IfWeaklyPromised (S.weak_promise file.old) (S.weak_promise file.new)
+        (Rewrites result (S.content file.old) (S.weak_promise file.old) (S.weak_promise file.new) (λ held n. n ≡ sector)) }
 {
     let mut bytes = [0; SECTOR];
     let place = sector * SECTOR as u64;
