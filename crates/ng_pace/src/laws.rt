@@ -8,7 +8,8 @@ ghost use Rattle.ng_pace.specs.Legs.{Leg};
 ghost use Rattle.ng_pace.specs.Calls.{IsEmpty};
 ghost use Rattle.ng_pace.specs.Paths.{KeepsToPaths};
 ghost use Rattle.ng_pace.specs.Putting.{IsUnderway, KeepSoFar};
-ghost use Rattle.ng_pace.specs.Run.{Event, IsRun, AsksOnly, HoldsOnly, IsPacedBeginning, IsGivenOut, IsStopped, lines_given};
+ghost use Rattle.ng_pace.specs.Run.{Event, IsRun, AsksOnly, HoldsOnly, lines_given};
+ghost use Rattle.ng_pace.specs.Run.{IsPacedBeginning, IsGivenOut, IsStopped};
 ghost use Rattle.ng_pace.specs.Speed.{KeepAcceleration};
 
 /// For any items, whatever is wanted and whenever the items come: what was given out is a beginning of what was put

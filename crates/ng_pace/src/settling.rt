@@ -15,7 +15,7 @@ use std::collections::VecDeque;
 #[derive(Clone, Copy, Debug)]
 pub(crate) enum Ending {
     GoesOn,
-    /// Nothing, before everything stands still: a motor may stop at this square at once, in parts of 256.
+    /// Everything stands still then. A motor may stop at this square at once, in parts of 256.
     Ends(u64),
 }
 
