@@ -12,6 +12,7 @@ use Rattle.ng_pace.specs.Rest.{CanRest}
 use Rattle.ng_pace.specs.Run.{ArePassed, AsksOnly, Event, put, end, ask, IsRun, lines_given}
 use Rattle.ng_pace.specs.Start.{start_of}
 use Rattle.ng_pace.proofs.PathsLemmas.{keeps-to-paths}
+use Rattle.ng_pace.proofs.SpeedRunLemmas.{keeps-acceleration}
 use Rattle.ng_pace.proofs.WholeStreamLemmas.{paced}
 use Rattle.ng_schedule.specs.Schedule.{ArePaced, AskForMost, AskLate, AskWhereFull, Timed, capacity, times_of}
 use Rattle.ng_schedule.specs.Private.Parts.{AskLateSoFar, IsStreamed}
@@ -206,6 +207,7 @@ module _ (limits : Limits) where
             (lines_given here.events) flow.motion.square) here.empty.percent
             (subst (λ (start : ℕ). ArePassed start here.first.motion.percent here.first.motion.square
             (lines_given here.events) flow.motion.square) here.empty.start passed));
+        speeds = keeps-acceleration here.first limits capacity here.events flow here.empty here.run;
         axes = keeps-to-paths here.first limits capacity here.events flow here.empty here.run;
       }
 

@@ -10,6 +10,7 @@ use Rattle.ng_pace.specs.Due.{due_ns, least_ns}
 use Rattle.ng_pace.specs.Stream.{Flow}
 use Rattle.ng_pace.specs.Paths.{KeepsToPaths}
 use Rattle.ng_pace.specs.Run.{ArePassed, AsksOnly, Event, put, end, ask, IsRun, lines_given}
+use Rattle.ng_pace.specs.Speed.{KeepAcceleration}
 use Rattle.ng_pace.specs.Start.{start_of}
 use Rattle.ng_pace.specs.declared.limits.Limits.{Limits}
 use Rattle.ng_pace.specs.declared.stepping.Given.{Given}
@@ -89,6 +90,8 @@ pub record ArePaced (limits : Limits) (timed : List Timed) (left : ℕ) : Type 0
   pub times : timed ≡ times_of (lines_given events)
   -- from rest, the square goes from line to line within the ramp of each, and each takes the time of its squares
   pub squares : ArePassed (start_of limits) limits.most_percent 0 (lines_given events) left
+  -- from pulse to pulse the rate changes as the ramps allow
+  pub speeds : KeepAcceleration (lines_given events)
   -- no axis is asked for more than its acceleration and its greatest rate
   pub axes : KeepsToPaths limits (start_of limits) events last
 
