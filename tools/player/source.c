@@ -82,6 +82,9 @@ bool source_open(struct source *source, const char *path, int pipe_bytes, bool f
     if (!source->is_pipe && is_device(source->file)) {
         return because(why, "%s: it is a device, and no OUT", path);
     }
+    if (source_error() != 0) {
+        return because(why, "%s: %s", path, strerror(source_error()));
+    }
     if (source->is_pipe) {
         resize(source, pipe_bytes);
     }

@@ -821,10 +821,12 @@ class TimesWithRamps(InFolder):
         self.wait_for("all has ended", lambda: not (is_alive(child) or is_alive(run) or device.parent.exists()))
 
     def test_refused(self) -> None:
-        """A machine that `ngc pace` refuses, and a file that isn't there; one without [motion] is for other things."""
+        """A machine that can't be used, and a file that isn't there; one without [motion] is for other things."""
         Path("wrong.toml").write_text("[motion]\naccel_mm_s2 = [0, 20, 20]\n")
-        Path("other.toml").write_text("[other]\nheight = 1\n")
-        for name, status, said in (("wrong.toml", 2, "ngc-operate: wrong.toml: accel_mm_s2: not three whole numbers"),
+        Path("other.toml").write_text("[setter]\nheight_um = 1\n")
+        Path("odd.toml").write_text("[Inputs]\n")
+        for name, status, said in (("wrong.toml", 2, "ngc-operate: wrong.toml: motion: accel_mm_s2 takes three whole"),
+                                   ("odd.toml", 2, "ngc-operate: odd.toml: Inputs isn't one of the nine tables"),
                                    ("none.toml", 2, "ngc-operate: none.toml: No such file or directory\n"),
                                    ("other.toml", 0, "")):
             done = self.tool("ngc-operate", *operate("mill.dev", "first.toml", "out", "--machine", name), text="quit\n")

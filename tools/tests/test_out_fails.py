@@ -44,20 +44,20 @@ class OutFails:
     """Each with both players."""
 
     def setUp(self) -> None:
-        """300 pulses with the spindle on, and a disk that fails behind 320 bytes of them."""
+        """300 pulses with the spindle on, and a disk that fails behind 1,280 bytes of them."""
         super().setUp()
         Path("out").write_text("S 1 1000.000000 0 0 0 0\n" + 300 * LINE)
         Path("broken").touch()
-        self.env = {**preloaded("disk", BROKEN), "NGC_BROKEN": "320"}
+        self.env = {**preloaded("disk", BROKEN), "NGC_BROKEN": "1280"}
 
     def test_named(self) -> None:
-        """It isn't taken for OUT's end, which is 301 lines. Read are 5 times 64 bytes: 26 whole pulses."""
+        """It isn't taken for OUT's end, which is 301 lines. Read are 20 times 64 bytes: 114 whole pulses."""
         done = self.play("--untimed", env=self.env)
-        self.assertEqual((done.returncode, done.stderr), (2, f"out: stopped after line 27: {NOT_READ}"))
+        self.assertEqual((done.returncode, done.stderr), (2, f"out: stopped after line 115: {NOT_READ}"))
         made = Path("pins").read_text().splitlines()
-        self.assertEqual(made, ["S 1 1000.000000 0 0 0 0", *["P 1 0 0 50"] * 26, "off"])
+        self.assertEqual(made, ["S 1 1000.000000 0 0 0 0", *["P 1 0 0 50"] * 114, "off"])
         found = Record.read("position")
-        self.assertEqual((found.lines, found.stopped, found.mark), (27, "out", None))
+        self.assertEqual((found.lines, found.stopped, found.mark), (115, "out", None))
         os.unlink("broken")  # the disk is well again
         done = self.play("--untimed", env=self.env)
         self.assertEqual((done.returncode, Record.read("position").lines), (0, 301))

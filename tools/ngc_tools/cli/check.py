@@ -65,8 +65,8 @@ def make_parser() -> argparse.ArgumentParser:
     parser.add_argument("--block-delete", action="store_true", help="leave out the lines that begin with a slash")
     parser.add_argument("--large", action="store_true",
                         help=f"the device is large: a program may have {MOST_LARGE_PROGRAM:,} bytes")
-    parser.add_argument("--most", metavar="N", type=whole_number, help="stop after N refusals, 0 for none;"
-                        f" else after {MOST}, or after {MOST_ASKED:,} dry runs for them")
+    parser.add_argument("--most", metavar="N", type=whole_number, help="stop after N refusals; with 0 all are"
+                        f" found, without the word {MOST}, or those of {MOST_ASKED:,} dry runs")
     add_ngc(parser)
     return parser
 

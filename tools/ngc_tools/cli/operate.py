@@ -76,7 +76,7 @@ def main(arguments: list[str] | None = None) -> int:
 
 def work(args: argparse.Namespace) -> int:
     """Looks at what is given, and does the session. Raises WrongWords, CannotBegin, NoAnswer, BadSettings, BadMachine,
-    BadSetter, ValueError, OSError."""
+    ValueError, OSError."""
     check_ahead(args)
     ngc = find_ngc(args.ngc)
     setter = Setter.read(args.machine) if args.machine else Setter()

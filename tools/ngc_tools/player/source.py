@@ -21,6 +21,7 @@ PIPE_BYTES = 4096
 HAND_BYTES = 64  # read at once
 MOST_BYTES = 1 << 18  # in hand: 8,192 lines of 32 bytes, and no line has more
 TAIL_BYTES = 4096  # of which a digest is kept
+_BEGIN = 1024  # bytes that tell a device
 
 
 class OtherFile(Failure):
@@ -43,8 +44,6 @@ class Source:
             raise IsADirectoryError(errno.EISDIR, os.strerror(errno.EISDIR), self.path)
         if not self.is_pipe and not self.is_file:
             raise OSError(errno.EINVAL, "neither a file nor a named pipe", self.path)
-        if self.is_file and is_device(os.pread(self.file, TAIL_BYTES, 0)):
-            raise OSError(errno.EINVAL, "it is a device, and no OUT", self.path)
         self.follow = follow and not self.is_pipe
         self.pipe_bytes = _resize(self.file, pipe_bytes) if self.is_pipe else 0
         self.failed: OSError | None = None  # why it can't be read any more
@@ -54,6 +53,10 @@ class Source:
         self._lines: deque[bytes] = deque()
         self._part = b""
         self._held = 0  # bytes of `_lines`
+        if self.is_file and is_device(self._read_at(0, _BEGIN)):
+            raise OSError(errno.EINVAL, "it is a device, and no OUT", self.path)
+        if self.failed:
+            raise self.failed
 
     def close(self) -> None:
         """Reads nothing more."""
