@@ -240,6 +240,7 @@ class Work(Served):
             state = page.until("it waits", lambda state, tool=tool: state["waits"] and state["waits_tool"] == tool and
                                state["half"] == "program")
             self.assertEqual((state["line"], state["tool_length"], state["work"][2]), (line, length, z))
+            self.assertEqual(state["began_at"], state["motors"])  # `ngc` is some lines ahead
             self.assertEqual(page.post("go"), (200, {}))
         state = page.until("it stopped", lambda state: state["does"] == "stopped" and not state["busy"]
                            and not state["behind"])

@@ -4,7 +4,6 @@ import re
 import signal
 import sys
 import threading
-import time
 import unittest
 from dataclasses import replace
 from functools import cache
@@ -16,7 +15,7 @@ sys.path.insert(0, str(Path(__file__).resolve().parent))
 from browser_support import LONG, Browser  # noqa: E402
 from firefox_support import IS_FIREFOX, MISSING, PATH, start  # noqa: E402
 from machine_support import SocketMachine  # noqa: E402
-from page_support import OTHER, SHORT, SLOW, Page, Served  # noqa: E402
+from page_support import OTHER, SHORT, SLOW, Page, Served, slow_by  # noqa: E402
 from session_support import PATIENCE_S, TOOLS, ngc  # noqa: E402
 
 from ngc_tools.formats.device import Device  # noqa: E402
@@ -58,6 +57,20 @@ OVER = """(() => {
             out.push(`${one.id || one.textContent} under ${over}`);
         }
         if (!isUnder && (box.left < 0 || box.right > innerWidth + 0.5)) out.push(`${one.id || one.textContent} is out`);
+        const isCut = one.scrollWidth > one.clientWidth + 1 || one.scrollHeight > one.clientHeight + 1;
+        if (!isUnder && isCut) out.push(`${one.id || one.textContent} is cut`);
+    }
+    document.querySelector('main').scrollTop = 0;
+    for (const [x, y] of [[far.left + 9, far.top + 9], [far.right - 9, far.top + 9], [far.left + 9, far.bottom - 9],
+      [far.right - 9, far.bottom - 9]]) {
+      if (!document.elementFromPoint(x, y)?.closest('#hold')) out.push('something lies over Hold');
+    }
+    const panels = [...document.querySelectorAll('#state, footer, main > section')].filter(one => one.checkVisibility())
+      .map(one => [one.className || one.id || one.tagName, one.getBoundingClientRect()]);
+    const inMain = name => ['place', 'path', 'side'].includes(name);
+    for (const [a, p] of panels) for (const [b, q] of panels) {
+      const isApart = p.right <= q.left + 1 || q.right <= p.left + 1 || p.bottom <= q.top + 1 || q.bottom <= p.top + 1;
+      if (a < b && inMain(a) === inMain(b) && !isApart) out.push(`${a} and ${b} overlap`);
     }
     const scale = document.getElementById('scale').getBoundingClientRect();
     for (const one of document.querySelectorAll('.path .views button, #legend')) {
@@ -69,7 +82,8 @@ OVER = """(() => {
     document.querySelector('main').scrollTop = 0;
     return out;
 })()"""
-"""What lies over a button or an entry, or is out of the window to the side; whether Hold isn't on the screen."""
+"""What lies over a button, an entry or Hold, or is out of the window to the side; panels that overlap; whether Hold
+isn't on the screen."""
 LOW = """Math.max(...['.place', '#modes'].map(name => document.querySelector(name))
     .map(one => one.scrollHeight - one.clientHeight))"""
 """By how much what stands on the left, or its last line, goes below its edge."""
@@ -148,14 +162,6 @@ def keep_checking(page: Page, over: threading.Event) -> None:
     """Has programs checked, one after the other."""
     while not over.is_set():
         page.post("check", b"G1 X1 F60\n" * 2000, X_Name="long.ngc", Content_Type="application/octet-stream")
-
-
-def slow_by() -> float:
-    """How many times as long something takes as it takes processor time now, since others want it too."""
-    begun, begun_cpu = time.monotonic(), time.thread_time()
-    while time.thread_time() < begun_cpu + 0.03:
-        pass
-    return (time.monotonic() - begun) / 0.03
 
 
 @unittest.skipUnless(PATH, MISSING)
@@ -369,6 +375,41 @@ class Work(InBrowser):
         self.look("held")
         self.no_complaints()
 
+    def test_second_run(self) -> None:
+        """A program that ran to its end is done, and isn't any more once it runs again; then it begins at line 1."""
+        browser, shown = self.browser, "[document.getElementById('share').textContent, document.getElementById('bar')" \
+            ".style.width]"
+        self.load("G17 G21 G90 G94\nG1 X0.3 F6\nX0\nM2\n", 4)
+        browser.press("Run", "#run")
+        browser.wait("ngc.state.finished && !ngc.state.busy")
+        self.assertEqual(browser.js(shown), ["Done", "100%"])
+        browser.hurry()
+        browser.press("Run", "#run")
+        browser.wait("ngc.state.busy && ngc.state.line === 2 && ngc.state.motors[0] > 0.05")
+        share, width = browser.js(shown)
+        self.assertRegex(share, r"^\d+ % of 6\.\d s$")
+        self.assertLess(float(width.removesuffix("%")), 50)
+        self.no_complaints()
+
+    def test_typed_ahead(self) -> None:
+        """A line that is typed before the one before it is answered stays."""
+        browser = self.browser
+        browser.js("""void (window.fetched = window.fetch, window.fetch = async (what, ...more) => {
+            const answer = await fetched(what, ...more);
+            if (what === 'mdi') await new Promise(done => { window.answers = done; });
+            return answer;
+        })""")
+        for line, more in (("G0 X0.01", "G0 X0.02"), ("G0 X0.02", "G0 X0.02")):
+            browser.fill("#line", line)
+            browser.press("Do", "#do")
+            browser.wait(f"window.answers && !ngc.state.busy && Number(ngc.state.at[0]) === {line[4:]}")
+            browser.fill("#line", more)
+            browser.js("void (answers(), window.answers = null)")
+            browser.wait(f"document.getElementById('line').value === '{more if line != more else ''}'")
+            browser.frame()
+            self.assertEqual(browser.js("document.getElementById('line').value"), more if line != more else "")
+        self.no_complaints()
+
     def test_fetched_again(self) -> None:
         """A path whose fetch fails is fetched again."""
         self.browser.js("""(() => {
@@ -393,9 +434,15 @@ class Work(InBrowser):
         self.assertEqual(shown[1:3], ["not known", "not known"])
 
     def test_drawn_anew(self) -> None:
-        """Once another program is loaded nothing is shown that was drawn of the one before."""
-        browser = self.browser
+        """While another program is looked at the one that is stored can't be run; once it is loaded nothing is shown
+        that was drawn of the one before."""
+        browser, is_dead = self.browser, "document.getElementById('run').disabled"
         self.load(SLOW, 4)
+        self.assertFalse(browser.js(is_dead))
+        self.choose("M30\n", "other.ngc")
+        self.assertTrue(browser.js(is_dead))
+        browser.press("Back", "#over button")
+        browser.wait(f"!{is_dead}")
         browser.js("""void (window.fetched = window.fetch,
             window.fetch = (what, ...more) => what === 'job' ? new Promise(() => {}) : fetched(what, ...more))""")
         self.choose("M2\n", "other.ngc")
@@ -542,7 +589,9 @@ class Power(InBrowser):
     def test_recovery(self) -> None:
         """The page says that it is lost, begins anew with the new session, and leads through four steps to the cut."""
         browser = self.browser
-        self.load("M3 S100\n" + SLOW, 5)
+        self.load("M3 S100 M8\n" + SLOW, 5)
+        browser.press("Optional stop", ".switches button")
+        browser.wait("ngc.state.optional")
         browser.press("Run", "#run")
         browser.wait("ngc.state.line === 4 && ngc.state.motors[0] > 0.02")
         before = browser.js("ngc.state.session")
@@ -552,13 +601,16 @@ class Power(InBrowser):
         browser.wait(f"ngc.state?.session && ngc.state.session !== '{before}'")
         browser.wait("document.querySelector('#over .facts')?.textContent.includes('It begins at')")
         self.look("what was stored")
+        self.assertIn("Given back, as it was: optional stop.", browser.js("document.querySelector('#over .words')"
+                                                                          ".textContent"))
+        self.assertTrue(browser.js("ngc.state.optional"))
         self.not_rehearsed()
         self.press_amid_news("Next")
         self.assertTrue(browser.js("document.querySelector('#over .foot .go').disabled"))
         said = browser.js("document.querySelector('#over .words').textContent")
         off = re.search(r"they make at most .* lines?(?: of OUT)?, ([0-9.]+) mm", said)[1]
         shown = "[...document.querySelectorAll('#over .confirm button')].map(one => one.textContent).join()"
-        self.assertEqual(browser.js(shown), ",".join([f"Confirm, \u00b1 {off} mm"] * 3))
+        self.assertEqual(browser.js(shown), ",".join([f"Confirm, \u00b1\u00a0{off}\u00a0mm"] * 3))
         for _ in range(3):
             browser.press("Confirm", "#over button")
         self.look("where it stands")

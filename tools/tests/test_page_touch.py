@@ -87,6 +87,20 @@ class Fingers(test_page_browser.Moves):
         browser.wait("ngc.state.homed === 'XYZ' && !ngc.state.busy")
         self.assertFalse(browser.js("document.getElementById('toast').checkVisibility()"))
 
+    def test_warned(self) -> None:
+        """What a touch-off warns of stands where the finger was too."""
+        browser = self.browser
+        browser.press("Home all", "#tab-setup button")
+        browser.wait("ngc.state.homed === 'XYZ' && !ngc.state.busy")
+        browser.fill("#line", "G92 Z0")
+        browser.press("Do", "#do")
+        browser.wait("ngc.state.work[2] === '0.000000' && !ngc.state.busy")
+        browser.press("Set Z", "#tab-setup button")
+        says = browser.wait("document.getElementById('toast').checkVisibility() && document.getElementById('toast')"
+                            ".textContent")
+        self.assertTrue(says.startswith("a G92 offset is in force, X0 Y0 Z-2, and is allowed for."), says)
+        self.no_complaints()
+
     def test_two_places(self) -> None:
         """Where the motors rest elsewhere than the last line ended, by a step or more, the page asks which is so."""
         browser = self.browser
@@ -159,6 +173,11 @@ class Fingers(test_page_browser.Moves):
         self.assertEqual(browser.js(f"[{x}, {unit}]"), ["\u2212298.000", "mm"])
         browser.press("Readout in inches", "#tab-setup button")
         self.assertEqual(browser.js(f"[{x}, {unit}]"), ["\u221211.7323", "in"])  # 298 / 25.4
+        amber = "document.querySelector('.axis small').classList.contains('apart')"
+        self.assertTrue(browser.js(amber))  # the program's are millimetres
+        browser.fill("#line", "G20")
+        browser.press("Do", "#do")
+        browser.wait(f"ngc.state.unit === 20 && !{amber}")
         browser.open(self.address)
         browser.wait(f"window.ngc?.state?.yours && {unit} === 'in'")
         browser.js("void localStorage.removeItem('unit')")

@@ -105,7 +105,7 @@ class Pictured:
                                       "looks": self._looks() if self._is_look else []}
         return {"does": status.does, "half": status.half, "segment": status.segment, "known": status.known,
                 "entries": status.entries, "line": self.number, "place": status.place, "at": status.at,
-                "began_at": list(map(millimetres, state.point_nm)) if state.half else status.at,
+                "began_at": self._began_at,
                 "own": session.own, "optional": session.optional, "delete": session.delete, "single": session.single,
                 "question": question, "message": face.message, "half_opened": state.opened,
                 "half_text": shown_line(state.half_text) if state.half else "",
@@ -113,6 +113,14 @@ class Pictured:
                 "press": self.session.jogs.last,
                 "apart": self._apart, "held_by": self._held_by, "door_open": self.operator.session.is_door_open,
                 "command": self.command and {"word": self.command.word, "since": self.command.since}}
+
+    @property
+    def _began_at(self) -> list[str] | tuple[str, ...]:
+        """Where the line under way began: one with a tool change where the motors wait for the tool."""
+        if self._change is not None and self.report:
+            return self.report.at.split()
+        state = self.device.state
+        return list(map(millimetres, state.point_nm)) if state.half else self.status.at
 
     @property
     def _is_look(self) -> bool:

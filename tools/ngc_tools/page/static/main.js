@@ -39,6 +39,9 @@ const alarm = new Alarm(asks, () => { if (recovery.isOpen) recovery.later(); });
 Object.assign(app, { picture, program, readout, dead });
 $('run').addEventListener('click', () => rest($('run'))); // the second tap of two means nothing
 
+new MutationObserver(() => { if (app.state) showControls(app.state); })
+  .observe($('over'), { attributes: true, attributeFilter: ['hidden'] });
+
 // Asks the server for something. Gives its answer, or null where it isn't done; `refused` is told why.
 async function asks(what, body, refused = why => log.refuse(why)) {
   try {
@@ -148,9 +151,10 @@ function running(s) {
   if (s.held_motors && s.behind && s.does !== 'held' && !s.busy) return ['Go on', s.yours, () => asks('release')];
   if (s.does === 'held') return ['Continue', s.yours && !s.busy, run];
   if (s.apart.some(Boolean) || isNowhere(s)) return ['Where is it?', app.isRest, whereIsIt];
-  if (s.does === 'stopped') return ['Continue', app.isRest, () => (s.typed ? goOn(s, 'Continue') : run())];
-  if (s.place > 0 && !s.busy) return [`Run from ${s.line}`, app.isRest && s.known, () => goOn(s, `Run from ${s.line}`)];
-  return ['Run', app.isRest && s.known && s.program.lines > 0 && !app.job?.refused, run];
+  const isFree = app.isRest && $('over').hidden; // on a sheet something else is asked, as of another program
+  if (s.does === 'stopped') return ['Continue', isFree, () => (s.typed ? goOn(s, 'Continue') : run())];
+  if (s.place > 0 && !s.busy) return [`Run from ${s.line}`, isFree && s.known, () => goOn(s, `Run from ${s.line}`)];
+  return ['Run', isFree && s.known && s.program.lines > 0 && !app.job?.refused, run];
 }
 
 // Nothing is half-done, and nobody told since where the machine is: as after a line was given up.
@@ -333,7 +337,7 @@ $('typed').addEventListener('submit', async event => {
   const line = $('line').value.trim();
   if (!line || !await asks('mdi', { line })) return;
   typed = line;
-  $('line').value = '';
+  if ($('line').value.trim() === line) $('line').value = ''; // else the next one is typed already
   enableDo();
 });
 for (const name of ['single', 'optional', 'delete']) {

@@ -230,7 +230,7 @@ export class Recovery {
   confirm(i, changed) {
     const { state } = this.app, button = el('button');
     const isRecord = () => state.past_mm && Number(this.at[i]) === Number(state.motors?.[i]);
-    const off = () => (isRecord() ? `, \u00b1 ${mm(state.past_mm)} mm` : '');
+    const off = () => (isRecord() ? `, \u00b1\u00a0${mm(state.past_mm)}\u00a0mm` : '');
     const input = el('input', { value: this.at[i], inputMode: 'decimal', 'aria-label': `Machine ${AXES[i]}` });
     const set = isSure => {
       this.sure[i] = isSure && typedNumber(input.value) !== null;
