@@ -36,6 +36,8 @@ STEPS = 50
 BEGINS_S = 1.0
 """So soon what was asked for has begun; what moves before may be just that. Of what a page asked for before it was
 loaded anew, or another one was used, nothing else tells when it was answered."""
+STILL_S = 0.15
+"""Motors that made no pulse for so long rest, but in a dwell."""
 WAYS = 60
 """In so many steps a person has to get on, whatever came; to wait is none, unless nothing comes of it."""
 ANSWER_S = 2.0
@@ -71,7 +73,8 @@ _WEIGHTS: tuple[tuple[str, float], ...] = (
     (r"^(Top|3-D|Fit|Light|Dark|All that)", 0.2), (r"^Quit", 0.25), (r"^(Load\u2026|Hold|Do$)", 0),
 )
 _WAYS_ON = (
-    r"Take over", r"Yes, give it up", r"(They|It) stand", r"Tool .* (is in|is out|in)$", r"Home$", r"Drop", r"Give up",
+    r"Take over", r"Yes, give it up", r"Yes: cuts", r"(They|It) stand", r"Tool .* (is in|is out|in)$", r"Home$", r"Drop",
+    r"Give up",
     r"Where is", r"Where the player counts", r"No\b", r"Next", r"Confirm", r"Start ngc again", r"Stop$", r"Yes",
     r"It is done", r"Recover", r"Home all$",
     r"Continue", r"Let go on", r"Go on", r"Back", r"Close", r"Load")
@@ -162,7 +165,7 @@ class Walk:
             else:
                 self.judge.moves()
             now, truth = time.monotonic(), self.truth
-            is_still = self.bench.mill.last_pulse_at() < now - 0.15
+            is_still = self.bench.mill.last_pulse_at() < now - STILL_S
             if is_still and now - begun > 0.12 and not self._is_busy():
                 if self._is_over(now):
                     truth.rest()
@@ -181,11 +184,13 @@ class Walk:
 
     def _is_over(self, now: float) -> bool:
         """Whether what was asked for last is over, or nothing has come of it in the time in which it begins; and all
-        that moved was looked at."""
-        seen, truth = self.seen, self.truth
+        that moved was looked at. A player that is late pauses, and isn't through yet."""
+        seen, truth, mill = self.seen, self.truth, self.bench.mill
+        slack_s = self.judge.slack_s(truth.touched_at)
         is_answered = seen is None or not seen.asks and seen.now > seen.answered
-        has_begun = now > truth.touched_at + BEGINS_S + self.judge.slack_s(truth.touched_at)
-        return is_answered and has_begun and self.bench.mill.pulses == truth.quiet_pulses
+        is_through = seen is None or not self.bench.has_player() or seen.held or not seen.behind
+        rests = mill.last_pulse_at() < now - STILL_S - slack_s and mill.pulses == truth.quiet_pulses
+        return is_answered and is_through and rests and now > truth.touched_at + BEGINS_S + slack_s
 
     def _homed(self) -> None:
         """Once all axes are homed the person knows where the machine is, whatever was told before."""
@@ -440,7 +445,13 @@ class Walk:
         self._rests_now()
 
     def _rests_now(self) -> None:
-        """The motors rest, and nobody asked for motion since."""
+        """The motors rest, and nobody asked for motion since. A player that is late may pause before that."""
+        mill, begun = self.bench.mill, time.monotonic()
+        slack_s = self.judge.slack_s(begun)
+        while mill.last_pulse_at() > time.monotonic() - 2 * STILL_S - slack_s:
+            if time.monotonic() > begun + 1 + 3 * slack_s:
+                return
+            time.sleep(0.02)
         self.judge.moves()
         self.truth.may_move = False
 

@@ -64,8 +64,9 @@ def refuses(given: deeds.Given) -> dict | None:
 
 
 def hold(session: PageSession, *given: object) -> None:
-    """A hold that comes late."""
-    time.sleep(2.0 if planted() == "late" else 0)
+    """A hold that comes late, by as many seconds as are named."""
+    word, _, seconds = planted().partition(" ")
+    time.sleep(float(seconds) if word == "late" else 0)
     HOLD(session, *given)
 
 
