@@ -21,12 +21,14 @@ from session_support import PATIENCE_S, TOOLS, InFolder, is_alive  # noqa: E402
 from tests.aside_work import take_memory, work_for_ever  # noqa: E402
 
 from ngc_tools import scratch  # noqa: E402
+from ngc_tools.cli import page as page_module  # noqa: E402
 from ngc_tools.cli.page import key_of, listening  # noqa: E402
 from ngc_tools.failure import WrongWords  # noqa: E402
 from ngc_tools.operator.face import MESSAGE  # noqa: E402
 from ngc_tools.page import aside as aside_module  # noqa: E402
 from ngc_tools.page import server as server_module  # noqa: E402
 from ngc_tools.page.aside import Aside, NotDone, Wanted  # noqa: E402
+from ngc_tools.page.deeds import Given  # noqa: E402
 from ngc_tools.page.face import PageFace  # noqa: E402
 from ngc_tools.page.jog import HeldJog  # noqa: E402
 from ngc_tools.page.server import MOST_CONNECTIONS, Server  # noqa: E402
@@ -238,6 +240,24 @@ class Floods(Served):
         self.assertTrue(self.session.works.wait(PATIENCE_S))
         self.wait_for("all end", lambda: self.session.ended.count("check") >= 2)
 
+    def test_rehearsal(self) -> None:
+        """A rehearsal ends with the connection of whoever asked for it."""
+        page, over = self.page(), threading.Event()
+
+        def rehearse(given: Given) -> dict:
+            given.wanted.by(SimpleNamespace(give_up=over.set))
+            self.session.works.set()
+            over.wait(PATIENCE_S)
+            self.session.ended.append("rehearsal")
+            return {}
+
+        with mock.patch.dict(server_module.DEEDS, rehearse=rehearse):
+            more = f"Content-Length: 2\r\nX-Stamp: {page.now()}\r\n"
+            link = self.connect(self.head("rehearse", more, page=PAGE) + "{}")
+            self.assertTrue(self.session.works.wait(PATIENCE_S))
+            link.close()
+            self.wait_for("it ends", lambda: "rehearsal" in self.session.ended)
+
     def test_streams(self) -> None:
         """Streams that nobody reads; each page but those four is refused, and the one that was there stays."""
         page = self.page()
@@ -296,6 +316,21 @@ class Texts(Served):
         with mock.patch.object(face, "publish", lambda: self.session.held.append(face.question)):
             face.agrees("\u202ego? ")
         self.assertEqual(self.session.held[0].text, "\\u202ego?")
+
+
+class Opened(unittest.TestCase):
+    """What a session of the page begins with."""
+
+    def test_starts(self) -> None:
+        """The player's words that start motors, and the ticks of `ngc`, go by the level of the page's face."""
+        face, link, console = PageFace(), SimpleNamespace(), SimpleNamespace(status=lambda: None)
+        operator = SimpleNamespace(recover=SimpleNamespace(found=None))
+        for name, fake in (("Operator", lambda *_: operator), ("bound", lambda *_: ""), ("Link", lambda *_: None)):
+            self.enterContext(mock.patch.object(page_module, name, fake))
+        self.enterContext(mock.patch.object(page_module.Opener, "_has_moves", lambda *_: False))
+        args = SimpleNamespace(machine=None, player="progress")
+        page_module.Opener("ngc", args)._opened(console, face, SimpleNamespace(link=link), (None, 0.0), None, None)
+        self.assertEqual((console.starts, link.starts), (face.level.start, face.level.start))
 
 
 class Keys(unittest.TestCase):

@@ -119,9 +119,10 @@ class Connection:
             raise RequestRefused(HTTPStatus.BAD_REQUEST, "no JSON") from None
         if not isinstance(words, dict):
             raise RequestRefused(HTTPStatus.BAD_REQUEST, "no object")
-        return packed(await self.server.do(path, page, words, request.headers.get("x-stamp", "")))
+        does = self.server.do(path, page, words, request.headers.get("x-stamp", ""))
+        return packed(await (self._while_there(does) if path == "rehearse" else does))
 
-    async def _while_there(self, work: Coroutine[Any, Any, bytes]) -> bytes:
+    async def _while_there(self, work: Coroutine) -> Any:
         """The result of work that takes long, which ends where nobody waits for it any more. Raises OSError, and what
         it raises."""
         task = asyncio.ensure_future(work)

@@ -218,7 +218,11 @@ class Server:
         if name not in _AT_ANY_AGE:
             self.pages.check_age(Stamp.read(stamp))
         given = Given(self.session, self.pages, self._checked, words, self.session.face.holds)
-        done = await asyncio.to_thread(DEEDS[name], given) if name in WAITING else DEEDS[name](given)
+        try:
+            done = await asyncio.to_thread(DEEDS[name], given) if name in WAITING else DEEDS[name](given)
+        except asyncio.CancelledError:
+            given.wanted.end()
+            raise
         return done or {}
 
     async def upload(self, name: str, page: str, request: Request, text: bytes) -> bytes:
