@@ -159,6 +159,16 @@ class Lines(Served):
         word, stamp = line.hear().split(" ")
         self.assertEqual((word, stamp.partition("-")[2], self.session.held), ("held", "1", [PAGE]))
 
+    def test_once(self) -> None:
+        """A touch that is told by the line and by a request counts once; another one counts too."""
+        page, line = self.page(), self.line()
+        for touch, count in (("a", 1), ("b", 2), ("a", 3)):
+            line.say(f"hold {touch}")
+            self.assertEqual((line.hear()[:4], page.post("hold", {"touch": touch})), ("held", (200, {})))
+            self.assertEqual(len(self.session.held), count)
+        page.post("hold"), page.post("hold")
+        self.assertEqual(len(self.session.held), 5)
+
     def test_refused(self) -> None:
         """Without a stream, from another site, without the key, or with other words there is none."""
         self.assertIn(b" 503 ", self.line().head)

@@ -136,7 +136,7 @@ class Connection:
             task.cancel()
 
     async def _line(self, request: Request) -> None:
-        """Hears a page by its line: `hold`, which is answered, and `beat STAMP`."""
+        """Hears a page by its line: `hold TOUCH`, which is answered, and `beat STAMP`."""
         head = websocket.head_of(request)
         if not self.server.has_line(self.page, self):
             raise RequestRefused(HTTPStatus.SERVICE_UNAVAILABLE, "no page with a stream")
@@ -145,13 +145,13 @@ class Connection:
             if self.writer.transport.get_write_buffer_size() > _MOST_UNREAD:
                 return
 
-    def _heard(self, word: str, stamp: str) -> bool:
+    def _heard(self, word: str, rest: str) -> bool:
         """Does what a page says by its line; whether it says what it may."""
         if word == "hold":
-            self.server.session.hold(self.page)
+            self.server.hold(self.page, rest)
             self.writer.write(websocket.frame_of(f"held {self.server.pages.stamp()}"))
-        elif word == "beat" and Stamp.is_one(stamp):
-            self.server.pages.read(self.page, Stamp.read(stamp))
+        elif word == "beat" and Stamp.is_one(rest):
+            self.server.pages.read(self.page, Stamp.read(rest))
         else:
             return False
         return True

@@ -55,6 +55,7 @@ class Server:
         self._checked: dict[str, tuple[str, bytes]] = {}
         self._all: dict[asyncio.Task, Connection] = {}
         self._count = 0
+        self._held_by = ""  # the touch that held last
         self._new = asyncio.Event()
         self._uploads = asyncio.Semaphore(4)
         self._loop = asyncio.new_event_loop()
@@ -196,11 +197,17 @@ class Server:
                 await asyncio.wait_for(self._new.wait(), _STAMP_S)
         return self.session.face.version
 
+    def hold(self, page: str, touch: str) -> None:
+        """Holds. A touch that a page names by chance counts once, however often and late it is told of it."""
+        if not touch or touch != self._held_by:
+            self._held_by = touch
+            self.session.hold(page)
+
     async def do(self, name: str, page: str, words: dict, stamp: str) -> dict:
         """Does what a page asks for, as it had read a stamp. Whoever sees that something is wrong may hold, a page that
         watches too. Raises Refused, Busy, BadWords, Failure, OSError."""
         if name == "hold":
-            self.session.hold(page)
+            self.hold(page, str(words.get("touch", "")))
             return {}
         if name == "beat":
             self.pages.read(page, Stamp.read(words.get("stamp")))
