@@ -31,6 +31,7 @@ from ngc_tools.page.aside import Aside, NotDone, Wanted  # noqa: E402
 from ngc_tools.page.deeds import Given  # noqa: E402
 from ngc_tools.page.face import PageFace  # noqa: E402
 from ngc_tools.page.jog import HeldJog  # noqa: E402
+from ngc_tools.page.pages import MOST  # noqa: E402
 from ngc_tools.page.server import MOST_CONNECTIONS, Server  # noqa: E402
 
 KEY = "MmJ0pTn-Qe7Y_h3sKx4v1A"
@@ -276,6 +277,15 @@ class Floods(Served):
             self.connect(self.head(f"events?page=page-number-{number + 10}", method="GET"))
         self.holds(line)
         self.assertTrue(page.next())
+
+    def test_again(self) -> None:
+        """A page whose stream breaks behind a proxy, which keeps the old ones open, comes again as often as that."""
+        self.page(OTHER)
+        for _ in range(2 * MOST):
+            stream = self.connect(self.head(f"events?page={PAGE}", method="GET"))
+            self.assertIn(b" 200 ", stream.recv(100))
+        self.assertIn(b" 503 ", self.connect(self.head("events?page=page-number-3", method="GET")).recv(100))
+        self.assertEqual(len(self.server.pages), 2)
 
     def test_kept(self) -> None:
         """A connection of a page that is there outlives those of others who have the key."""

@@ -158,8 +158,8 @@ class Connection:
 
     async def _stream(self) -> None:
         """Tells a page all that changes, as server-sent events."""
-        page = self.page
-        if not self.server.pages.came(page):
+        page, pages = self.page, self.server.pages
+        if not pages.came(page) and not (await self.server.ends_stream(page) and pages.came(page)):
             raise RequestRefused(HTTPStatus.SERVICE_UNAVAILABLE, "too many pages")
         self.is_stream = True
         try:

@@ -132,6 +132,14 @@ class Server:
         self._count += 1
         return self._count
 
+    async def ends_stream(self, page: str) -> bool:
+        """Ends the oldest stream of a page, as one that a proxy kept though it broke; whether there was one."""
+        found = [task for task, one in self._all.items() if one.is_stream and one.page == page][:1]
+        if found:
+            found[0].cancel()
+            await asyncio.wait(found)
+        return bool(found)
+
     def has_line(self, page: str, line: Connection) -> bool:
         """Whether a page that is there may have this line. It takes the place of the one that it had."""
         if not self.pages.is_there(page):
