@@ -192,6 +192,23 @@ class Lines(Served):
         line.link.sendall(struct.pack(">BBQ", 0x81, 0xFF, 1 << 40))
         self.assertEqual((line.hear(), self.session.held), ("", []))
 
+    def test_lost(self) -> None:
+        """The line of a page that is lost stays, whoever floods the server; of many such pages the last ones stay."""
+        lines = []
+        for number in range(2 * MOST):
+            page = self.page(f"page-number-{number}")
+            lines.append(self.line(page.name))
+            page.close()
+            self.wait_for("it is lost", lambda number=number: f"page-number-{number}" in self.session.ended)
+        self.page()
+        self.line()
+        for _ in range(2 * MOST_CONNECTIONS):
+            self.connect()
+        for line in lines[MOST:]:
+            line.say("hold")
+            self.assertEqual(line.hear()[:4], "held")
+        self.assertEqual([line.hear() for line in lines[:MOST]], [""] * MOST)
+
     def test_answers_unread(self) -> None:
         """Answers that a page doesn't take are no memory without bound: its line is ended."""
         self.page()

@@ -2,8 +2,8 @@
 
 One thread serves all connections in turn, none of which waits for another one: a wish to hold is taken however many are
 idle or slow. Each page keeps a line of its own for it, which has its place whatever comes. Of the other connections,
-where there are too many, one goes: of a stranger before one that has shown the key, that before one of a page that is
-there, the oldest first. Whoever asks has to know the key in the path. No request names a file: what is served was read
+where there are too many, one goes: of a stranger who says nothing before one that has shown the key, that before one
+that has just come, that before one of a page that is there, the oldest first. Whoever asks has to know the key in the path. No request names a file: what is served was read
 before, and a program comes by upload."""
 import asyncio
 import hmac
@@ -24,7 +24,7 @@ from ngc_tools.page.aside import Wanted
 from ngc_tools.page.connection import Connection, packed
 from ngc_tools.page.deeds import DEEDS, WAITING, Given, cam_answers, keep_checked
 from ngc_tools.page.http import MOST_HEAD, RequestRefused, Request
-from ngc_tools.page.pages import LOOK_S, LOST_S, Pages, Stamp
+from ngc_tools.page.pages import LOOK_S, LOST_S, MOST, Pages, Stamp
 from ngc_tools.page.session import PageSession, Unwanted
 from ngc_tools.page.state import state_of
 
@@ -141,14 +141,17 @@ class Server:
         return bool(found)
 
     def has_line(self, page: str, line: Connection) -> bool:
-        """Whether a page that is there may have this line. It takes the place of the one that it had."""
+        """Whether a page that is there may have this line. It takes the place of the one that it had; of pages that are
+        lost some lines stay, since they may come again."""
         if not self.pages.is_there(page):
             return False
-        for task, one in list(self._all.items()):
-            if one.is_line and one.page == page and one is not line:
-                del self._all[task]
-                task.cancel()
         line.is_line = True
+        lines = {task: one for task, one in self._all.items() if one.is_line and one is not line}
+        old = [task for task, one in lines.items() if one.page == page]
+        lost = [task for task, one in lines.items() if one.page != page and not self.pages.is_there(one.page)]
+        for task in old + lost[:max(0, len(lost) - MOST)]:
+            del self._all[task]
+            task.cancel()
         return True
 
     def checked_path(self, request: Request) -> str:
