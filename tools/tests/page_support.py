@@ -68,11 +68,18 @@ class Page:
                     self.newer(line[6:].decode().strip())
                 if time.monotonic() > told + BEAT_S:
                     told = time.monotonic()
-                    beats.request("POST", f"/{self.key}/beat", json.dumps({"stamp": self.stamp}), self.given())
-                    beats.getresponse().read()
+                    self._beat(beats)
         self._states.put(None)
         self._is_told.set()
         beats.close()
+
+    def _beat(self, beats: http.client.HTTPConnection) -> None:
+        """Says which stamp it read; a connection that broke is opened again for the next one."""
+        try:
+            beats.request("POST", f"/{self.key}/beat", json.dumps({"stamp": self.stamp}), self.given())
+            beats.getresponse().read()
+        except (OSError, http.client.HTTPException):
+            beats.close()
 
     def newer(self, stamp: str) -> None:
         """Takes a stamp, if it is newer than the last one."""

@@ -21,14 +21,17 @@ from session_support import PATIENCE_S, TOOLS, InFolder, is_alive  # noqa: E402
 from tests.aside_work import take_memory, work_for_ever  # noqa: E402
 
 from ngc_tools import scratch  # noqa: E402
+from ngc_tools.cli import page as page_module  # noqa: E402
 from ngc_tools.cli.page import key_of, listening  # noqa: E402
 from ngc_tools.failure import WrongWords  # noqa: E402
 from ngc_tools.operator.face import MESSAGE  # noqa: E402
 from ngc_tools.page import aside as aside_module  # noqa: E402
 from ngc_tools.page import server as server_module  # noqa: E402
 from ngc_tools.page.aside import Aside, NotDone, Wanted  # noqa: E402
+from ngc_tools.page.deeds import Given  # noqa: E402
 from ngc_tools.page.face import PageFace  # noqa: E402
 from ngc_tools.page.jog import HeldJog  # noqa: E402
+from ngc_tools.page.pages import MOST  # noqa: E402
 from ngc_tools.page.server import MOST_CONNECTIONS, Server  # noqa: E402
 
 KEY = "MmJ0pTn-Qe7Y_h3sKx4v1A"
@@ -157,6 +160,16 @@ class Lines(Served):
         word, stamp = line.hear().split(" ")
         self.assertEqual((word, stamp.partition("-")[2], self.session.held), ("held", "1", [PAGE]))
 
+    def test_once(self) -> None:
+        """A touch that is told by the line and by a request counts once; another one counts too."""
+        page, line = self.page(), self.line()
+        for touch, count in (("a", 1), ("b", 2), ("a", 3)):
+            line.say(f"hold {touch}")
+            self.assertEqual((line.hear()[:4], page.post("hold", {"touch": touch})), ("held", (200, {})))
+            self.assertEqual(len(self.session.held), count)
+        page.post("hold"), page.post("hold")
+        self.assertEqual(len(self.session.held), 5)
+
     def test_refused(self) -> None:
         """Without a stream, from another site, without the key, or with other words there is none."""
         self.assertIn(b" 503 ", self.line().head)
@@ -178,6 +191,23 @@ class Lines(Served):
         line = self.line()
         line.link.sendall(struct.pack(">BBQ", 0x81, 0xFF, 1 << 40))
         self.assertEqual((line.hear(), self.session.held), ("", []))
+
+    def test_lost(self) -> None:
+        """The line of a page that is lost stays, whoever floods the server; of many such pages the last ones stay."""
+        lines = []
+        for number in range(2 * MOST):
+            page = self.page(f"page-number-{number}")
+            lines.append(self.line(page.name))
+            page.close()
+            self.wait_for("it is lost", lambda number=number: f"page-number-{number}" in self.session.ended)
+        self.page()
+        self.line()
+        for _ in range(2 * MOST_CONNECTIONS):
+            self.connect()
+        for line in lines[MOST:]:
+            line.say("hold")
+            self.assertEqual(line.hear()[:4], "held")
+        self.assertEqual([line.hear() for line in lines[:MOST]], [""] * MOST)
 
     def test_answers_unread(self) -> None:
         """Answers that a page doesn't take are no memory without bound: its line is ended."""
@@ -238,6 +268,24 @@ class Floods(Served):
         self.assertTrue(self.session.works.wait(PATIENCE_S))
         self.wait_for("all end", lambda: self.session.ended.count("check") >= 2)
 
+    def test_rehearsal(self) -> None:
+        """A rehearsal ends with the connection of whoever asked for it."""
+        page, over = self.page(), threading.Event()
+
+        def rehearse(given: Given) -> dict:
+            given.wanted.by(SimpleNamespace(give_up=over.set))
+            self.session.works.set()
+            over.wait(PATIENCE_S)
+            self.session.ended.append("rehearsal")
+            return {}
+
+        with mock.patch.dict(server_module.DEEDS, rehearse=rehearse):
+            more = f"Content-Length: 2\r\nX-Stamp: {page.now()}\r\n"
+            link = self.connect(self.head("rehearse", more, page=PAGE) + "{}")
+            self.assertTrue(self.session.works.wait(PATIENCE_S))
+            link.close()
+            self.wait_for("it ends", lambda: "rehearsal" in self.session.ended)
+
     def test_streams(self) -> None:
         """Streams that nobody reads; each page but those four is refused, and the one that was there stays."""
         page = self.page()
@@ -246,6 +294,15 @@ class Floods(Served):
             self.connect(self.head(f"events?page=page-number-{number + 10}", method="GET"))
         self.holds(line)
         self.assertTrue(page.next())
+
+    def test_again(self) -> None:
+        """A page whose stream breaks behind a proxy, which keeps the old ones open, comes again as often as that."""
+        self.page(OTHER)
+        for _ in range(2 * MOST):
+            stream = self.connect(self.head(f"events?page={PAGE}", method="GET"))
+            self.assertIn(b" 200 ", stream.recv(100))
+        self.assertIn(b" 503 ", self.connect(self.head("events?page=page-number-3", method="GET")).recv(100))
+        self.assertEqual(len(self.server.pages), 2)
 
     def test_kept(self) -> None:
         """A connection of a page that is there outlives those of others who have the key."""
@@ -296,6 +353,21 @@ class Texts(Served):
         with mock.patch.object(face, "publish", lambda: self.session.held.append(face.question)):
             face.agrees("\u202ego? ")
         self.assertEqual(self.session.held[0].text, "\\u202ego?")
+
+
+class Opened(unittest.TestCase):
+    """What a session of the page begins with."""
+
+    def test_starts(self) -> None:
+        """The player's words that start motors, and the ticks of `ngc`, go by the level of the page's face."""
+        face, link, console = PageFace(), SimpleNamespace(), SimpleNamespace(status=lambda: None)
+        operator = SimpleNamespace(recover=SimpleNamespace(found=None))
+        for name, fake in (("Operator", lambda *_: operator), ("bound", lambda *_: ""), ("Link", lambda *_: None)):
+            self.enterContext(mock.patch.object(page_module, name, fake))
+        self.enterContext(mock.patch.object(page_module.Opener, "_has_moves", lambda *_: False))
+        args = SimpleNamespace(machine=None, player="progress")
+        page_module.Opener("ngc", args)._opened(console, face, SimpleNamespace(link=link), (None, 0.0), None, None)
+        self.assertEqual((console.starts, link.starts), (face.level.start, face.level.start))
 
 
 class Keys(unittest.TestCase):

@@ -28,6 +28,7 @@ _PAGE = re.compile(r"[A-Za-z0-9-]{8,40}")
 _MOST_UNREAD = 4096  # bytes of answers on a line that a page doesn't take
 _MOST_WORDS = 4096  # bytes of a request that is no program
 _REQUEST_S = 20.0  # how long a request may take to come, and an answer to be taken
+_YOUNG_S = 1.0  # so long a connection may take to say who it is
 _THERE_S = 0.2  # so often it is looked whether whoever waits for a program is still there
 _IDLE_S = 120.0  # how long a connection may wait for its next request
 _EVERY_S = 1.0  # the state is sent to each page at least so often
@@ -41,16 +42,19 @@ class Connection:
     def __init__(self, server: "Server", reader: asyncio.StreamReader, writer: asyncio.StreamWriter) -> None:
         self.server, self.reader, self.writer = server, reader, writer
         self.is_known = self.is_stream = self.is_line = False
-        self.page, self.since = "", server.count()
+        self.page, self.since, self.began = "", server.count(), time.monotonic()
 
     @property
     def has_place(self) -> bool:
-        """Whether it is never ended for others: the stream of a page, or the line of one that is there."""
-        return self.is_stream or self.is_line and self.server.pages.is_there(self.page)
+        """Whether it is never ended for others: the stream of a page, or its line."""
+        return self.is_stream or self.is_line
 
     def rank(self) -> tuple[int, int]:
-        """The lower, the sooner it goes where there are too many: who it is, and when it began what it does."""
-        return self.is_known + self.server.pages.is_there(self.page), self.since
+        """The lower, the sooner it goes where there are too many: who it is, and when it began what it does. Who has
+        just come may be a page that wants to hold."""
+        if self.is_known:
+            return 3 if self.server.pages.is_there(self.page) else 1, self.since
+        return 2 if time.monotonic() < self.began + _YOUNG_S else 0, self.since
 
     async def serve(self) -> None:
         """Answers its requests. Raises OSError, TimeoutError."""
@@ -119,9 +123,10 @@ class Connection:
             raise RequestRefused(HTTPStatus.BAD_REQUEST, "no JSON") from None
         if not isinstance(words, dict):
             raise RequestRefused(HTTPStatus.BAD_REQUEST, "no object")
-        return packed(await self.server.do(path, page, words, request.headers.get("x-stamp", "")))
+        does = self.server.do(path, page, words, request.headers.get("x-stamp", ""))
+        return packed(await (self._while_there(does) if path == "rehearse" else does))
 
-    async def _while_there(self, work: Coroutine[Any, Any, bytes]) -> bytes:
+    async def _while_there(self, work: Coroutine) -> Any:
         """The result of work that takes long, which ends where nobody waits for it any more. Raises OSError, and what
         it raises."""
         task = asyncio.ensure_future(work)
@@ -135,7 +140,7 @@ class Connection:
             task.cancel()
 
     async def _line(self, request: Request) -> None:
-        """Hears a page by its line: `hold`, which is answered, and `beat STAMP`."""
+        """Hears a page by its line: `hold TOUCH`, which is answered, and `beat STAMP`."""
         head = websocket.head_of(request)
         if not self.server.has_line(self.page, self):
             raise RequestRefused(HTTPStatus.SERVICE_UNAVAILABLE, "no page with a stream")
@@ -144,21 +149,21 @@ class Connection:
             if self.writer.transport.get_write_buffer_size() > _MOST_UNREAD:
                 return
 
-    def _heard(self, word: str, stamp: str) -> bool:
+    def _heard(self, word: str, rest: str) -> bool:
         """Does what a page says by its line; whether it says what it may."""
         if word == "hold":
-            self.server.session.hold(self.page)
+            self.server.hold(self.page, rest)
             self.writer.write(websocket.frame_of(f"held {self.server.pages.stamp()}"))
-        elif word == "beat" and Stamp.is_one(stamp):
-            self.server.pages.read(self.page, Stamp.read(stamp))
+        elif word == "beat" and Stamp.is_one(rest):
+            self.server.pages.read(self.page, Stamp.read(rest))
         else:
             return False
         return True
 
     async def _stream(self) -> None:
         """Tells a page all that changes, as server-sent events."""
-        page = self.page
-        if not self.server.pages.came(page):
+        page, pages = self.page, self.server.pages
+        if not pages.came(page) and not (await self.server.ends_stream(page) and pages.came(page)):
             raise RequestRefused(HTTPStatus.SERVICE_UNAVAILABLE, "too many pages")
         self.is_stream = True
         try:

@@ -3,13 +3,14 @@
 import json
 import re
 from collections.abc import Callable
-from dataclasses import dataclass
+from dataclasses import dataclass, field
 from http import HTTPStatus
 
 from ngc_tools.formats.device import SLOTS
 from ngc_tools.formats.position import nanometres
 from ngc_tools.job.cam_homes import HomeAnswers
 from ngc_tools.operator.motors import PERCENTS, SPINDLE_PERCENTS
+from ngc_tools.page.aside import Wanted
 from ngc_tools.page.http import RequestRefused
 from ngc_tools.page.pages import Pages, Stamp
 from ngc_tools.page.rehearse import rehearse
@@ -29,14 +30,15 @@ class BadWords(ValueError):
 
 @dataclass(slots=True)
 class Given:
-    """What a deed is done with: the session, its pages, the programs that were looked at, the words, and how many
-    wishes to hold there had been as they came."""
+    """What a deed is done with: the session, its pages, the programs that were looked at, the words, how many wishes to
+    hold there had been as they came, and whether somebody waits for the answer."""
 
     session: PageSession
     pages: Pages
     checked: dict[str, tuple[str, bytes]]
     words: dict
     holds: int = 0
+    wanted: Wanted = field(default_factory=Wanted)
 
     def flag(self, name: str) -> bool:
         """Whether a word is true. Raises BadWords for what is neither true nor false."""
@@ -214,7 +216,7 @@ def _recover(given: Given) -> None:
 
 def _rehearse(given: Given) -> dict:
     at = given.point("at") if given.words.get("at") is not None else None
-    return rehearse(given.session, at, given.flag("recover"))
+    return rehearse(given.session, at, given.flag("recover"), given.wanted)
 
 
 DEEDS: dict[str, Callable[[Given], dict | None]] = {

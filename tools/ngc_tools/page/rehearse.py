@@ -14,6 +14,7 @@ from ngc_tools.ngc.copies import CommandRefused
 from ngc_tools.operator import causes
 from ngc_tools.operator.recovery import OutFound
 from ngc_tools.operator.rehearsal import Rehearsal, outputs
+from ngc_tools.page.aside import Wanted
 from ngc_tools.page.differs import differences
 from ngc_tools.page.drawing import Drawing, job_of
 from ngc_tools.page.session import Busy, PageSession
@@ -55,9 +56,10 @@ class RehearsalRequest:
     lost: tuple[Point, int] | None = None
 
 
-def rehearse(session: PageSession, at: list[str] | None, by_recover: bool = False) -> dict:
-    """What a page is told of `resume`, or `run`, from a point, or of `recover`. It takes no turn of the session's,
-    since nothing but a copy is touched. Raises Busy where something runs, NotDone, OSError."""
+def rehearse(session: PageSession, at: list[str] | None, by_recover: bool = False,
+             wanted: Wanted | None = None) -> dict:
+    """What a page is told of `resume`, or `run`, from a point, or of `recover`, as long as it is wanted. It takes no
+    turn of the session's, since nothing but a copy is touched. Raises Busy where something runs, NotDone, OSError."""
     if session.is_busy or session.ended:
         raise Busy("something runs: hold first")
     console, report, image = session.operator.console, session.face.report, session.kept.device.image
@@ -67,7 +69,8 @@ def rehearse(session: PageSession, at: list[str] | None, by_recover: bool = Fals
     motors, along = report.at.split() if report else None, _along(found) if found else None
     asked = RehearsalRequest(console.ngc, console.settings, image, at, session.drawer.drawing, motors, along,
                              _lost(session))
-    return session.aside.call(rehearsed, asked)
+    child = session.aside.begin(rehearsed, asked)
+    return session.aside.finish(wanted.by(child) if wanted else child)
 
 
 def _lost(session: PageSession) -> tuple[Point, int] | None:

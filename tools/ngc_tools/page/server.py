@@ -2,8 +2,8 @@
 
 One thread serves all connections in turn, none of which waits for another one: a wish to hold is taken however many are
 idle or slow. Each page keeps a line of its own for it, which has its place whatever comes. Of the other connections,
-where there are too many, one goes: of a stranger before one that has shown the key, that before one of a page that is
-there, the oldest first. Whoever asks has to know the key in the path. No request names a file: what is served was read
+where there are too many, one goes: of a stranger who says nothing before one that has shown the key, that before one
+that has just come, that before one of a page that is there, the oldest first. Whoever asks has to know the key in the path. No request names a file: what is served was read
 before, and a program comes by upload."""
 import asyncio
 import hmac
@@ -24,7 +24,7 @@ from ngc_tools.page.aside import Wanted
 from ngc_tools.page.connection import Connection, packed
 from ngc_tools.page.deeds import DEEDS, WAITING, Given, cam_answers, keep_checked
 from ngc_tools.page.http import MOST_HEAD, RequestRefused, Request
-from ngc_tools.page.pages import LOOK_S, LOST_S, Pages, Stamp
+from ngc_tools.page.pages import LOOK_S, LOST_S, MOST, Pages, Stamp
 from ngc_tools.page.session import PageSession, Unwanted
 from ngc_tools.page.state import state_of
 
@@ -55,6 +55,7 @@ class Server:
         self._checked: dict[str, tuple[str, bytes]] = {}
         self._all: dict[asyncio.Task, Connection] = {}
         self._count = 0
+        self._held_by = ""  # the touch that held last
         self._new = asyncio.Event()
         self._uploads = asyncio.Semaphore(4)
         self._loop = asyncio.new_event_loop()
@@ -131,15 +132,26 @@ class Server:
         self._count += 1
         return self._count
 
+    async def ends_stream(self, page: str) -> bool:
+        """Ends the oldest stream of a page, as one that a proxy kept though it broke; whether there was one."""
+        found = [task for task, one in self._all.items() if one.is_stream and one.page == page][:1]
+        if found:
+            found[0].cancel()
+            await asyncio.wait(found)
+        return bool(found)
+
     def has_line(self, page: str, line: Connection) -> bool:
-        """Whether a page that is there may have this line. It takes the place of the one that it had."""
+        """Whether a page that is there may have this line. It takes the place of the one that it had; of pages that are
+        lost some lines stay, since they may come again."""
         if not self.pages.is_there(page):
             return False
-        for task, one in list(self._all.items()):
-            if one.is_line and one.page == page and one is not line:
-                del self._all[task]
-                task.cancel()
         line.is_line = True
+        lines = {task: one for task, one in self._all.items() if one.is_line and one is not line}
+        old = [task for task, one in lines.items() if one.page == page]
+        lost = [task for task, one in lines.items() if one.page != page and not self.pages.is_there(one.page)]
+        for task in old + lost[:max(0, len(lost) - MOST)]:
+            del self._all[task]
+            task.cancel()
         return True
 
     def checked_path(self, request: Request) -> str:
@@ -196,11 +208,17 @@ class Server:
                 await asyncio.wait_for(self._new.wait(), _STAMP_S)
         return self.session.face.version
 
+    def hold(self, page: str, touch: str) -> None:
+        """Holds. A touch that a page names by chance counts once, however often and late it is told of it."""
+        if not touch or touch != self._held_by:
+            self._held_by = touch
+            self.session.hold(page)
+
     async def do(self, name: str, page: str, words: dict, stamp: str) -> dict:
         """Does what a page asks for, as it had read a stamp. Whoever sees that something is wrong may hold, a page that
         watches too. Raises Refused, Busy, BadWords, Failure, OSError."""
         if name == "hold":
-            self.session.hold(page)
+            self.hold(page, str(words.get("touch", "")))
             return {}
         if name == "beat":
             self.pages.read(page, Stamp.read(words.get("stamp")))
@@ -218,7 +236,11 @@ class Server:
         if name not in _AT_ANY_AGE:
             self.pages.check_age(Stamp.read(stamp))
         given = Given(self.session, self.pages, self._checked, words, self.session.face.holds)
-        done = await asyncio.to_thread(DEEDS[name], given) if name in WAITING else DEEDS[name](given)
+        try:
+            done = await asyncio.to_thread(DEEDS[name], given) if name in WAITING else DEEDS[name](given)
+        except asyncio.CancelledError:
+            given.wanted.end()
+            raise
         return done or {}
 
     async def upload(self, name: str, page: str, request: Request, text: bytes) -> bytes:

@@ -91,14 +91,15 @@ function beat(said) {
 
 // Holds: by the line, and by requests until something answers. Throws an Error that says why it isn't done.
 export async function hold() {
+  const touch = named(); // so that it counts once
   let isHeld = false;
   const answer = new Promise(done => { held = done; }).then(() => { isHeld = true; });
   if (isOpen()) {
-    line.send('hold');
+    line.send(`hold ${touch}`);
     await Promise.race([answer, pause(HELD_MS)]);
   }
   for (let tries = 1; !isHeld; tries += 1) {
-    const asked = post('hold', {}, AbortSignal.timeout(TAKES_MS)).then(() => { isHeld = true; });
+    const asked = post('hold', { touch }, AbortSignal.timeout(TAKES_MS)).then(() => { isHeld = true; });
     try {
       await Promise.race([asked, answer]);
     } catch (error) {
