@@ -3,6 +3,7 @@ import threading
 import time
 from collections import deque
 from collections.abc import Callable
+from contextlib import suppress
 from dataclasses import dataclass
 
 from ngc_tools.formats.text import shown_lines
@@ -129,8 +130,9 @@ class PageFace:
 
     def asides(self) -> list[str]:
         """The commands that were given meanwhile, each once."""
-        with self._lock:
-            found, self._asides = list(self._asides), deque()
+        found = []
+        while self._asides:
+            found.append(self._asides.popleft())
         return found
 
     def is_gone(self) -> bool:
@@ -162,8 +164,10 @@ class PageFace:
     def hold(self) -> None:
         """Somebody wants to hold. What was given before, and would start something, isn't done any more."""
         self.level.wish()
+        for line in [line for line in self._asides.copy() if line in STARTS]:
+            with suppress(ValueError):  # its turn has come: it is kept back then
+                self._asides.remove(line)
         with self._lock:
-            self._asides = deque(line for line in self._asides if line not in STARTS)
             self._lock.notify_all()
 
     def leave(self) -> None:
@@ -192,8 +196,7 @@ class PageFace:
 
     def give_aside(self, command: str) -> None:
         """A command that is taken while something runs."""
-        with self._lock:
-            self._asides.append(command)
+        self._asides.append(command)
 
     # the session
 
