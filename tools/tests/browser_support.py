@@ -101,8 +101,10 @@ class Browser:
         return x, y
 
     def hurry(self) -> None:
-        """Buttons of the page that come to mean something else are dead for a moment, in the place of a second."""
+        """Buttons of the page that come to mean something else are dead for a moment, in the place of a second. A job
+        goes on where the page is lost, since it is for a while if others want the processors."""
         self.js("void (ngc.dead.ms = 50)")
+        self.js("import('./link.js').then(link => link.post('loss', { goes: true })).then(() => true)")
 
     def fill(self, entry: str, text: str) -> None:
         """Types into an entry, in the place of what stands there, once it is one that isn't dead."""

@@ -333,7 +333,7 @@ class Loss(Walk):
         self.wait("s.yours")
         self.tab("Setup")
         self.home()
-        for chosen in ("go", "hold"):
+        for chosen in ("hold", "go"):
             self.press("Job goes on if this page is lost", "#tab-setup button")
             self.wait(f"s.on_loss === '{chosen}'")
 

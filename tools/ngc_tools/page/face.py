@@ -3,6 +3,7 @@ import threading
 import time
 from collections import deque
 from collections.abc import Callable, Container
+from contextlib import suppress
 from dataclasses import dataclass
 
 from ngc_tools.formats.text import shown_lines
@@ -132,9 +133,12 @@ class PageFace:
     def asides(self, words: Container[str] | None = None) -> list[str]:
         """The commands that were given meanwhile, each once; where words are named, those that begin with one of them.
         """
-        with self._lock:
-            found = [line for line in self._asides if words is None or line.split()[0] in words]
-            self._asides = deque(line for line in self._asides if line not in found)
+        found = []
+        for line in self._asides.copy():
+            if words is None or line.split()[0] in words:
+                with suppress(ValueError):  # a hold has kept it back meanwhile
+                    self._asides.remove(line)
+                    found.append(line)
         return found
 
     def is_gone(self) -> bool:
@@ -166,8 +170,10 @@ class PageFace:
     def hold(self) -> None:
         """Somebody wants to hold. What was given before, and would start something, isn't done any more."""
         self.level.wish()
+        for line in [line for line in self._asides.copy() if line in STARTS]:
+            with suppress(ValueError):  # its turn has come: it is kept back then
+                self._asides.remove(line)
         with self._lock:
-            self._asides = deque(line for line in self._asides if line not in STARTS)
             self._lock.notify_all()
 
     def leave(self) -> None:
@@ -196,8 +202,7 @@ class PageFace:
 
     def give_aside(self, command: str) -> None:
         """A command that is taken while something runs."""
-        with self._lock:
-            self._asides.append(command)
+        self._asides.append(command)
 
     # the session
 
