@@ -697,7 +697,8 @@ class Words(InFolder):
         self.assertEqual(self.failed("odd.ngc", "--ngc", ngc()), "ngc-check: odd.ngc: it begins as UTF-16 does, and"
                          " byte 4 isn't UTF-16: save it in UTF-8")
         os.mkfifo("pipe")
-        self.assertEqual(self.failed("p.ngc", "--device", "pipe", "--ngc", ngc()), "ngc-check: pipe: no file, but a pipe")
+        self.assertEqual(self.failed("p.ngc", "--device", "pipe", "--ngc", ngc()),
+                         "ngc-check: pipe: no file, but a pipe")
         self.assertEqual(self.failed("p.ngc", "--device", "p.ngc", "--ngc", ngc()),
                          "ngc-check: p.ngc: not a device: 3 bytes, and a device has 875,520 or more")
         self.assertEqual(self.failed("p.ngc", "--origin", "0", "0", "1e3", "--ngc", ngc()), "ngc-check: error: argument"
