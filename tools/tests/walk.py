@@ -25,7 +25,7 @@ from pathlib import Path
 
 sys.path.insert(0, str(Path(__file__).resolve().parent))
 
-from browser_support import Failed, chromium  # noqa: E402
+from browser_support import ANSWERS_S, Failed, chromium  # noqa: E402
 from session_support import PATIENCE_S, memory  # noqa: E402
 from walk_late import Lateness  # noqa: E402
 from walk_machine import Bench  # noqa: E402
@@ -548,7 +548,7 @@ class Walk:
         takes a program. Raises Wrong."""
         for step in (("door", "shuts"), ("stop", "freed"), ("start", "player"), ("start", "server")):
             self.do(step)
-        until, ways = time.monotonic() + 2 * PATIENCE_S, 0
+        until, ways = time.monotonic() + ANSWERS_S, 0
         while ways < WAYS:
             self._until(lambda seen: "\u2026" not in seen.sheet, until - time.monotonic())  # `ngc` is at work on it
             seen = self.seen
