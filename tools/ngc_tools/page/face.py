@@ -3,7 +3,6 @@ import threading
 import time
 from collections import deque
 from collections.abc import Callable
-from contextlib import suppress
 from dataclasses import dataclass
 
 from ngc_tools.formats.text import shown_lines
@@ -14,8 +13,6 @@ from ngc_tools.operator.way_back import TYPE_GO
 from ngc_tools.page.words import page_words
 from ngc_tools.player.progress import Report
 
-STARTS = ("release", "go")
-"""The commands by which motors go on that are given while something runs."""
 UNCUT = "uncut"
 """The kind of a warning of what was never cut: pages show that by themselves, too."""
 ENTRIES = 400
@@ -46,6 +43,12 @@ class Question:
     kind: str
 
 
+class Aside(str):
+    """A command that is given while something runs. As it was asked for there had been so many wishes to hold."""
+
+    holds = 0
+
+
 class PageFace:
     """A face whose watchers are told that something is new, in `version`, by `changed`, which may be called in any
     thread.
@@ -68,7 +71,7 @@ class PageFace:
         self.is_left = False  # nobody is there any more
         self.is_stuck = False  # nor does `ngc` answer, since nobody reads OUT
         self.has_looked = False  # somebody agreed to the last question before a cut, since the command began
-        self._asides: deque[str] = deque()
+        self._asides: deque[Aside] = deque()
         self._lock = threading.Condition()
         self._answer: str | None = None
         self._count = 0
@@ -162,11 +165,8 @@ class PageFace:
     # what pages give
 
     def hold(self) -> None:
-        """Somebody wants to hold. What was given before, and would start something, isn't done any more."""
+        """Somebody wants to hold."""
         self.level.wish()
-        for line in [line for line in self._asides.copy() if line in STARTS]:
-            with suppress(ValueError):  # its turn has come: it is kept back then
-                self._asides.remove(line)
         with self._lock:
             self._lock.notify_all()
 
@@ -194,9 +194,12 @@ class PageFace:
             self._lock.notify_all()
             return True
 
-    def give_aside(self, command: str) -> None:
-        """A command that is taken while something runs."""
-        self._asides.append(command)
+    def give_aside(self, command: str, holds: int | None = None) -> None:
+        """A command that is taken while something runs, asked for now, or when there had been so many wishes to hold.
+        """
+        aside = Aside(command)
+        aside.holds = self.holds if holds is None else holds
+        self._asides.append(aside)
 
     # the session
 
