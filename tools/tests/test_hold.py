@@ -112,24 +112,22 @@ class Levels(InFolder):
         self.assertEqual((console.ask("tick 5"), console.ask("hold")), ([NO_TICK], ["False"]))
         self.assertEqual(given, [b"tick 5\n", b"hold\n", b"hold\n"])
 
-    def test_asides(self) -> None:
-        """What was given meanwhile, and lets motors go on, isn't done after a hold that came later; the rest is."""
-        face = PageFace()
-        for line in ("release", "percent 50", "go"):
-            face.give_aside(line)
-        face.hold()
-        face.give_aside("go")
-        self.assertEqual(face.asides(), ["percent 50", "go"])
-
     def test_late(self) -> None:
-        """An aside that no command took up was asked for as it was given, whatever was held since."""
-        session = PageSession.__new__(PageSession)
-        session.face, session._stops = PageFace(), False
+        """A command that was given meanwhile, and that no command took up, was asked for as it was given, whatever was
+        held since: what would start by it is kept back, and what is asked for after the hold isn't."""
+        session, level = PageSession.__new__(PageSession), []
+        session.face, session._stops, session._wake = PageFace(), False, threading.Condition()
+        session._next, session.under = None, "run"
         session.operator = SimpleNamespace(do=lambda line: None)
-        session.face.give_aside("percent 50")
-        asides, session.face.asides = session.face.asides(), lambda: session.face.hold() or asides
+        for asked in (None, 1, None):
+            session.tell("go", asked)
+            if not level:
+                session.face.hold()
+            session.face.begin(session._late().holds)
+            level.append(session.face.interrupted())
+        session.tell("go", 0)  # asked for before the hold, by a thread that came late
         session.face.begin(session._late().holds)
-        self.assertTrue(session.face.interrupted())
+        self.assertEqual([*level, session.face.interrupted()], [True, False, False, True])
 
 
 class Session:

@@ -459,6 +459,20 @@ class Children(InFolder):
 class Lost(Served):
     """A page that is lost is a hold."""
 
+    def test_failing(self) -> None:
+        """A look that fails is told of, and isn't the last one."""
+        told, hold = [], self.session.hold
+
+        def fail(_: str) -> None:
+            self.session.hold = hold
+            raise ValueError
+
+        self.session.hold, self.session.is_busy = fail, True
+        with mock.patch.object(server_module, "tell_bug", told.append):
+            self.connect(self.head(f"events?page={PAGE}", method="GET"))
+            self.assertTrue(self.session.heard.wait(PATIENCE_S))
+        self.assertEqual((list(map(type, told)), self.session.held), ([ValueError], ["lost"]))
+
     def test_silent(self) -> None:
         """One that goes on to take its stream, as a proxy does for a tablet that is gone, and says nothing: it holds
         within two seconds, and a look more of a busy machine; its stream ends."""

@@ -3,7 +3,6 @@ import threading
 import time
 from collections import deque
 from collections.abc import Callable, Container
-from contextlib import suppress
 from dataclasses import dataclass
 
 from ngc_tools.formats.text import shown_lines
@@ -14,8 +13,6 @@ from ngc_tools.operator.way_back import TYPE_GO
 from ngc_tools.page.words import page_words
 from ngc_tools.player.progress import Report
 
-STARTS = ("release", "go")
-"""The commands by which motors go on that are given while something runs."""
 UNCUT = "uncut"
 """The kind of a warning of what was never cut: pages show that by themselves, too."""
 ENTRIES = 400
@@ -46,6 +43,12 @@ class Question:
     kind: str
 
 
+class Aside(str):
+    """A command that is given while something runs. As it was asked for there had been so many wishes to hold."""
+
+    holds = 0
+
+
 class PageFace:
     """A face whose watchers are told that something is new, in `version`, by `changed`, which may be called in any
     thread.
@@ -69,7 +72,7 @@ class PageFace:
         self.is_left = False  # nobody is there any more
         self.is_stuck = False  # nor does `ngc` answer, since nobody reads OUT
         self.has_looked = False  # somebody agreed to the last question before a cut, since the command began
-        self._asides: deque[str] = deque()
+        self._asides: deque[Aside] = deque()
         self._lock = threading.Condition()
         self._answer: str | None = None
         self._count = 0
@@ -130,15 +133,12 @@ class PageFace:
         """Whether somebody wants to hold since the command was given."""
         return self.level.is_up
 
-    def asides(self, words: Container[str] | None = None) -> list[str]:
+    def asides(self, words: Container[str] | None = None) -> list[Aside]:
         """The commands that were given meanwhile, each once; where words are named, those that begin with one of them.
         """
-        found = []
-        for line in self._asides.copy():
-            if words is None or line.split()[0] in words:
-                with suppress(ValueError):  # a hold has kept it back meanwhile
-                    self._asides.remove(line)
-                    found.append(line)
+        found = [line for line in self._asides.copy() if words is None or line.split()[0] in words]
+        for line in found:
+            self._asides.remove(line)
         return found
 
     def is_gone(self) -> bool:
@@ -168,11 +168,8 @@ class PageFace:
     # what pages give
 
     def hold(self) -> None:
-        """Somebody wants to hold. What was given before, and would start something, isn't done any more."""
+        """Somebody wants to hold."""
         self.level.wish()
-        for line in [line for line in self._asides.copy() if line in STARTS]:
-            with suppress(ValueError):  # its turn has come: it is kept back then
-                self._asides.remove(line)
         with self._lock:
             self._lock.notify_all()
 
@@ -200,9 +197,12 @@ class PageFace:
             self._lock.notify_all()
             return True
 
-    def give_aside(self, command: str) -> None:
-        """A command that is taken while something runs."""
-        self._asides.append(command)
+    def give_aside(self, command: str, holds: int | None = None) -> None:
+        """A command that is taken while something runs, asked for now, or when there had been so many wishes to hold.
+        """
+        aside = Aside(command)
+        aside.holds = self.holds if holds is None else holds
+        self._asides.append(aside)
 
     # the session
 

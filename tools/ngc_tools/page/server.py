@@ -89,9 +89,12 @@ class Server:
         return asyncio.run_coroutine_threadsafe(work, self._loop).result(patience_s)
 
     async def _look(self) -> None:
-        """Looks again and again which pages are lost."""
+        """Looks again and again which pages are lost, whatever fails in one look."""
         while True:
-            self.pages.look()
+            try:
+                self.pages.look()
+            except Exception as error:
+                tell_bug(error)
             await asyncio.sleep(LOOK_S)
 
     async def _end(self) -> None:

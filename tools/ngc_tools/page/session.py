@@ -26,7 +26,7 @@ from ngc_tools.operator.session import ALARM
 from ngc_tools.page.aside import Aside, Child, NotDone, Wanted
 from ngc_tools.page.drawer import Drawer
 from ngc_tools.page.drawing import DrawingRequest, as_begun
-from ngc_tools.page.face import STARTS, PageFace
+from ngc_tools.page.face import PageFace
 from ngc_tools.page.findings import Check, find
 from ngc_tools.page.never_cut import LossRequest, NeverCutSearch
 from ngc_tools.page.jog import HeldJog
@@ -233,8 +233,7 @@ class PageSession:
             return
         with self._wake:
             if word in _ASIDES and self.is_busy:
-                if word not in STARTS or holds in (None, self.face.holds):
-                    self.face.give_aside(line)
+                self.face.give_aside(line, holds)
             else:
                 command = self.give(word, lambda: self.operator.do(line), holds)
         if command:
@@ -447,9 +446,9 @@ class PageSession:
         if self._stops:
             self._stops = False
             return self._command("stop", lambda: self.operator.do("stop"))
-        holds, lines = self.face.holds, self.face.asides()
-        if not lines:
+        if not (lines := self.face.asides()):
             return None
+        holds = min(line.holds for line in lines)
         return self._command(lines[0].split()[0], lambda: list(map(self.operator.do, lines)), holds)
 
     def _do(self, command: SessionCommand) -> None:
