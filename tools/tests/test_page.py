@@ -155,7 +155,7 @@ class Who(Served):
         kept = http.client.HTTPConnection("127.0.0.1", page.port, timeout=PATIENCE_S)
         self.addCleanup(kept.close)
         given = {"Origin": f"http://127.0.0.1:{page.port}", "X-Page": PAGE, "Content-Type": "application/json"}
-        kept.request("GET", f"/{page.key}/program")
+        kept.request("GET", f"/{page.key}/program", headers={"X-Page": PAGE})
         self.assertIn(b"G1 X2", kept.getresponse().read())
         pieces = (b"", b"GET /", b"POST / HTTP/1.1\r\nHost: a\r\nX: ", b"\r\n\r")
         for number in range(2 * server_module.MOST_CONNECTIONS):

@@ -41,7 +41,8 @@ EXAMPLE = """example:
   ngc-page mill.dev mill.toml axis --player progress
 
 environment:
-  NGC_PAGE_KEY  the key in the address, where it is to stay the same; without it each start makes a new one
+  NGC_PAGE_KEY  the key in the address;
+                or each start makes one
 
 exit status:
   0  the session was ended by quit

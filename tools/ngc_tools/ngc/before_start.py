@@ -121,13 +121,18 @@ def _out(path: str) -> int | None:
             _whole_lines(path)
         elif os.isatty(file):
             _raw(file, path)
-        elif not stat.S_ISFIFO(kind) and not os.path.samefile(path, os.devnull):
+        elif not stat.S_ISFIFO(kind) and not _keeps_nothing(path):
             raise CannotBegin(f"{path}: OUT is a file, a named pipe or a serial line")
         keep = stat.S_ISFIFO(kind)
     finally:
         if not keep:
             os.close(file)
     return file if keep else None
+
+
+def _keeps_nothing(path: str) -> bool:
+    """Whether it is one of the two that keep nothing: one takes all, the other is always full."""
+    return any(os.path.exists(none) and os.path.samefile(path, none) for none in (os.devnull, "/dev/full"))
 
 
 def _open_out(path: str) -> int:

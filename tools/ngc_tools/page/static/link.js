@@ -151,4 +151,4 @@ function send(what, body, more, signal) {
   return mine;
 }
 
-export const get = what => answered(fetch(what));
+export const get = what => answered(fetch(what, { headers: { 'X-Page': page } }));
