@@ -32,16 +32,14 @@ from ngc_tools.player.progress import Link, NoAnswer
 ABOUT = """A page in the browser over `ngc run`: the machine's state, the program, its path, and what an operator does.
 
 It holds the session as ngc-operate does; with --player it is metered. It listens at this computer alone, and whoever
-opens the page has to know the key in the address that it prints."""
+opens the page has to know the key in the address that it prints. Each start makes a new one, unless NGC_PAGE_KEY in the
+environment is one that stays the same."""
 
 EXAMPLE = """example:
   ngc format mill.dev                                   (once; it OVERWRITES mill.dev)
   mkfifo axis
   ngc-player axis mill.toml position --progress progress    (in another terminal)
   ngc-page mill.dev mill.toml axis --player progress
-
-environment:
-  NGC_PAGE_KEY  the key in the address, where it is to stay the same; without it each start makes a new one
 
 exit status:
   0  the session was ended by quit
