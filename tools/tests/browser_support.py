@@ -101,9 +101,12 @@ class Browser:
         return x, y
 
     def hurry(self) -> None:
-        """Buttons of the page that come to mean something else are dead for a moment, in the place of a second. A job
-        goes on where the page is lost, since it is for a while if others want the processors."""
+        """Buttons of the page that come to mean something else are dead for a moment, in the place of a second."""
         self.js("void (ngc.dead.ms = 50)")
+        self.goes_on()
+
+    def goes_on(self) -> None:
+        """A job goes on where the page is lost, as it is for a while if others want the processors."""
         self.js("import('./link.js').then(link => link.post('loss', { goes: true })).then(() => true)")
 
     def fill(self, entry: str, text: str) -> None:

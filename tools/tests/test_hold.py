@@ -144,9 +144,6 @@ class Session:
         self.face.hold()
         self.jogs.end()
 
-    def end_check(self, page: str) -> None:
-        """Nothing is checked."""
-
     def jog(self, way: str, rate: str, press: int) -> bool:
         """Takes a wish."""
         return self.jogs.wish(way, rate, press)

@@ -53,10 +53,6 @@ class Session:
         self.face.hold()
         self.heard.set()
 
-    def end_check(self, page: str) -> None:
-        """A page is lost."""
-        self.ended.append(page)
-
     def check(self, page: str, text: bytes, _answers: object, wanted: object) -> tuple[dict, bytes]:
         """Looks at a program for as long as that is wanted."""
         over = threading.Event()
@@ -199,7 +195,7 @@ class Lines(Served):
             page = self.page(f"page-number-{number}")
             lines.append(self.line(page.name))
             page.close()
-            self.wait_for("it is lost", lambda number=number: f"page-number-{number}" in self.session.ended)
+            self.wait_for("it is lost", lambda page=page: not self.server.pages.is_there(page.name))
         self.page()
         self.line()
         for _ in range(2 * MOST_CONNECTIONS):

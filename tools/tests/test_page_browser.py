@@ -599,6 +599,7 @@ class Power(InBrowser):
         browser.wait("document.getElementById('lost').checkVisibility()")
         self.begin_again()
         browser.wait(f"ngc.state?.session && ngc.state.session !== '{before}'")
+        browser.goes_on()
         browser.wait("document.querySelector('#over .facts')?.textContent.includes('It begins at')")
         self.look("what was stored")
         self.assertIn("Given back, as it was: optional stop.", browser.js("document.querySelector('#over .words')"

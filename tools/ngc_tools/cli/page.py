@@ -32,7 +32,8 @@ from ngc_tools.player.progress import Link, NoAnswer
 ABOUT = """A page in the browser over `ngc run`: the machine's state, the program, its path, and what an operator does.
 
 It holds the session as ngc-operate does; with --player it is metered. It listens at this computer alone, and whoever
-opens the page has to know the key in the address that it prints."""
+opens the page has to know the key in the address that it prints. Each start makes a new one, unless NGC_PAGE_KEY in the
+environment is one that stays the same."""
 
 EXAMPLE = """example:
   ngc format mill.dev                                   (once; it OVERWRITES mill.dev)

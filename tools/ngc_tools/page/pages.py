@@ -140,7 +140,6 @@ class Pages:
         """Looks which pages are lost. While that one is which commands, nothing runs but what may go on."""
         for page in [page for page in self._read if not self.is_there(page)]:
             del self._read[page]
-            self.session.end_check(page)
         if self.commands in self._read:
             self._is_told = False
         else:

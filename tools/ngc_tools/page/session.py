@@ -359,11 +359,6 @@ class PageSession:
         child = self._checks.get(page)
         return child.told if child else None
 
-    def end_check(self, page: str) -> None:
-        """Nobody wants the check of a page any more."""
-        if child := self._checks.pop(page, None):
-            child.give_up()
-
     def preview(self, text: bytes, wanted: Wanted) -> bytes:
         """A program that isn't loaded as it would be drawn, in JSON, as long as it is wanted. Raises NotDone, OSError.
         """
