@@ -2,14 +2,10 @@
 //!
 //! The functions that these tests are about are called here, each from a function without a contract, so that a test
 //! isn't proved with everything that they guarantee.
-ghost use Rattle.std.specs.Prelude.{◌≡◌, ◌≤◌, false};
-
-use crate::standing::{Found, Standing};
 use ng_core::{Controller, Event, Reply, Status, power_on};
-use ng_journal::{Journal, ProgramLine, format, recover};
+use ng_journal::{format, recover};
 use ng_layout::Stored;
 use ng_num::Fault;
-use ng_offsets::Tools;
 use ng_rig::{MemoryRig, Rig};
 use ng_run::console;
 use ng_settings::Settings;
@@ -63,18 +59,6 @@ pub fn started<R: Rig + Drop, A: Allocator + Copy + Drop>(
     }
 }
 
-/// A controller over this device, powered on with settings that have no tools.
-pub fn started_bare<R: Rig + Drop>(alloc: Global, rig: R) -> Result<Controller<R, Global>, Fault> {
-    let settings = Settings {
-        tools: Tools::new(),
-        ..Settings::standard()
-    };
-    match power_on(alloc, rig, settings) {
-        Ok(controller) => Ok(controller),
-        Err((fault, _)) => Err(fault),
-    }
-}
-
 /// Gives a controller an event, and returns its reply.
 pub fn give<R: Rig, A: Allocator + Copy + Drop>(
     controller: &mut Controller<R, A>,
@@ -121,50 +105,4 @@ pub fn shown<R: Rig, A: Allocator + Copy + Drop>(
         Reply::Status(status) => Some(status),
         _ => None,
     }
-}
-
-/// The lines of the program in force that begin at its first byte and in its middle.
-fn lines<R: Rig>(
-    journal: &mut Journal<R, Global>,
-    length: u64,
-) -> Result<[Option<ProgramLine>; 2], Fault>
-    requires whole { journal.old.broken ≡ false }
-    requires length { length ≤ journal.old.saved.length }
-{
-    let first = journal.program_line(0)?;
-    let second = journal.program_line(length / 2)?;
-    Ok([first, second])
-}
-
-/// What is read of a program, if its lines can be read.
-type Lines = Result<[Option<ProgramLine>; 2], Fault>;
-
-/// What is stored on a device, which is powered on by its journal alone, with lines of its program, and the device
-/// then.
-pub fn read_again(alloc: Global, rig: Device) -> Result<(Stored<Global>, Lines, Device), Fault> {
-    match recover(alloc, rig, &Settings::standard().tools) {
-        Ok((mut journal, stored)) => {
-            let lines = lines(&mut journal, stored.length);
-            Ok((stored, lines, journal.into_rig()))
-        }
-        Err((fault, _)) => Err(fault),
-    }
-}
-
-/// What is found on a device that is powered on with settings that have no tools.
-pub fn found_on(alloc: Global, rig: Device) -> Result<Found, Fault> {
-    let mut controller = started_bare(alloc, rig)?;
-    let status = shown(&mut controller);
-    let (stored, lines, _) = read_again(alloc, rig_of(controller))?;
-    Ok(Found {
-        status: status.ok_or(Fault::Broken)?,
-        stored,
-        lines: lines?,
-    })
-}
-
-/// Whether a device stands for this once it is powered on with such settings.
-pub fn stands_for(alloc: Global, rig: Device, wanted: &Standing) -> Result<bool, Fault> {
-    let found = found_on(alloc, rig)?;
-    Ok(wanted.is_found(&found)?)
 }

@@ -1,9 +1,7 @@
-//! How a controller and its console handle power that is cut at each call, calls that fail, memory that is refused, and
-//! arbitrary images, through public functions. No program depends on this crate.
+//! How a controller handles memory that is refused and arbitrary images, through public functions. No program depends on
+//! this crate. What a device stands for where its calls fail or power is cut is tried by the cases of `ngc_cases`.
 #![tactic(auto)]
 
-#[cfg(test)]
-mod consoles;
 #[cfg(test)]
 mod devices;
 #[cfg(test)]
@@ -13,12 +11,4 @@ mod images;
 #[cfg(test)]
 mod old;
 #[cfg(test)]
-mod rows;
-#[cfg(test)]
-mod scripts;
-#[cfg(test)]
 mod sectors;
-#[cfg(test)]
-mod standing;
-#[cfg(test)]
-mod stops;

@@ -1,9 +1,6 @@
 //! Devices of format 1, written by hand from their layout (docs/DEVICE.md).
 use crate::devices::{Device, cut};
-use crate::rows::Does;
 use crate::sectors::{put, store, sync};
-use crate::standing::Standing;
-use ng_core::Source;
 use ng_num::Fault;
 use ng_rig::MemoryRig;
 use std::alloc::Global;
@@ -13,10 +10,7 @@ pub const FILLING: usize = 1_021;
 
 /// A line of the operator whose first segment is open. It uses the length of a tool, which a device of format 1 has
 /// only in its settings.
-pub const OPENED: &str = "G43 H1 G0 X0.005";
-
-/// Sets a parameter, which takes a record of two parts.
-const SETS: &str = "#1=5";
+const OPENED: &str = "G43 H1 G0 X0.005";
 
 /// The header of an epoch, in format 1, with program area 0 and no program.
 fn header(epoch: u64) -> [u8; 512] {
@@ -97,34 +91,21 @@ fn opened(record: u64) -> [u8; 512] {
     sector
 }
 
-/// A device of format 1 under epoch 2, and what it stands for with settings without tools. Its log has this many blank
-/// lines, from sector 686 on, then a line that sets a parameter, in two sectors, and a line that is open.
-pub fn of_format_1(alloc: Global, blanks: usize) -> Result<(Device, Standing), Fault> {
-    of_format_1_with(alloc, 1_710, blanks)
-}
-
-/// The same for a device with this many sectors.
-pub fn of_format_1_with(
-    alloc: Global,
-    sectors: usize,
-    blanks: usize,
-) -> Result<(Device, Standing), Fault> {
+/// A device of format 1 with this many sectors under epoch 2. Its log has this many blank lines, from sector 686 on, then
+/// a line that sets a parameter, in two sectors, and a line that is open.
+pub fn of_format_1(alloc: Global, sectors: usize, blanks: usize) -> Result<Device, Fault> {
     let mut rig = device_with_headers(alloc, sectors)?;
-    let mut standing = Standing::fresh_on(alloc, sectors)?;
     let mut sector = 686usize;
     let mut record = 0u64;
     for _ in 0..blanks {
         let entries = record.saturating_add(1);
         store(&mut rig, sector, &first_part(record, 1, 0, entries))?;
-        standing.take(Does::Executes("", 0))?;
         sector = sector.saturating_add(1);
         record = entries;
     }
     store_change(&mut rig, sector, record)?;
-    standing.take(Does::Executes(SETS, 0))?;
     let last = opened(record.saturating_add(1));
     store(&mut rig, sector.saturating_add(2), &last)?;
-    standing.take(Does::Opens(OPENED, Source::Mdi, 0))?;
     sync(&mut rig)?;
-    Ok((cut(&rig)?, standing))
+    Ok(cut(&rig)?)
 }

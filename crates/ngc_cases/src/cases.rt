@@ -15,12 +15,23 @@ pub enum Head<'a> {
     Says(&'a str, &'a str),
 }
 
+/// What is shown of a device that is powered on, once so many bytes of a part's text were answered.
+#[derive(Clone, Copy)]
+pub struct Mark<'a> {
+    pub answered: usize,
+    pub shown: &'a str,
+}
+
 /// A part of a case: its head, and the lines below it, without empty ones at the end.
 #[derive(Drop)]
 pub struct Part<'a> {
     pub head: Head<'a>,
     /// The lines after `>`: the operator's input.
     pub asked: Vec<u8>,
+    /// For each of those, how many bytes of the text come before it.
+    pub turns: Vec<usize>,
+    /// The lines after `:`.
+    pub marks: Vec<Mark<'a>>,
     /// The other lines.
     pub text: Vec<u8>,
     /// Empty lines that belong to the text if another line of it follows.
@@ -32,6 +43,8 @@ impl<'a> Part<'a> {
         Part {
             head,
             asked: Vec::new(alloc),
+            turns: Vec::new(alloc),
+            marks: Vec::new(alloc),
             text: Vec::new(alloc),
             empty_lines: 0,
         }
@@ -39,25 +52,29 @@ impl<'a> Part<'a> {
 
     /// Whether the part is empty.
     pub fn is_empty(&self) -> bool {
-        self.asked.is_empty() && self.text.is_empty()
+        self.asked.is_empty() && self.text.is_empty() && self.marks.is_empty()
     }
 
     /// Adds a line.
-    fn put(&mut self, line: &str) -> Result<()> {
+    fn put(&mut self, line: &'a str) -> Result<()> {
         if line.is_empty() {
             self.empty_lines = self.empty_lines.saturating_add(1);
             return Ok(());
         }
         let empty_lines = self.empty_lines;
         self.empty_lines = 0;
-        match asked_in(line) {
-            Some(asked) => push_line(&mut self.asked, asked),
-            None => {
-                let length = self.text.len().saturating_add(empty_lines);
-                self.text.resize(length, b'\n')?;
-                push_line(&mut self.text, line)
-            }
+        if let Some(asked) = asked_in(line) {
+            self.turns.push(self.text.len())?;
+            return push_line(&mut self.asked, asked);
         }
+        if let Some(shown) = line.strip_prefix(": ") {
+            let answered = self.text.len();
+            self.marks.push(Mark { answered, shown })?;
+            return Ok(());
+        }
+        let length = self.text.len().saturating_add(empty_lines);
+        self.text.resize(length, b'\n')?;
+        push_line(&mut self.text, line)
     }
 }
 

@@ -40,6 +40,7 @@ impl<'a> DryRun<'a> {
     fn put(&mut self, part: &'a Part<'_>) -> Result<()> {
         let text = part.text.as_slice();
         ensure!(part.asked.is_empty(), "nobody asks a dry run");
+        ensure!(part.marks.is_empty(), "nothing is tried here");
         let before = match part.head {
             Head::Title if text.is_empty() => None,
             Head::Title | Head::Says("program", "") => self.program.replace(text),

@@ -14,6 +14,8 @@ pub enum Kind {
     Run,
     /// Command lines.
     Words,
+    /// Sessions over a device in memory, in which something fails.
+    Trials,
 }
 
 /// The kind of cases in a file with this name.
@@ -23,6 +25,7 @@ pub fn kind_of(name: &str) -> Option<Kind> {
         Some((_, "refused")) => Some(Kind::Refused),
         Some((_, "run")) => Some(Kind::Run),
         Some((_, "words")) => Some(Kind::Words),
+        Some((_, "trials")) => Some(Kind::Trials),
         _ => None,
     }
 }

@@ -1,23 +1,32 @@
 //! Runs the cases of data/ as `ngc` does, and compares what is written, answered, handed out and stored with what each
 //! case says. docs/CASES.md describes the format. A file's name says what its cases are: `.dry` programs for a dry run,
-//! `.refused` lines that are refused one by one, `.run` sessions of an operator, `.words` command lines.
+//! `.refused` lines that are refused one by one, `.run` sessions of an operator, `.words` command lines, `.trials`
+//! sessions in which each call fails or power is cut.
 #![tactic(auto)]
 
 mod cases;
 mod compare;
+mod disk;
 mod dry_runs;
 mod escapes;
 mod files;
+mod lent;
 mod refusals;
+mod rehearsal;
 mod sectors;
+mod standing;
 mod steps;
+mod talking;
 mod tally;
+mod terminal;
+mod trials;
 mod workspace;
 
 use anyhow::{Context, Result, ensure};
 use cases::{Case, read_cases};
 use files::{Kind, case_files, kind_of};
 use ng_file::Hold;
+use std::alloc::Global;
 use std::process::ExitCode;
 use std::rt::{Env, Files};
 use std::{env, fs};
@@ -36,6 +45,7 @@ where
 {
     match kind {
         Kind::Dry => return dry_runs::wrong_of(rt, workspace, case),
+        Kind::Trials => return wrong_of_trials(rt.alloc(), case),
         Kind::Run => {
             let wrong = steps::wrong_of_mill(rt, workspace)?;
             if wrong.is_some() {
@@ -45,6 +55,14 @@ where
         Kind::Refused | Kind::Words => {}
     }
     steps::wrong_of(rt, workspace, case)
+}
+
+/// What is wrong with a case of trials, if anything is.
+fn wrong_of_trials(alloc: Global, case: &Case<'_>) -> Result<Option<String>> {
+    match rehearsal::check(alloc, case) {
+        Ok(()) => Ok(None),
+        Err(error) => Ok(Some(format!(in alloc; "{error:#}")?)),
+    }
 }
 
 /// Runs a case in a folder of its own, and counts it.

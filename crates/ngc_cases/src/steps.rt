@@ -59,6 +59,7 @@ impl<'a> Step<'a> {
 
 /// Adds a part, which is a step or adds to the last step.
 fn put_part<'b>(steps: &mut Vec<Step<'b>>, part: &'b Part<'_>) -> Result<()> {
+    ensure!(part.marks.is_empty(), "nothing is tried here");
     let is_new = match (part.head, steps.last_mut()) {
         (Head::Says("status", number), Some(step)) if part.is_empty() => {
             step.status.replace(number.parse()?).is_none()

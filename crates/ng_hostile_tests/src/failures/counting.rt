@@ -16,11 +16,6 @@ impl<'a> Counting<'a> {
         Counting { rig, calls }
     }
 
-    pub fn into_inner(self) -> Device {
-        let Counting { rig, calls: _ } = self;
-        rig
-    }
-
     fn count(&self) {
         let [reads, others] = self.calls.get();
         self.calls.set([reads, others.saturating_add(1)]);

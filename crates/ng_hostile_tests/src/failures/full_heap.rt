@@ -1,9 +1,8 @@
 //! A load without memory for it.
 use crate::devices::{formatted_of, give, rig_of, shown, started};
 use crate::failures::counting::Counting;
-use crate::rows::{Order, event_of};
 use linked_list_allocator::LocalHeap;
-use ng_core::{Controller, Reply};
+use ng_core::{Controller, Event, Reply, Text};
 use ng_num::Fault;
 use std::alloc::{AllocError, Global};
 use std::cell::Cell;
@@ -27,6 +26,11 @@ fn blocks(alloc: Global, heap: &LocalHeap) -> Result<Vec<Vec<u8, &LocalHeap>>, A
     Ok(blocks)
 }
 
+/// A load of a short program.
+fn load(heap: &LocalHeap) -> Result<Event<&LocalHeap>, AllocError> {
+    Ok(Event::Load(Text::of(Vec::from_slice(heap, b"M2")?)))
+}
+
 /// The replies to a load while the heap is full, and again when it isn't; whether the first has no effect; and the
 /// calls after both.
 fn answers<'h>(
@@ -35,8 +39,8 @@ fn answers<'h>(
     controller: &mut ModalState<'_, 'h>,
     calls: &Cell<[u64; 2]>,
 ) -> Result<([Reply; 2], bool, [u64; 2]), Fault> {
-    let full = event_of(heap, Order::Load("M2"))?;
-    let again = event_of(heap, Order::Load("M2"))?;
+    let full = load(heap)?;
+    let again = load(heap)?;
     let before = (shown(controller), calls.get());
     let blocks = blocks(alloc, heap)?;
     let refused = give(controller, full);

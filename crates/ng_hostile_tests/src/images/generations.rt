@@ -1,7 +1,7 @@
 //! One device at several times of its life, at first of format 1. The content at each time is an older image of the
 //! next.
 use crate::devices::{Device, copy_of, talk};
-use crate::old::{FILLING, of_format_1_with};
+use crate::old::{FILLING, of_format_1};
 use ng_num::Fault;
 use std::alloc::Global;
 
@@ -24,7 +24,7 @@ const TEXTS: &[&str] = &[
 /// The device with this many sectors after each of these times; the first is of format 1.
 pub fn generations(alloc: Global, sectors: usize) -> Result<Vec<Device>, Fault> {
     let mut all = Vec::new(alloc);
-    let (mut rig, _) = of_format_1_with(alloc, sectors, FILLING)?;
+    let mut rig = of_format_1(alloc, sectors, FILLING)?;
     for text in TEXTS {
         all.push(copy_of(&rig)?)?;
         rig = asked(alloc, rig, text)?;

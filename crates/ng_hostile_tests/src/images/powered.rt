@@ -2,10 +2,10 @@
 //! is found again.
 use crate::devices::{Device, LARGE, powered, recovered, rig_of, shown};
 use crate::sectors::{GREATEST, number_at, put, sector_of};
-use crate::standing::is_same_table;
 use ng_core::{Condition, HalfShown, Status};
 use ng_layout::{Half, Stored};
 use ng_num::Fault;
+use ng_offsets::Tools;
 use ng_rig::Rig;
 use ng_settings::Settings;
 use std::alloc::{AllocError, Global};
@@ -113,6 +113,11 @@ fn is_same_half(one: &Option<Half>, other: &Option<Half>) -> bool {
         (None, None) => true,
         _ => false,
     }
+}
+
+/// Whether two tool tables are the same.
+fn is_same_table(one: &Tools, other: &Tools) -> bool {
+    one.slots() == other.slots() && one.change_to(other).is_none()
 }
 
 /// Whether two states are the same, and nothing is open.
