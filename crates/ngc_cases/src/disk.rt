@@ -60,6 +60,8 @@ pub struct Disk<'a> {
     last: Vec<u32>,
     /// The same as it began; empty where nothing was written before that.
     began: Vec<u32>,
+    /// The sum of what the sectors add to it that were written.
+    sum: u64,
     /// How many sectors it has.
     length: usize,
     /// Whether what a sync couldn't write is taken for written, as Linux does. Else the next sync writes it.
@@ -101,6 +103,7 @@ impl<'a> Disk<'a> {
             written: Vec::new(alloc),
             last: vec![in alloc; 0u32; length]?,
             began: Vec::new(alloc),
+            sum: 0,
             length,
             forgets: false,
         })
@@ -158,15 +161,17 @@ impl<'a> Disk<'a> {
         }
     }
 
-    /// A sum over all that differs from what the disk had at first.
+    /// A sum over all that was written last to each sector.
     pub fn digest(&self) -> u64 {
-        let mut sum = self.length as u64;
-        for (sector, number) in self.last.iter().enumerate() {
-            if let Some(written) = self.numbered(*number as usize) {
-                sum = sum.wrapping_add(summed(written.digest, sector as u64));
-            }
+        self.sum.wrapping_add(self.length as u64)
+    }
+
+    /// What a sector adds to that sum.
+    fn share(&self, sector: usize) -> u64 {
+        match self.written_to(sector) {
+            Some(written) => summed(written.digest, sector as u64),
+            None => 0,
         }
-        sum
     }
 
     /// Writes a sector, which may be the one after the last.
@@ -191,9 +196,12 @@ impl<'a> Disk<'a> {
             self.length = sector.saturating_add(1);
             self.last.resize(self.length, 0)?;
         }
+        let before = self.share(sector);
         if let Some(last) = self.last.get_mut(sector) {
             *last = number as u32;
         }
+        let after = self.share(sector);
+        self.sum = self.sum.wrapping_sub(before).wrapping_add(after);
         Ok(())
     }
 
@@ -227,6 +235,7 @@ impl<'a> Disk<'a> {
             written: self.written.clone()?,
             last: self.last.clone()?,
             began: self.began.clone()?,
+            sum: self.sum,
             length: self.length,
             forgets: false,
         })
@@ -265,13 +274,12 @@ impl<'a> Disk<'a> {
         left.beginning()
     }
 
-    /// The device that a cut of power after so many writes leaves, with all of them kept.
-    pub fn left_after(&self, writes: usize) -> Result<Disk<'_>, AllocError> {
-        let mut left = self.begun()?;
-        for (n, written) in self.written.iter().take(writes).enumerate() {
-            left.name(written.sector, n.saturating_add(1))?;
+    /// Writes once more what was written to another device by one of its writes.
+    pub fn take(&mut self, from: &Disk<'_>, write: usize) -> Result<(), AllocError> {
+        match from.written.get(write) {
+            Some(written) => self.put(*written),
+            None => Ok(()),
         }
-        left.beginning()
     }
 
     /// What a read of all sectors returns.

@@ -172,15 +172,22 @@ impl<'a> Tried<'a> {
         if !self.seen.is_new_cut(image.digest())? {
             return Ok(());
         }
-        let mut disk = image;
+        let mut disk = image.copy()?;
         let before = disk.writes();
         talk(self.alloc, &mut disk, b"", SHOWS);
-        for writes in before..disk.writes() {
-            self.mark_of(
-                &mut disk.left_after(writes.saturating_add(1))?,
-                Range::only(mark),
-            )
-            .context(format_args!("power on is cut after write {writes}"))?;
+        let mut cut = image;
+        for write in before..disk.writes() {
+            cut.take(&disk, write)?;
+            self.check_image(&cut, Range::only(mark))
+                .context(format_args!("power on is cut after write {write}"))?;
+        }
+        Ok(())
+    }
+
+    /// Powers on over a copy of an image, unless that was done.
+    fn check_image(&mut self, image: &Disk<'_>, range: Range) -> Result<()> {
+        if self.seen.mark(image.digest(), range).is_none() {
+            self.mark_of(&mut image.copy()?, range)?;
         }
         Ok(())
     }
