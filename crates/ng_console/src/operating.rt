@@ -3,7 +3,7 @@ ghost use Rattle.std.specs.Prelude.{◌≡◌, ◌≤◌, Result, Some, IfOk, If
 ghost use Rattle.ng_file.specs.declared.device.NoDevice.{NoDevice};
 ghost use Rattle.ng_file.specs.declared.opened.OpenedFile.{OpenedFile};
 ghost use Rattle.ng_file.specs.Promise.{IsDurable};
-ghost use Rattle.ng_console.specs.Operating.{OperatesChosen, OperatesDevice, OperatesOpened};
+ghost use Rattle.ng_console.specs.Operating.{ForgetsNone, OperatesChosen, OperatesDevice, OperatesOpened, SettlesWeakly};
 
 use crate::format::{refuse_device, refuse_storage};
 use crate::grow::is_device;
@@ -102,8 +102,8 @@ pub fn operate_device<S: Storage + Drop, O: Write + Drop, I: Read, W: Write>(
     writer: &mut W,
 ) -> io::Result<u8>
     ensures run { IfOk result
-        (OperatesDevice S.content S.lasting S.promise settings device out (I.remaining reader.old) (W.contents writer.old)
-        (W.contents writer.new)) }
+        (OperatesDevice S.content S.lasting S.promise S.weak_promise settings device out (I.remaining reader.old)
+        (W.contents writer.old) (W.contents writer.new)) }
     ensures range { IfOk result (λ status. status ≤ 2) }
 {
     if settle(&mut device).is_err() {
@@ -139,9 +139,21 @@ fn settle<S: Storage>(device: &mut S) -> io::Result<()>
     ensures lasts { OnOk result (IfSome (S.lasting device.new) (λ held. S.content device.new ≡ Some held)) }
     ensures honest { (S.promise device.old).honest → (S.promise device.new).honest }
     ensures durable { (S.promise device.old).honest → OnOk result (IsDurable (S.content device.new) (S.promise device.new)) }
+    ensures weakly { OnOk result (SettlesWeakly (S.content device.old) (S.weak_promise device.old) (S.weak_promise device.new)) }
 {
-    if is_device(device)? {
-        rewrite(device)?;
-    }
+    renew(device)?;
     device.sync()
+}
+
+/// Writes both headers and the last sector of a device again as they are read. No byte changes, also where it fails. A
+/// file that isn't a device isn't written.
+fn renew<S: Storage>(device: &mut S) -> io::Result<()>
+    ensures same { IfSome (S.content device.old) (λ held. S.content device.new ≡ Some held) }
+    ensures honest { (S.promise device.old).honest → (S.promise device.new).honest }
+    ensures weakly { OnOk result (ForgetsNone (S.content device.old) (S.weak_promise device.old) (S.weak_promise device.new)) }
+{
+    if !is_device(device)? {
+        return Ok(());
+    }
+    rewrite(device)
 }

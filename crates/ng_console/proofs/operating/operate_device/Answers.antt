@@ -16,6 +16,7 @@ returns-in-Ok-clause-run g c =
       record {
         same = c.settle.ensures.same;
         lasts = good c.settle.result c.is_err.result c.is_err.ensures.value c.if-is_err.false c.settle.ensures.lasts;
+        weakly = good c.settle.result c.is_err.result c.is_err.ensures.value c.if-is_err.false c.settle.ensures.weakly;
       },
       record {
         bytes = c.in-Ok.ensures.bytes;
