@@ -16,7 +16,7 @@ use Rattle.ng_rig.specs.Trace.{Trace, Began, Wrote, Perhaps, Synced, Handed, May
 use Rattle.ng_file.specs.Bytes.{PutInPart, sector_of, with_bytes}
 use Rattle.ng_file.specs.Bytes.{Put as Puts}
 use Rattle.ng_file.specs.Promise.{Promise, IfPromised, HoldsNothingNew, IsDurable, MayHoldBesides}
-use Rattle.ng_file.specs.Sectors.{AreFaithful, AreHonest, AreTraced, DoAsPromised, HaveStops, IsFaithful, KeepsHonest, SectorsModel, begun, holds, image_of, trace_from, trace_of, trace_since, trace_with}
+use Rattle.ng_file.specs.Sectors.{AreFaithful, AreTraced, DoAsPromised, HaveStops, IsFaithful, KeepsHonest, SectorsModel, begun, holds, image_of, trace_from, trace_of, trace_since, trace_with}
 use Rattle.ng_file.specs.declared.done.Done.{Done}
 use Rattle.ng_file.specs.declared.done.Done.TheVariants.{Put, Sync, Hand}
 

@@ -1,5 +1,5 @@
 -- A loss of power leaves a stop.
-use Rattle.std.proofs.Common.{◌≡◌, ◌⊎◌, inl, inr, ℕ, ◌+◌, ◌<◌, ◌≤◌, List, [], refl, sym, subst, length, get_or, Option, arith}
+use Rattle.std.proofs.Common.{◌⊎◌, inl, inr, ℕ, ◌<◌, ◌≤◌, List, [], refl, sym, subst, get_or, Option, arith}
 use Rattle.ng_rig.specs.Trace.{Image, Trace, MayHold, moment, trace_at, items, IsStop}
 use Rattle.ng_file.specs.Promise.{Promise, IsLeft}
 use Rattle.ng_file.specs.Sectors.{HaveStops, IsFaithful}

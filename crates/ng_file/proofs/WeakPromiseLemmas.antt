@@ -1,8 +1,7 @@
 -- Sectors that are written again, one after another.
 use Rattle.std.proofs.Common.{◌≡◌, ◌⊎◌, inl, inr, ℕ, ◌+◌, ◌*◌, List, Option, None, Some, Result, Ok, Err, OnOk, IfSome, IsErr, IsOkAnd}
-use Rattle.std.proofs.Common.{refl, sym, ◌∙◌, ap, subst, arith}
+use Rattle.std.proofs.Common.{sym, ◌∙◌, ap, subst}
 use Rattle.std.specs.Prelude.{slice_range}
-use Rattle.ng_file.specs.Bytes.{sector_of}
 use Rattle.ng_file.specs.WeakPromise.{HoldsNothingMore, IfWeaklyPromised, PutsAnew, Rewrote, WeakPromise}
 
 -- one call after another, where what is known of the second is so if the first was honest
