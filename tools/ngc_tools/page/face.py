@@ -43,7 +43,7 @@ class Question:
     kind: str
 
 
-class Aside(str):
+class AsideCommand(str):
     """A command that is given while something runs. As it was asked for there had been so many wishes to hold."""
 
     holds = 0
@@ -72,7 +72,7 @@ class PageFace:
         self.is_left = False  # nobody is there any more
         self.is_stuck = False  # nor does `ngc` answer, since nobody reads OUT
         self.has_looked = False  # somebody agreed to the last question before a cut, since the command began
-        self._asides: deque[Aside] = deque()
+        self._asides: deque[AsideCommand] = deque()
         self._lock = threading.Condition()
         self._answer: str | None = None
         self._count = 0
@@ -133,7 +133,7 @@ class PageFace:
         """Whether somebody wants to hold since the command was given."""
         return self.level.is_up
 
-    def asides(self, words: Container[str] | None = None) -> list[Aside]:
+    def asides(self, words: Container[str] | None = None) -> list[AsideCommand]:
         """The commands that were given meanwhile, each once; where words are named, those that begin with one of them.
         """
         found = [line for line in self._asides.copy() if words is None or line.split()[0] in words]
@@ -200,7 +200,7 @@ class PageFace:
     def give_aside(self, command: str, holds: int | None = None) -> None:
         """A command that is taken while something runs, asked for now, or when there had been so many wishes to hold.
         """
-        aside = Aside(command)
+        aside = AsideCommand(command)
         aside.holds = self.holds if holds is None else holds
         self._asides.append(aside)
 
