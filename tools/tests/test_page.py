@@ -992,12 +992,12 @@ class Shown(unittest.TestCase):
 
     def test_stale(self) -> None:
         """A place that wasn't known before isn't one that was known last, once the player is gone; nor is one that
-        another player says as another session begins."""
-        for word, is_known, is_beginning, why in (
-                ("works", True, False, "player"), ("works", False, False, "power"), ("alarm", True, False, "alarm"),
-                ("works", True, True, "power")):
+        another player says as another session begins. What was said before that is."""
+        for word, is_known, begins_at, why in (
+                ("works", True, None, "player"), ("works", False, None, "power"), ("alarm", True, None, "alarm"),
+                ("works", True, 4.5, "power"), ("works", True, 5.5, "player")):
             pictured = self.pictured("")
-            pictured.session.is_beginning = is_beginning
+            pictured.session.begins_at = begins_at
             pictured.report.word, pictured.face = word, SimpleNamespace(reported_at=5.0)
             pictured.status = replace(pictured.status, known=is_known)
             pictured.stand.gone = "it is gone"

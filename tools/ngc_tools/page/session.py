@@ -116,7 +116,7 @@ class PageSession:
         self.past, self.past_mm, self.past_at = "", "", ""
         self.started = 0.0  # when the program was started in this session, in seconds since 1970
         self.is_finished = False  # it ran to its end, and nothing was begun since
-        self.is_beginning = False  # another session begins: what a player says meanwhile is by its record
+        self.begins_at: float | None = None  # since when another session begins, in seconds since 1970, while it does
         self._word = ""  # of the player's report at rest
         self.held_from = ""  # the page that held last, or LOST, since something was begun
         self._next: SessionCommand | None = None
@@ -385,11 +385,11 @@ class PageSession:
     def _begin_again(self) -> None:
         """Begins another session, where one has ended."""
         self.opened.close()
-        self.is_beginning = True
+        self.begins_at = time.time()
         try:
             self._begin()
         finally:
-            self.is_beginning = False
+            self.begins_at = None
 
     def quit(self) -> None:
         """Ends the session, once a person agrees to what that leaves. Raises Busy."""

@@ -250,9 +250,11 @@ class Pictured:
         None where it is the machine's."""
         if self.report and self.report.word == ALARM:
             return {"why": "alarm", "at": 0}
-        if self._is_lost or self.session.is_beginning:
+        begins_at = self.session.begins_at  # what a player says since is by its record
+        if self._is_lost or begins_at is not None and self.face.reported_at >= begins_at:
             return {"why": "power", "at": self.session.opened.left_at}
-        is_gone = self.stand.gone or self.session.ended  # what wasn't known before isn't "known last" by that
+        # what wasn't known before isn't "known last" by that
+        is_gone = self.stand.gone or self.session.ended or begins_at is not None
         return {"why": "player", "at": self.face.reported_at} if is_gone else None
 
     @property
