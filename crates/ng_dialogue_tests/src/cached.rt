@@ -1,5 +1,5 @@
-//! A storage with a cache, as a disk has it: a device over it is honest, though a loss of power may lose any of what was
-//! written since the last sync.
+//! A storage with a cache, as a disk has it: a device over it is honest, though a loss of power may lose any of what
+//! was written since the last sync.
 ghost use Rattle.std.specs.Prelude.{◌≡◌, ◌≤◌, ◌+◌, IfOk, length, replicate};
 ghost use Rattle.ng_file.specs.Bytes.{with_bytes};
 ghost use Rattle.ng_file.specs.Sectors.{AreHonest};

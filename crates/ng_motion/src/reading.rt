@@ -41,9 +41,9 @@ fn limits_in(root: &Table, machine: &Geometry) -> Result<Limits, MotionFault>
 ///
 /// Refused, in this order: a text that isn't TOML, or has no `[motion]`; a key there that is none of its five, of those
 /// the first by name; no `accel_mm_s2`; a value of another type or outside its key's range, the keys in the order of
-/// `Key`; an axis that gains less than 3 steps a second, each second, then one that gains more than 1,000,000,000; a rate
-/// of less than one step a second. `OutOfMemory` if memory runs out. Without
-/// `start_mm_min` or `rate_mm_min` they are 0; `slack_steps` is 2, `most_percent` 100.
+/// `Key`; an axis that gains less than 3 steps a second, each second, then one that gains more than 1,000,000,000; a
+/// rate of less than one step a second. `OutOfMemory` if memory runs out. Without `start_mm_min` or `rate_mm_min` they
+/// are 0; `slack_steps` is 2, `most_percent` 100.
 pub fn limits(alloc: Global, text: &[u8], machine: &Geometry) -> Result<Limits, MotionFault>
     ensures { MatchResult result (AreLimitsOf text.now machine.now) (IsRefused text.now machine.now) }
 {
