@@ -37,8 +37,8 @@ class HoldLevel:
             self._asked = asked
 
     def start(self, does: Callable[[], object]) -> bool:
-        """Does what starts motors or a spindle, unless the level is up; whether it did. Whoever wants to hold waits for
-        its end, so it may not wait itself."""
+        """Does what starts motors or a spindle, unless the level is up; whether it did. A wish to hold waits for its
+        end, so it may not wait itself."""
         with self._lock:
             if self.is_up:
                 return False

@@ -32,8 +32,8 @@ bool have_seconds_passed(struct play *play);
 /* Waits until a person says that the tool is in, by Enter or over the socket; false where the play has to stop. */
 bool await_tool(struct play *play, unsigned slot);
 
-/* Waits until a person says that what is switched on is as it should be; false where that isn't said, or the play has to
- * stop. */
+/* Waits until a person says that what is switched on is as it should be; false where that isn't said, or the play has
+ * to stop. */
 bool await_look(struct play *play);
 
 /* Whether nobody can release a hold any more, as the console is gone: then the play has to stop. */

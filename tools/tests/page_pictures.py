@@ -96,8 +96,8 @@ MORE = [tuple(map(int, word.split("x"))) for word in sys.argv[2:]]
 
 
 class Pictures(Walk):
-    """The settings are those of examples/mill.toml, the machine is that of docs/MACHINE.md; but it homes quickly, on a busy
-    computer too."""
+    """The settings are those of examples/mill.toml, the machine is that of docs/MACHINE.md; but it homes quickly, on a
+    busy computer too."""
 
     @classmethod
     def setUpClass(cls) -> None:

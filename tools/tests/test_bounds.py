@@ -91,7 +91,8 @@ class NoFiles(InFolder):
         Path("long.toml").write_text(Path("first.toml").read_text() + "#" * 2**20)
         Path("long-motion.toml").write_text(MOTION + "#" * 2**20)
         for tool, words in ((check, ("part.ngc", "--settings", "long.toml")),
-                            (operate, ("mill.dev", "long.toml", "out")), (player, ("good", "long.toml", "position", "--untimed")),
+                            (operate, ("mill.dev", "long.toml", "out")),
+                            (player, ("good", "long.toml", "position", "--untimed")),
                             (check, ("part.ngc", "--settings", "first.toml", "--machine", "long-motion.toml")),
                             (player, ("good", "first.toml", "position", "--untimed", "--machine", "long-motion.toml"))):
             ask = [] if tool is player else ["--ngc", ngc()]

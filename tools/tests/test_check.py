@@ -540,8 +540,8 @@ class FromDevice(Warned):
         Path("other.toml").write_text(FIRST.replace("[1000000000, 1", "[0, 1"))
         words = ("--device", "mill.dev", "--settings", "other.toml")
         self.assertEqual(self.warnings(HEAD + "G0 X0 Y0\nM2\n", *words), [
-            " warning: the machine stands at X0.500000 Y0.000000 Z0.000000, outside the travel of the settings. Are they"
-            " those of this machine?"])
+            " warning: the machine stands at X0.500000 Y0.000000 Z0.000000, outside the travel of the settings. Are"
+            " they those of this machine?"])
 
     def test_unset_length(self) -> None:
         """Z is moved before G43 or G49: which length is in force on the device, where it or a slot has one."""

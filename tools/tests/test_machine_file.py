@@ -72,9 +72,11 @@ height_um = -81250
 """
 KEYS = re.findall(r"^(?:\[(\w+)\]|(\w+) =)", MACHINE, re.MULTILINE)
 PIECES = (" ", "\t", "\n", "\r\n", "\r", "#", '"', "'", '"""', "'''", ".", ",", "=", "[", "]", "[[", "]]", "{", "}",
-          "\\", "\\u0069", "_", "-", "+", "0", "1", "15", "16", "-1", "0x1", "0b1", "1e3", "1.0", "true", "nan", "1979-05-27",
+          "\\", "\\u0069", "_", "-", "+", "0", "1", "15", "16", "-1", "0x1", "0b1", "1e3", "1.0", "true", "nan",
+          "1979-05-27",
           "9223372036854775807", "9223372036854775808", "[inputs]", "[ inputs ]", '["inputs"]', "[Inputs]",
-          "[inputs.x]", "inputs.emergency_stop = 0", 'inputs . "door" = 3', "[home]", "[[inputs]]", "inputs = {door = 4}", "[extra]",
+          "[inputs.x]", "inputs.emergency_stop = 0", 'inputs . "door" = 3', "[home]", "[[inputs]]",
+          "inputs = {door = 4}", "[extra]",
           "extra = 1", '"" = 1', "emergency_stop", "door", "\0", "\x7f", "\x1b", "\x80", "\xff", "\xc3\xa9",
           "\xe2\x80\xae", "\xed\xa0\x80", "\xef\xbb\xbf", "[\n1, 2,\n3, ]", "[1, 2, 3,]", "[1 2 3]", "[]")
 ODD = re.compile(rb"""\\|\{|\[\[|0[xob]|""\"|'''""")
