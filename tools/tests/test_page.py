@@ -654,8 +654,8 @@ class PowerOfFile(Served):
         stands = [round(1000 * float(number)) for number in recover["stands"]]
         self.assertEqual((said["along"][0], said["along"][-1], said["approach"]["length"], said["refused"]),
                          (stands, [2000, 0, 0], "0.000", ""))
-        self.assertEqual(page.post("recover", {"at": ["0", "0", "0"]})[0], 200)
-        state = page.asked()  # that isn't where the record has them
+        self.assertEqual(page.post("recover")[0], 200)
+        state = page.asked()  # nobody has confirmed where the record has them
         self.assertIn("Do they stand there?", state["question"]["text"])
         page.agree(state)
         state = self.look(page)
@@ -684,6 +684,27 @@ class PowerOfFile(Served):
         self.begin_player()
         self.assertEqual(page.post("restart"), (200, {}))
         page.until("it begins", lambda now: now["session"] != state["session"] and not now["ended"])
+
+    def test_measured(self) -> None:
+        """Where somebody measured another place than the record's, the player takes that, and legs lead back from it.
+        Of one outside of the travel it is said why it isn't taken, and nothing follows."""
+        page = self.page()
+        self.load(page, CUT)
+        self.cuts(page, 5)
+        self.pull()
+        self.begin()
+        page = self.page()
+        stood = page.next()["motors"]
+        self.assertEqual(page.post("recover", {"at": ["0", "0", "1001"]}), (200, {}))
+        state = page.rested()
+        self.assertEqual((state["motors"], state["question"]), (stood, None))
+        self.assertRegex(page.said(), "refused X2 OutsideTravel: .*Z")
+        measured = [stood[0], "0.250000", stood[2]]
+        self.assertEqual(page.post("recover", {"at": measured}), (200, {}))
+        state = page.asked()
+        self.assertIn("by legs then: straight up, over, and down", state["question"]["text"])
+        self.assertEqual((state["motors"], state["recover"]["way"], state["past_mm"]), (measured, None, ""))
+        self.assertIn("by the record the motors aren't on the path of OUT", page.said())
 
     def look(self, page: Page) -> dict:
         """Agrees to all that is asked, up to the look at the machine; the state then, or where nothing more is asked.

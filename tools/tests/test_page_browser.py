@@ -659,6 +659,31 @@ class Power(InBrowser):
         browser.wait("document.getElementById('run').textContent === 'Run' && !document.getElementById('run').disabled")
         self.no_complaints()
 
+    def test_measured(self) -> None:
+        """A place that somebody measured, other than the record's, is the machine's once the line is given up."""
+        browser = self.browser
+        self.load(SLOW, 4)
+        browser.press("Run", "#run")
+        browser.wait("ngc.state.motors[0] > 0.02")
+        before = browser.js("ngc.state.session")
+        self.pull()
+        self.begin_again()
+        browser.wait(f"ngc.state?.session && ngc.state.session !== '{before}'")
+        browser.goes_on()
+        browser.press("Next", "#over button")
+        browser.fill("input[aria-label='Machine Y']", "0.25")
+        for _ in range(3):
+            browser.press("Confirm", "#over button")
+        browser.press("Next", "#over button")
+        browser.wait("document.querySelector('#over details')")
+        self.assertIn("Legs alone lead back", browser.js("document.querySelector('#over .words').textContent"))
+        browser.press("Next", "#over button")
+        browser.press("Give up", "#over button")
+        browser.press("Yes, give it up", "#over button")
+        browser.wait("ngc.state.half === 'none' && ngc.state.known && ngc.state.motors[1] === '0.250000'")
+        self.assertEqual(browser.js("ngc.state.at.join()"), browser.js("ngc.state.motors.join()"))
+        self.no_complaints()
+
     def not_rehearsed(self) -> None:
         """Where step 1 isn't rehearsed it says why, and what can be done: on a page that watches, where it fails."""
         browser, words = self.browser, "document.querySelector('#over .words').textContent"

@@ -177,9 +177,11 @@ class Pictured:
         return self.operator.session.machine if self.stand.machine else None
 
     def _past(self) -> dict:
-        """How far the motors may be past the player's record, as long as they are where it had them."""
-        is_there = self.report is not None and self.report.at == self.session.past_at
-        return {"past": self.session.past if is_there else "", "past_mm": self.session.past_mm if is_there else ""}
+        """How far the motors may be past the player's record, and of which axes."""
+        session = self.session
+        is_past = self.report is not None and bool(session.past_axes)
+        return {"past": session.past if is_past else "", "past_mm": session.past_mm if is_past else "",
+                "past_axes": [axis in session.past_axes for axis in "XYZ"]}
 
     def _moves_too(self) -> dict:
         """What it says of them."""
