@@ -37,7 +37,7 @@ from ngc_tools.page.pages import LOST_S  # noqa: E402
 from ngc_tools.page.rehearse import RehearsalRequest, rehearsed  # noqa: E402
 from ngc_tools.page.session import SessionCommand, PageSession  # noqa: E402
 from ngc_tools.page.state import Pictured  # noqa: E402
-from ngc_tools.player.progress import NoAnswer  # noqa: E402
+from ngc_tools.player.progress import MoveReport, NoAnswer  # noqa: E402
 
 EXAMPLES = TOOLS.parent / "examples"
 COARSE = """step_nm = [100000, 100000, 100000]
@@ -851,6 +851,17 @@ class Bands(unittest.TestCase):
         self.assertEqual(self.band("run", "", False)[:2], ("Starting", "idle"))
         self.assertEqual(self.band("run", "", False, 5)[:2], ("Running", "run"))
 
+    def test_tool_change(self) -> None:
+        """What follows a tool change is told where no job runs that it is of: what the player has in hand, as after the
+        page's server was killed."""
+        for under, more in ((SimpleNamespace(word="run"), ""),
+                            (None, ". What the player has in hand, 7 lines, is carried out then")):
+            session = SimpleNamespace(ended="", stand=SimpleNamespace(gone=""), face=PageFace(), under=under)
+            report = SimpleNamespace(word="works", waits=True, tool=2, behind=7, is_held=False)
+            status = Status(3, 9, ("0", "0", "0"), False, "program", 0, "idle")
+            standing = Standing(session, status, report, "line 1 of 4", "", "", "", False, PAGE)
+            self.assertEqual(standing.band(), ("Tool change", "ask", f"Put in tool 2{more}"))
+
     def test_typed(self) -> None:
         """Before a line of one's own begins, and after it, no line of the program is told to run."""
         self.assertEqual(self.band("run", ""), ("Running", "run", "line 1 of 4"))
@@ -993,6 +1004,18 @@ class Shown(unittest.TestCase):
         """Once all is handed out it is the last line that runs, until the motors are through."""
         for word, entries, number in (("run", 0, 1), ("run", 3, 3), ("recover", 3, 3), ("mdi", 1, 1), ("", 3, 1)):
             self.assertEqual(self.pictured(word, entries).number, number, (word, entries))
+
+    def test_left(self) -> None:
+        """Amid homing after an alarm nobody is asked where an axis stands as long as home is the way for one: the
+        player takes no place before that."""
+        pictured = self.pictured("")
+        for homes, homed, left in (("XYZ", "", ""), ("XYZ", "Z", ""), ("XZ", "Z", ""), ("XZ", "XZ", "Y"),
+                                   (None, "Z", "XY"), ("XYZ", "XYZ", "")):
+            machine = MoveReport("stands", homed, "limits")
+            pictured.session = SimpleNamespace(homes=homes)
+            pictured.operator = SimpleNamespace(session=SimpleNamespace(machine=machine))
+            pictured.stand = SimpleNamespace(machine=machine)
+            self.assertEqual(pictured._left, left, (homes, homed))
 
     def test_until_over(self) -> None:
         """Once the work of a command has ended, and until the command has, what was under way last is told, and not

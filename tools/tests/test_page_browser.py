@@ -560,6 +560,17 @@ class Moves(InBrowser):
         browser.wait("ngc.state.alarm === '' && ngc.state.word === 'Idle'")
         self.no_complaints()
 
+    def test_ended_in_an_alarm(self) -> None:
+        """Where `ngc` is gone nothing is asked that nobody could take: what is enabled begins another session."""
+        browser = self.browser
+        self.machine.axes.alarm("limits")
+        browser.wait("ngc.state.alarm && !document.getElementById('over').hidden")
+        for pid in self.children():
+            os.kill(pid, signal.SIGKILL)
+        browser.wait("ngc.state.word === 'Ended' && document.getElementById('over').hidden")
+        self.assertTrue(browser.js("document.getElementById('run').disabled"))
+        self.assertFalse(browser.js("document.getElementById('restart').hidden"))
+
     def test_axis_without_home(self) -> None:
         """Of an axis that can't be homed after an alarm a person writes where it stands: the entry is empty."""
         browser, axes = self.browser, self.machine.axes

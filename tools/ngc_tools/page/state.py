@@ -231,9 +231,10 @@ class Pictured:
     @property
     def _left(self) -> str:
         """The axes of which somebody has to tell where they stand, or to home them, before an alarm is over, as `XY`;
-        nothing as long as none is homed."""
+        nothing as long as none is homed, nor as long as home is the way for one of them."""
         machine = self._machine_said
-        return left_of(machine) if machine and machine.alarm and machine.homed else ""
+        left = left_of(machine) if machine and machine.alarm and machine.homed else ""
+        return "" if set(left) & set(self.session.homes or "") else left
 
     def _in_force(self) -> dict:
         found = self._state

@@ -1,5 +1,5 @@
 // The page: what the server says is shown, what people touch is asked. It decides nothing.
-import { Alarm } from './alarm.js';
+import { Alarm, isThere } from './alarm.js';
 import { $, el, grouped, lasting, micrometres, mm, point, text, zeroOf } from './dom.js';
 import { Job, TRAVERSE } from './job.js';
 import { connect, get, hold as asksHold, post } from './link.js';
@@ -140,9 +140,10 @@ function enableDo() {
 // What the large button does now.
 function running(s) {
   const isHalf = s.half !== 'none' && !s.busy && s.does === 'idle';
+  if (s.ended) return ['Run', false, null];
   if (s.question) return ['Answer first', false, null];
-  if (s.alarm) return alarm.button(s);
-  if (s.waits) return [s.waits_tool ? `Tool ${s.waits_tool} is in` : 'Tool is out', s.yours, () => asks('go')];
+  if (isThere(s)) return alarm.button(s);
+  if (s.waits && !s.player_gone) return [s.waits_tool ? `Tool ${s.waits_tool} is in` : 'Tool is out', s.yours, () => asks('go')];
   if (s.door_open && s.held_by && !isHalf) return ['Close the door', false, null];
   if (s.busy && s.held_by && s.held_by !== 'here') return ['Go on', s.yours, () => asks('release')];
   if (isHalf) return ['Recover', s.yours && !recovery.isOpen, () => recovery.begin()];
