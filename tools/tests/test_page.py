@@ -1042,11 +1042,22 @@ class Shown(unittest.TestCase):
                 ("works", True, 4.5, "power"), ("works", True, 5.5, "player")):
             pictured = self.pictured("")
             pictured.session.begins_at = begins_at
-            pictured.report.word, pictured.face = word, SimpleNamespace(reported_at=5.0)
+            pictured.report.word, pictured.face = word, SimpleNamespace(reported_at=5.0, view=None)
             pictured.status = replace(pictured.status, known=is_known)
             pictured.stand.gone = "it is gone"
             pictured.session.ended, pictured.session.opened = "", SimpleNamespace(left_at=4.0)
             self.assertEqual(pictured._stale()["why"], why)
+
+    def test_old(self) -> None:
+        """While something is under way a place that was told a while ago isn't shown as the place now, as where the
+        player, or this computer, stands still for a second."""
+        pictured = self.pictured("run")
+        pictured.session.begins_at, pictured.session.ended, pictured.report.word = None, "", "works"
+        view, now = UnderWay("line 1", pictured.status, ""), time.time()
+        for shown, at, stale in ((view, now - 1, {"why": "player", "at": now - 1}), (view, now, None),
+                                 (None, now - 1, None), (view, 0.0, None)):
+            pictured.face = SimpleNamespace(reported_at=at, view=shown)
+            self.assertEqual(pictured._stale(), stale, (shown, now - at))
 
     def test_finished(self) -> None:
         """Nothing is finished as long as a command is under way."""

@@ -179,8 +179,11 @@ class Judge:
             is_so = not self._is_known(seen) or self._was_at(wanted, unit, since, told)
         self._count("place")
         if not is_so:
+            mill = self.bench.mill
+            ago = [told - pulse.at for pulse in mill.last(mill.pulses) if _is_near(wanted, pulse.at_mm, unit)][:1]
             raise Wrong("place", f"{seen.word}: shown is {shown}, told wrong by {self.truth.offset}; the machine is at"
-                                 f" {self.bench.mill.at_mm}; it says {seen.risk!r}, {seen.past!r}")
+                                 f" {mill.at_mm}, and came there so many s before that was told: {ago}, where"
+                                 f" {told - since:.3f} are allowed; it says {seen.risk!r}, {seen.past!r}")
 
     def _is_known(self, seen: Seen) -> bool:
         """Whether the person knows where the machine is, or the page says that it does. Of a machine whose player was

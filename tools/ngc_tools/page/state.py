@@ -1,4 +1,5 @@
 """What pages show and what changes, as JSON has it."""
+import time
 from collections.abc import Iterator
 
 from ngc_tools.formats.device import Device, State
@@ -24,6 +25,8 @@ _LINES = ("run", "resume", "recover")
 """The commands that run to the program's end."""
 _CONFIRMED = ("recover", "resume", "release")
 """What goes from where somebody has told that the motors stand."""
+_OLD_S = 0.6
+"""A place that was told so long ago isn't shown as the place now, while something is under way."""
 HERE = "here"
 """What holds the motors, where that was one of the pages."""
 
@@ -258,7 +261,12 @@ class Pictured:
             return {"why": "power", "at": self.session.opened.left_at}
         # what wasn't known before isn't "known last" by that
         is_gone = self.stand.gone or self.session.ended or begins_at is not None
-        return {"why": "player", "at": self.face.reported_at} if is_gone else None
+        return {"why": "player", "at": self.face.reported_at} if is_gone or self._is_old else None
+
+    @property
+    def _is_old(self) -> bool:
+        """Whether something is under way, and the player was heard last so long ago that the motors are elsewhere."""
+        return self.face.view is not None and 0 < self.face.reported_at < time.time() - _OLD_S
 
     @property
     def _is_lost(self) -> bool:
