@@ -663,6 +663,7 @@ class Power(InBrowser):
         browser.wait("document.getElementById('run').textContent === 'Where is it?'")
         self.assertEqual(browser.js("[ngc.state.motors[0], ngc.state.at[0]].join()"), "3.000000,0.000000")
         browser.press("Where is it?", "#run")
+        browser.wait("document.getElementById('run').disabled")  # what it opens is open
         self.look("where the machine stands")
         # in 20 ms 401 lines of 50 us at most: so many steps of each axis, 1.7321 um, rounded up
         browser.press("Where the player counts, \u00b1 0.695 mm", "#over button")
@@ -693,6 +694,8 @@ class Power(InBrowser):
         browser.press("Yes, give it up", "#over button")
         browser.wait("ngc.state.half === 'none' && ngc.state.known && ngc.state.motors[1] === '0.250000'")
         self.assertEqual(browser.js("ngc.state.at.join()"), browser.js("ngc.state.motors.join()"))
+        browser.press("Recover", "#run")  # lines are left in OUT
+        browser.wait("document.getElementById('run').disabled")  # what it opens is open
         self.no_complaints()
 
     def not_rehearsed(self) -> None:
