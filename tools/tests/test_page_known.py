@@ -215,7 +215,7 @@ class Known(Served):
 
     def test_home_from_two_places(self) -> None:
         """Power is lost in a jog: until home is through the place isn't told as known, and one that is held amid it
-        leaves two places."""
+        leaves two places, and how far each axis that isn't homed may be off."""
         page = self.page()
         page.post("jog", {"axis": "X", "sign": 1, "rate": "600", "length": "9"})
         page.until("it jogs", lambda state: float(state["motors"][0]) > 1)
@@ -224,7 +224,8 @@ class Known(Served):
         self.begin()
         page = self.page(OTHER)
         for ends in ("hold", "home"):
-            page.until("two places are told", lambda state: state["word"] == "Two places")
+            state = page.until("two places are told", lambda state: state["word"] == "Two places")
+            self.assertEqual((float(state["past_mm"] or 0) > 0, state["past_axes"]), (True, [True] * 3))
             self.assertEqual(page.post("home", {}), (200, {}))
             state = page.until("it homes", lambda state: state["does_move"].startswith("home "))
             self.assertEqual((state["word"], state["stale"] and state["stale"]["why"]), ("Homing", "power"))
@@ -232,6 +233,7 @@ class Known(Served):
                 self.assertEqual(page.post("hold"), (200, {}))
         state = page.until("it is homed", lambda state: state["homed"] == "XYZ" and not state["busy"])
         self.assertEqual((state["word"], state["stale"], state["known"]), ("Idle", None, True))
+        self.assertEqual((state["past_mm"], state["past_axes"]), ("", [False] * 3))
 
     def test_not_known_yet(self) -> None:
         """Power is lost in a cut: as long as nobody said that the motors stand where the record has them, that isn't

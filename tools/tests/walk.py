@@ -310,7 +310,7 @@ class Walk:
             self._zero_asked(text)
             return
         was_quiet, axis = not truth.may_move, _AXIS.match(text)
-        truth.may_move = True
+        truth.may_move, truth.is_change_done = True, text.startswith("Tool")
         if axis:
             ways = {f"{axis[1]}{way}" for way in {"+": "+", "\u2212": "-", "": "+-"}[axis[2]]}
             truth.ways = ways if was_quiet else truth.ways and truth.ways | ways
