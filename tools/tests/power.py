@@ -24,7 +24,8 @@ import subprocess
 import sys
 import tempfile
 import time
-from collections.abc import Callable
+import zlib
+from collections import Counter
 from contextlib import suppress
 from dataclasses import dataclass, field
 from pathlib import Path
@@ -572,7 +573,7 @@ class Shop:
 
     def kill(self) -> None:
         """Power is lost for all that is still there."""
-        self.killed = True
+        self.killed = self.killed or bool(self.processes())
         for pid in self.processes():
             with suppress(ProcessLookupError):
                 os.kill(pid, signal.SIGKILL)
@@ -657,7 +658,8 @@ class Person:
         self.record_at = record_move(shop.folder)
         self.before = ledger.made
         self.opening, self.tries, self.at_start = "", 0, True
-        self.measures = self.cutting = False
+        self.measures = self.leaves = self.cutting = False
+        self.shown: list[str] = []
 
     def work(self) -> None:
         """Works to the job's end. Raises Lost, Wrong."""
@@ -698,6 +700,9 @@ class Person:
             self.phase = "way"
         elif deed == "cuts":
             self.begins()
+            shown = re.findall(r"The motors are there: X (\S+) Y (\S+) Z (\S+)\.", text)
+            if shown and steps_of(shown[-1]) != self.ledger.steps:
+                self.shown.append(f"shown is {shown[-1]}, and the motors stand at {self.ledger.steps}")
         return "600" if deed == "feed" and "No feed is known" in text else "" if deed == "feed" else "yes"
 
     def lifts(self, found: re.Match[str]) -> str:
@@ -717,7 +722,7 @@ class Person:
         said = re.findall(r"By the record the motors stand at X (\S+) Y (\S+) Z (\S+), behind", text)[-1]
         if self.trusts or steps_of(said) == self.ledger.steps:
             return "yes"
-        self.measures = True
+        self.measures = self.leaves = True
         return "no"
 
     def begins(self) -> None:
@@ -733,7 +738,8 @@ class Person:
 
     def command(self, text: str) -> str:
         """What is typed at the console's prompt."""
-        if self.measures:
+        self.leaves = self.leaves or "the player is gone" in text
+        if self.leaves:
             return "quit"
         if "status entries" in text:
             self.entries, place, at, kind, segment = read_status(text)
@@ -859,18 +865,19 @@ class Found:
     back: int = 0
     again: int = 0
     wrong: list[str] = field(default_factory=list)
+    shown: list[str] = field(default_factory=list)  # places that aren't those of the motors
 
 
 class Chain:
     """A job from its beginning to its end, over losses of power."""
 
-    def __init__(self, tools: Tools, folder: Path, job: Job, chance: random.Random, losses: int,
-                 kept: tuple[str, ...]) -> None:
-        self.tools, self.folder, self.job, self.chance, self.losses = tools, folder, job, chance, losses
-        self.kept = kept
-        self.ledger, self.told = Ledger(job.uncut), []
+    def __init__(self, tools: Tools, folder: Path, job: Job, chance: random.Random, plans: list[Plan],
+                 plant: str = "") -> None:
+        """`plans` are how power is lost, one after the other; behind the first one a fault is planted."""
+        self.tools, self.folder, self.job, self.chance, self.plans = tools, folder, job, chance, plans
+        self.plant = plant
+        self.ledger, self.told, self.shown = Ledger(job.uncut), [], []
         self.lost = 0
-        self.plant: Callable[[Chain], None] | None = None
         (folder / "settings.toml").write_text(SETTINGS)
         (folder / "part.ngc").write_bytes(job.text)
         (folder / "out").touch()
@@ -879,10 +886,10 @@ class Chain:
     def run(self) -> None:
         """Runs it. Raises Wrong."""
         measured = None
-        for _ in range(4 * self.losses + 8):
-            how = plan(self.chance, len(self.job.uncut.moves), self.kept) if self.lost < self.losses else Plan()
+        for _ in range(2 * len(self.plans) + 8):
+            how = self.plans[self.lost] if self.lost < len(self.plans) else Plan()
             shop = Shop(self.tools, self.folder, how.deeds, measured, [])
-            person = Person(shop, self.job, self.ledger, self.chance, self.plant is not None)
+            person = Person(shop, self.job, self.ledger, self.chance, bool(self.plant))
             self.told.append(f"-- {how}, measured {measured}, at move {self.ledger.on} of {self.ledger.made} made")
             if measured:
                 self.ledger.leave()
@@ -890,6 +897,7 @@ class Chain:
                 is_over = self.session(shop, person, how)
             finally:
                 shop.kill()
+                self.shown += person.shown
                 self.told.append(f"{time.monotonic() - shop.begun:.2f} s: {shop.said}")
             if is_over:
                 return
@@ -906,16 +914,14 @@ class Chain:
             person.work()
         except Lost:
             pass
-        is_whole = not (shop.is_off or shop.is_lost or shop.killed)
-        if not is_whole or person.measures:
-            shop.kill()
-        else:
+        is_whole = not (shop.is_off or shop.is_lost or shop.killed or person.leaves)
+        if is_whole or how.alone and not person.leaves:
             shop.close()
+        shop.kill()
         person.follow()
-        if is_whole and not person.measures and not how.alone:
+        if is_whole:
             self.ends(shop)
-            return True
-        return False
+        return is_whole
 
     def after(self, shop: Shop, how: Plan, measures: bool) -> Steps | None:
         """What power left: the disk loses what it loses, the motors coast; where they stand, if that is measured."""
@@ -925,8 +931,8 @@ class Chain:
             if how.coasts != (0, 0, 0) and self.ledger.made:
                 self.ledger.steps = tuple(map(sum, zip(self.ledger.steps, how.coasts)))
                 self.ledger.leave()
-        if self.plant:
-            self.plant(self)
+        if self.plant and self.lost == 1:
+            plant_in_record(self.folder, self.plant)
             return None
         said = record_of(self.folder).get("reference", "0 0 0").split()
         if steps_of(said) == self.ledger.steps:
@@ -945,6 +951,45 @@ class Chain:
         lines = (self.folder / "out").read_bytes().split(b"\n")[:-1]
         if len(lines) != int(record["lines"]) or [each for each in lines if each[:1] != b"S"] != self.job.uncut.moves:
             raise Wrong("OUT isn't one path, or the record isn't at its end")
+
+
+PLANTS = {"record-behind": "", "place-off": "", "way-short": "player pins write 9 skip",
+          "spindle-off": "player pins write 1 still+"}
+"""Faults, with the deeds of the session after the loss of power."""
+
+
+def plant_in_record(folder: Path, plant: str) -> None:
+    """A record one line behind, or a place one step off."""
+    path, record = folder / "position", record_of(folder)
+    steps, count = steps_of(record["reference"].split()), int(record["lines"])
+    lines = (folder / "out").read_bytes().split(b"\n")[:count]
+    if plant == "record-behind":
+        line = lines.pop()
+        steps = after(steps, line, -1)
+    elif plant == "place-off":
+        steps = (steps[0] + 1, *steps[1:])
+    whole = b"".join(line + b"\n" for line in lines)
+    inode, born, _ = record["file"].split()
+    record |= {"lines": str(len(lines)), "bytes": str(len(whole)),
+               "reference": " ".join(f"{each / 1000:.6f}" for each in steps),
+               "file": f"{inode} {born} {zlib.crc32(whole[-4096:]):08x}"}
+    path.write_bytes("".join(f"{key} {value}\n" for key, value in record.items()).encode().ljust(511) + b"\n")
+
+
+def try_plant(tools: Tools, plant: str, seed: int) -> str:
+    """What the judge finds of a planted fault, in long moves; nothing, if it finds none."""
+    chance = random.Random(seed)
+    text = b"G17 G21 G90 G94\nM3 S1000\nG1 X0.8 F1200\nG1 Y0.8\nG1 X0 Z-0.4\nG1 Y0\nM2\n"
+    job = Job(text, run_uncut(tools.ngc, SETTINGS, text, []))
+    plans = [Plan(line=800 * chance.randint(0, 3) + chance.randint(300, 700), is_all=False),
+             Plan(deeds=PLANTS.get(plant, ""))]
+    with tempfile.TemporaryDirectory(prefix="ngc-power-", dir=memory()) as name:
+        chain = Chain(tools, Path(name).resolve(), job, chance, plans, plant)
+        try:
+            chain.run()
+        except Wrong as wrong:
+            return str(wrong)
+    return ""
 
 
 def program(chance: random.Random, blocks: int) -> bytes:
@@ -968,7 +1013,8 @@ def try_chain(tools: Tools, seed: int, losses: int, kept: tuple[str, ...], found
     text = program(chance, chance.randint(3, 14))
     job = Job(text, run_uncut(tools.ngc, SETTINGS, text, []))
     with tempfile.TemporaryDirectory(prefix="ngc-power-", dir=memory()) as name:
-        chain = Chain(tools, Path(name).resolve(), job, chance, chance.randint(min(1, losses), losses), kept)
+        plans = [plan(chance, len(job.uncut.moves), kept) for _ in range(chance.randint(min(1, losses), losses))]
+        chain = Chain(tools, Path(name).resolve(), job, chance, plans)
         found.chains += 1
         try:
             chain.run()
@@ -979,6 +1025,7 @@ def try_chain(tools: Tools, seed: int, losses: int, kept: tuple[str, ...], found
             found.losses += chain.lost
             found.back += chain.ledger.back
             found.again += chain.ledger.again
+            found.shown += [f"seed {seed}: {text}" for text in chain.shown]
     return []
 
 
@@ -999,21 +1046,28 @@ def main() -> int:
     parser.add_argument("--seconds", type=float, default=1e9)
     parser.add_argument("--losses", type=int, default=5)
     parser.add_argument("--kept", default="all,none,first,torn", help="of all,none,first,torn,any,hole")
+    parser.add_argument("--plant", choices=PLANTS, help="a fault that the judge has to find in each chain")
     parser.add_argument("--keep", type=Path, help="where what was said of wrong chains is kept")
     given = parser.parse_args()
     begun, found, tools = time.monotonic(), Found(), make_tools(given.ngc)
     for seed in range(given.seed, given.seed + given.chains):
+        if given.plant:
+            found.wrong.append(try_plant(tools, given.plant, seed) or "NOT FOUND")
+            print(f"seed {seed}: {found.wrong[-1]}")
+            continue
         if time.monotonic() > begun + given.seconds:
             break
         said = try_chain(tools, seed, given.losses, tuple(given.kept.split(",")), found)
         if said and given.keep:
             (given.keep / f"seed-{seed}.txt").write_text("\n".join(said))
         if said:
-            print(found.wrong[-1], flush=True)
+            print(found.wrong[-1].splitlines()[0], flush=True)
     tools.consoles.close()
     print(f"{found.losses} losses of power in {found.chains} chains, {time.monotonic() - begun:.0f} s; {found.back} pulses"
-          f" back, {found.again} moves made again; {len(found.wrong)} chains are wrong")
-    return int(bool(found.wrong))
+          f" back, {found.again} moves made again; {len(found.wrong)} chains are wrong, {len(found.shown)} places shown are")
+    for kind, count in Counter(re.sub(r"\d+|(?s:\n.*)", "", text.partition(": ")[2]) for text in found.wrong).items():
+        print(f"{count} times: {kind}")
+    return int(bool(found.wrong) != bool(given.plant) or "NOT FOUND" in found.wrong)
 
 
 if __name__ == "__main__":
