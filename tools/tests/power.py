@@ -638,6 +638,10 @@ QUESTIONS = (
 )
 
 
+FAILED = r"the player is gone|can't be (synced|written|read)|\bJ1\b|\bK5\b|Input/output error|No space left"
+"""After these words a person ends the session, and starts both anew."""
+
+
 @dataclass
 class Job:
     """A program, its uncut run, and what is typed at its stops."""
@@ -658,7 +662,7 @@ class Person:
         self.record_at = record_move(shop.folder)
         self.before = ledger.made
         self.opening, self.tries, self.at_start = "", 0, True
-        self.measures = self.leaves = self.cutting = False
+        self.measures = self.leaves = self.cutting = self.ended = False
         self.shown: list[str] = []
 
     def work(self) -> None:
@@ -738,7 +742,7 @@ class Person:
 
     def command(self, text: str) -> str:
         """What is typed at the console's prompt."""
-        self.leaves = self.leaves or "the player is gone" in text
+        self.leaves = self.leaves or bool(re.search(FAILED, text))
         if self.leaves:
             return "quit"
         if "status entries" in text:
@@ -790,6 +794,7 @@ class Person:
         """The job is made: everything is at one place."""
         if kind != "none" or steps_of(at) != self.ledger.steps:
             raise Wrong(f"ngc says {at}, {kind}, and the motors stand at {self.ledger.steps}")
+        self.ended = True
         return "quit"
 
 
@@ -826,22 +831,28 @@ class Plan:
     alone: str = ""
     keeps: dict[str, str] = field(default_factory=lambda: dict.fromkeys(FILES, "all"))
     coasts: Steps = (0, 0, 0)
+    fails: bool = False
 
 
+FAILS = ("ngc mill.dev write {} 28", "ngc mill.dev sync {} 5", "ngc out write {} 28", "ngc out write {} 5",
+         "console out sync {} 5", "player position write {} 28", "player position sync {} 5", "player out read {} 5",
+         "console out cut 1 5", "console out write 1 28", "console out read {} 5", "player position write {} 5+",
+         "player out read {} 5+", "console out sync {} 5+", "ngc mill.dev read {} 5")
 CALLS = ("ngc mill.dev write {} kill", "ngc mill.dev sync {} kill", "ngc out write {} kill", "console out sync {} kill",
          "player position write {} kill", "player position sync {} kill", "console out cut 1 kill",
          "console out write 1 kill", "console out sync 1 kill")
 
 
-def plan(chance: random.Random, moves: int, kept: tuple[str, ...]) -> Plan:
-    """A loss of power by chance, in a job of so many moves."""
+def plan(chance: random.Random, moves: int, kept: tuple[str, ...], fails: int) -> Plan:
+    """A loss of power by chance, in a job of so many moves; `fails` is the weight of calls that fail."""
     found = Plan()
-    kind = chance.choices(("line", "motors", "call", "seconds", "alone"), (30, 25, 30, 10, 5))[0]
+    kind = chance.choices(("line", "motors", "call", "seconds", "alone", "fail"), (30, 25, 30, 10, 5, fails))[0]
     if kind in ("line", "motors"):
         found.line = 1 + int(chance.random() ** 2 * moves)
         found.is_all = kind == "line"
-    elif kind == "call":
-        text = chance.choice(CALLS)
+    elif kind in ("call", "fail"):
+        text = chance.choice(CALLS if kind == "call" else FAILS)
+        found.fails = kind == "fail"
         found.deeds = text.format(1 + int(chance.random() ** 3 * (moves if "out write" in text else 120)))
     else:
         found.seconds = chance.uniform(0, 1.5)
@@ -914,18 +925,20 @@ class Chain:
             person.work()
         except Lost:
             pass
-        is_whole = not (shop.is_off or shop.is_lost or shop.killed or person.leaves)
-        if is_whole or how.alone and not person.leaves:
+        is_lost = shop.is_off or shop.is_lost or shop.killed
+        if person.ended and not is_lost or how.alone and not person.leaves:
             shop.close()
         shop.kill()
         person.follow()
-        if is_whole:
+        if not (is_lost or person.leaves or person.ended or how.fails):
+            raise Wrong("the console ended by itself")
+        if person.ended and not is_lost:
             self.ends(shop)
-        return is_whole
+        return person.ended and not is_lost
 
     def after(self, shop: Shop, how: Plan, measures: bool) -> Steps | None:
         """What power left: the disk loses what it loses, the motors coast; where they stand, if that is measured."""
-        if not measures:
+        if not measures or how.alone or how.fails:
             self.lost += 1
             shop.lose(how.keeps, self.chance)
             if how.coasts != (0, 0, 0) and self.ledger.made:
@@ -1007,13 +1020,13 @@ def program(chance: random.Random, blocks: int) -> bytes:
     return "".join(line + "\n" for line in [*lines, "G0 Z0.3", "G0 X0 Y0", "M2"]).encode()
 
 
-def try_chain(tools: Tools, seed: int, losses: int, kept: tuple[str, ...], found: Found) -> list[str]:
+def try_chain(tools: Tools, seed: int, losses: int, kept: tuple[str, ...], fails: int, found: Found) -> list[str]:
     """Runs the chain of a seed; what was said, if it is wrong."""
     chance = random.Random(seed)
     text = program(chance, chance.randint(3, 14))
     job = Job(text, run_uncut(tools.ngc, SETTINGS, text, []))
     with tempfile.TemporaryDirectory(prefix="ngc-power-", dir=memory()) as name:
-        plans = [plan(chance, len(job.uncut.moves), kept) for _ in range(chance.randint(min(1, losses), losses))]
+        plans = [plan(chance, len(job.uncut.moves), kept, fails) for _ in range(chance.randint(min(1, losses), losses))]
         chain = Chain(tools, Path(name).resolve(), job, chance, plans)
         found.chains += 1
         try:
@@ -1046,6 +1059,7 @@ def main() -> int:
     parser.add_argument("--seconds", type=float, default=1e9)
     parser.add_argument("--losses", type=int, default=5)
     parser.add_argument("--kept", default="all,none,first,torn", help="of all,none,first,torn,any,hole")
+    parser.add_argument("--fails", type=int, default=0, help="the weight of calls that fail, beside 100 losses")
     parser.add_argument("--plant", choices=PLANTS, help="a fault that the judge has to find in each chain")
     parser.add_argument("--keep", type=Path, help="where what was said of wrong chains is kept")
     given = parser.parse_args()
@@ -1057,7 +1071,7 @@ def main() -> int:
             continue
         if time.monotonic() > begun + given.seconds:
             break
-        said = try_chain(tools, seed, given.losses, tuple(given.kept.split(",")), found)
+        said = try_chain(tools, seed, given.losses, tuple(given.kept.split(",")), given.fails, found)
         if said and given.keep:
             (given.keep / f"seed-{seed}.txt").write_text("\n".join(said))
         if said:
