@@ -48,6 +48,16 @@ static bool where_to_begin(const struct player *player, const struct options *op
                    ", where it is a copy", out, found->lines, found->lines);
 }
 
+/* Where the lines lead that are carried out, by the record: where its player left the motors, unless it says another
+ * place, or they had left the path to where nobody knows. */
+static void begin_path(struct player *player, const struct record *record, bool goes_on) {
+    const int64_t *nm = record->has_path ? record->path : record->nm;
+    player->has_path = goes_on && (record->has_path || !record->is_off);
+    for (int axis = 0; axis < 3; axis++) {
+        player->path[axis] = in_steps(nm[axis], player->step_nm[axis]);
+    }
+}
+
 /* What was carried out before, and where the machine stands. The outputs begin as off. */
 static bool begin_record(struct player *player, const struct options *options, struct cause *why) {
     static struct record record;
@@ -74,6 +84,7 @@ static bool begin_record(struct player *player, const struct options *options, s
     player->told_at[0] = INT64_MIN; /* which is no place */
     player->outputs = record.outputs;
     outputs_stop(&player->outputs);
+    begin_path(player, &record, goes_on);
     for (int axis = 0; axis < 3; axis++) {
         bool has_screw = player->backlash.steps[axis] != 0 && !options->has_place;
         int64_t nm = options->has_place ? options->place_nm[axis] : record.nm[axis];

@@ -33,7 +33,7 @@ static void count(struct play *play, const struct line *line, size_t size) {
     }
     play->player->lines++;
     play->player->bytes += size;
-    play->player->is_off = false;
+    player_be_on_path(play->player);
     player_unlock(play->player);
     play->counts.pulses += line->kind == 'P';
     play->counts.waits += line->kind == 'D';
@@ -99,6 +99,7 @@ bool take_line(struct play *play, char *line, size_t *size) {
     while (!is_there && source_read(&play->player->source, HAND_BYTES)) {
         is_there = source_next(&play->player->source, line, size);
     }
+    play->player->has_path &= !is_there; /* it leads on from where the motors are */
     player_unlock(play->player);
     if (is_there && atomic_load(&play->player->stays)) {
         atomic_store(&play->player->stays, false);

@@ -563,8 +563,8 @@ class Typing(Yes):
         return self.holds >= 0
 
 
-class Recovering(PlayerTest):
-    """`recover` and `drop`, beyond what a pulled plug shows."""
+class WithOperator(PlayerTest):
+    """An operator over a player that follows."""
 
     def half_done(self, out: str = "out") -> None:
         """A device of which G0 Z0.020 is open, with an OUT of its 3 lines before and 6 of its own."""
@@ -606,6 +606,10 @@ class Recovering(PlayerTest):
     def pins(self) -> list[str]:
         """What the pins got."""
         return Path("pins").read_text().splitlines()
+
+
+class Recovering(WithOperator):
+    """`recover` and `drop`, beyond what a pulled plug shows."""
 
     def test_no(self) -> None:
         """Lines that are left forbid all that hands out more; a no to any question moves nothing."""
@@ -900,6 +904,119 @@ class Recovering(PlayerTest):
             self.assertEqual(file.read(free).strip(b"\0"), b"")
             self.assertNotIn(b"\0", file.read())
         self.assertLessEqual(there.st_blocks, before - free // 512 + 64)
+
+
+class BesideThePath(WithOperator):
+    """Where the motors aren't where the record's line leads, as once they were homed or measured: the steps of OUT tell
+    where the open segment begins, from that line on. `legs` go up to Z 0.004, over, and down."""
+
+    LEGS = ("yes", "0.004", "600", "yes", "yes")
+
+    def lost_again(self) -> None:
+        """Power is lost before anything is typed, until the device's log tells nothing any more."""
+        for _ in range(3):
+            self.run_ngc("")
+
+    def recovered(self, at: str) -> list[str]:
+        """What the pins got of `recover`, with the motors at such a place."""
+        operator, face = self.operate(*self.LEGS, words=("--untimed", "--at", *at.split()))
+        operator.do("recover")
+        self.assertFalse([said for said in face.said if "isn't the OUT" in said or "doesn't" in said])
+        return self.pins()
+
+    def test_behind(self) -> None:
+        """Behind where it begins: legs to X3, from 2 lines past it. Then its 20 lines come again."""
+        self.half_done()
+        self.record_of(5, (3000, 0, 2000))
+        self.lost_again()
+        self.assertEqual(self.recovered("0.003 0.002 0.002"),
+                         ["P 0 0 1 50"] * 2 + ["P 0 -1 0 50"] * 2 + ["P 0 0 -1 100"] * 4 + ["S 0 0.000000 0 0 0 0"]
+                         + ["P 0 0 1 50"] * 20 + ["S 0 0.000000 0 0 0 0"])
+
+    def test_before(self) -> None:
+        """Before it: legs to X2, where the path was left, and on along the line that was left."""
+        self.half_done()
+        self.record_of(2, (2000, 0, 0))
+        self.lost_again()
+        self.assertEqual(self.recovered("0.002 0.001 0")[:11],
+                         ["P 0 0 1 50"] * 4 + ["P 0 -1 0 50"] + ["P 0 0 -1 100"] * 4
+                         + ["P 1 0 0 50", "S 0 0.000000 0 0 0 0"])
+
+    def test_told_again(self) -> None:
+        """The record that a player with --at left still says where its line leads, over players. Once the motors stand
+        there, nothing but the way back is left."""
+        self.half_done()
+        self.record_of(5, (3000, 0, 2000))
+        for at in (("0.003", "0.1", "0.002"), ("0.003", "-0.2", "0.002")):
+            child = self.begin("--follow", "--untimed", "--progress", "progress", "--at", *at, "out", "first.toml",
+                               "position")
+            self.linked()
+            self.wait_for("the record has it", lambda: f"0 {at[1]}00" in Path("position").read_text())
+            child.kill()
+            child.communicate()
+            self.assertIn("\npath 0.003000 0.000000 0.002000\n", Path("position").read_text())
+        self.lost_again()
+        operator, _ = self.operate("yes", "yes", "yes", words=("--untimed", "--at", "0.003", "0", "0.002"))
+        self.assertNotIn("path", Path("position").read_text())
+        operator.do("recover")
+        self.assertEqual(self.pins()[:2], ["P 0 0 -1 50"] * 2)
+
+    def test_within_legs(self) -> None:
+        """Power is lost within legs too: at 1 mm a minute a step takes 60 ms."""
+        self.half_done()
+        self.record_of(5, (3000, 0, 2000))
+        self.lost_again()
+        child = self.begin("--follow", "--progress", "progress", "--at", "0.003", "0.002", "0.002", "out", "first.toml",
+                           "position")
+        self.linked().legs("0.004", "0.003 0 0", 33, "1")
+        self.wait_for("they go down", lambda: "reference 0.003000 0.000000 0.003" in Path("position").read_text())
+        child.kill()
+        child.communicate()
+        self.assertIn("\npath 0.003000 0.000000 0.002000\n", Path("position").read_text())
+        operator, _ = self.operate(*self.LEGS)
+        operator.do("recover")
+        self.assertEqual(self.pins()[1:6], ["P 0 0 -1 100"] * 4 + ["S 0 0.000000 0 0 0 0"])
+
+    def all_handed_out(self) -> None:
+        """No block is half-done: all lines alike were handed out, by lines of the operator's own."""
+        self.device()
+        self.run_ngc("mdi G0 X0.003\ntick 9\nmdi G0 X0.006\ntick 9\n")
+        self.assertEqual(Path("out").read_text(), "P 1 0 0 50\n" * 6)
+        self.record_of(2, (2000, 0, 0))
+
+    def go_on_from_beside(self) -> None:
+        """The motors are 0.02 mm beside the second of these lines: by legs to it, and on."""
+        operator, face = self.operate("yes", "0.004", "600", "yes", words=("--untimed", "--at", "0.002", "0.02", "0"))
+        operator.do("recover")
+        self.assertIn("by the record the motors aren't on the path of OUT: legs lead to it, and then on along 4 lines"
+                      " of OUT", face.said)
+        self.assertEqual(self.pins(), ["P 0 0 1 50"] * 4 + ["P 0 -1 0 50"] * 20 + ["P 0 0 -1 100"] * 4
+                         + ["P 1 0 0 50"] * 4)
+
+    def test_all_handed_out(self) -> None:
+        """The device's log still tells what was handed out last."""
+        self.all_handed_out()
+        self.go_on_from_beside()
+
+    def test_all_handed_out_and_lost_again(self) -> None:
+        """Nothing but its point is left."""
+        self.all_handed_out()
+        self.lost_again()
+        self.go_on_from_beside()
+
+    def test_another_out(self) -> None:
+        """An OUT that isn't the device's is still told apart, by where its lines lead from there."""
+        self.device()
+        Path("out").write_text("P 0 0 1 50\n" * 4)
+        self.record_of(1, (0, 0, 1000))
+        operator, face = self.operate(words=("--untimed", "--at", "0", "0.02", "0.001"))
+        operator.do("recover")
+        self.assertIn("out doesn't lead to where the device has the machine: it isn't the OUT of this device, or the"
+                      " record isn't that of this OUT", face.said)
+
+
+class BesideInC(InC, BesideThePath):
+    """tools/player."""
 
 
 class PulledPlug(unittest.TestCase):

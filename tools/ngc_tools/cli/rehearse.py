@@ -117,7 +117,7 @@ def recovered(args: argparse.Namespace, ngc: str, image: bytes) -> Recovery:
         if begun.size != record.size:
             raise OtherFile(f"{args.position} speaks of {record.out}, not of {args.out}")
         found = Looking(ngc, args.settings, image).look(args.out, source.file, record.lines, record.size, record.at_nm,
-                                                       record.outputs)
+                                                       record.outputs, record.path_nm)
     finally:
         source.close()
     if found.beginning is None:

@@ -6,7 +6,7 @@ long that is says where in OUT the segment begins, or how much of OUT was lost. 
 after a second power on, the segment's own lines and the point at which it begins tell it."""
 import mmap
 import os
-from collections.abc import Iterator
+from collections.abc import Callable, Iterator
 from dataclasses import dataclass, replace
 from pathlib import Path
 
@@ -29,10 +29,26 @@ _DELETES = ("delete on",)
 
 @dataclass(frozen=True, slots=True)
 class FileRecord:
-    """A player's record of a file: the motors are at `steps`, where the first `size` bytes of OUT lead."""
+    """A player's record of a file: the motors are at `steps`, where the first `size` bytes of OUT lead. Where they aren't
+    there, and it is known, that is `path`."""
 
     size: int
     steps: Steps
+    path: Steps | None = None
+
+    def ends(self, rest: bytes) -> "list[_End]":
+        """Where OUT may lead with what stands behind those bytes, the likelier first: lines may also have been handed
+        out since from where the motors are."""
+        here = [_End(_moved(self.steps, rest), False)]
+        return here if self.path in (None, self.steps) else [_End(_moved(self.path, rest), True), *here]
+
+
+@dataclass(frozen=True, slots=True)
+class _End:
+    """OUT leads to `steps`; `is_off`: not from where the motors are."""
+
+    steps: Steps
+    is_off: bool
 
 
 @dataclass(frozen=True, slots=True)
@@ -105,29 +121,34 @@ class Finder:
             if kept.size > size:
                 raise CannotTell(f"{out} has {size:,} bytes of whole lines, and the record counts {kept.size:,}: they"
                                  " don't belong together")
-            ends = _moved(kept.steps, text[kept.size:size])
-            return self._found(text, size, ends, str(out))
+            return self._found(text, size, kept.ends(text[kept.size:size]), str(out))
 
-    def _found(self, text: "bytes | mmap.mmap", size: int, ends: Steps, out: str) -> SegmentBeginning:
-        """OUT leads to `ends`, by the record."""
+    def _found(self, text: "bytes | mmap.mmap", size: int, ends: list[_End], out: str) -> SegmentBeginning:
+        """OUT leads to one of these, by the record."""
         lines = self._by_log()
-        if lines is not None:
-            whole = lines.before + lines.own
-            at = _longest(text, size, whole, lines.start, ends)
-            is_off = at is None
-            if at is None:
-                at = self._off(text, size, whole, lines)
-            if at is not None:
-                return self._beginning(size, lines, at, is_off)
+        found = self._by_lines(text, size, lines, ends, _longest) if lines is not None else None
+        if found is not None:
+            return found
         if not self.device.state.half:
-            self._check_end(out, ends)
-            return SegmentBeginning(size, ends)
-        own = self._own()
-        at = _shortest(text, size, own.own, own.start, ends)
-        if at is None:
+            return self._at_end(out, size, ends)
+        found = self._by_lines(text, size, self._own(), ends, _shortest)
+        if found is None:
             raise CannotTell(f"{out} doesn't end with lines of the half-done block: it isn't the OUT of this device, or"
                              " the record isn't that of this OUT")
-        return self._beginning(size, own, at, False)
+        return found
+
+    def _by_lines(self, text: "bytes | mmap.mmap", size: int, lines: _Lines, ends: list[_End],
+                  beginning: "Callable[[bytes | mmap.mmap, int, bytes, Steps, Steps], int | None]"
+                  ) -> SegmentBeginning | None:
+        """The same by lines with a beginning of which OUT ends: by where they lead, else by how OUT ends alone; None
+        where it doesn't."""
+        whole = lines.before + lines.own
+        for end in ends:
+            at = beginning(text, size, whole, lines.start, end.steps)
+            if at is not None:
+                return self._beginning(size, lines, at, end.is_off)
+        at = self._off(text, size, whole, lines)
+        return None if at is None else self._beginning(size, lines, at, True)
 
     def never_cut(self, at: list[str], ahead: int) -> NeverCut:
         """What was handed out before the half-done segment and not carried out: the motors are at `at`, in machine
@@ -162,13 +183,15 @@ class Finder:
                    lambda status: _key(status) >= (run.ends, 0)) as copy:
             return bytes(copy.text)
 
-    def _check_end(self, out: str, ends: Steps) -> None:
-        """Raises CannotTell if OUT doesn't lead to the point that the device knows."""
+    def _at_end(self, out: str, size: int, ends: list[_End]) -> SegmentBeginning:
+        """The end of OUT. Raises CannotTell if it doesn't lead to the point that the device knows."""
         state = self.device.state
         point = tuple(map(rounded, state.point_nm, self.step_nm))
-        if state.point_known and point != ends:
-            raise CannotTell(f"{out} doesn't lead to where the device has the machine: it isn't the OUT of this device,"
-                             " or the record isn't that of this OUT")
+        for end in ends:
+            if not state.point_known or point == end.steps:
+                return SegmentBeginning(size, end.steps, is_off=end.is_off)
+        raise CannotTell(f"{out} doesn't lead to where the device has the machine: it isn't the OUT of this device, or"
+                         " the record isn't that of this OUT")
 
     @staticmethod
     def _beginning(size: int, lines: _Lines, at: int, is_off: bool) -> SegmentBeginning:

@@ -86,17 +86,22 @@ class Looking:
         self.finder = Finder(ngc, settings, image)
         self.device = Device(image)
 
-    def look(self, out: str, file: int, lines: int, size: int, at_nm: Point, kept: Switch) -> Recovery:
+    def look(self, out: str, file: int, lines: int, size: int, at_nm: Point, kept: Switch,
+             path_nm: Point | None = None) -> Recovery:
         """How it stands: a player has carried out so much of OUT, which is open, with such outputs at its end by the
-        record. Raises OSError."""
+        record; that leads to `path_nm` where the motors aren't there and it is known. Raises OSError."""
         position = Position(self.settings.step_nm, at_nm)
-        x, y, z = position.steps
+        path = None if path_nm is None else self._steps(path_nm)
         try:
-            found = self.finder.find(out, FileRecord(size, (x, y, z)))
+            found = self.finder.find(out, FileRecord(size, self._steps(at_nm), path))
             outputs = self._outputs(file, size, found.size - len(found.missing), kept)
             return self._way(file, Recovery(lines, size, at_nm, outputs, lines, found), position)
         except (CannotTell, CommandRefused, Ended, BadLine) as error:
             return Recovery(lines, size, at_nm, kept, lines, problem=Failure.said(error))
+
+    def _steps(self, at_nm: Point) -> Point:
+        x, y, z = Position(self.settings.step_nm, at_nm).steps
+        return x, y, z
 
     def _outputs(self, file: int, size: int, to: int, kept: Switch) -> Switch:
         """The outputs where the motors are. Where the switch that set them can't be read any more, they are those with
@@ -191,7 +196,10 @@ class OutFound:
         elif self.looking is None:
             self.recovery = Recovery(lines, size, (x, y, z), report.outputs, lines, problem="the device can't be read")
         else:
-            self.recovery = self.looking.look(self.link.out, self.link.file, lines, size, (x, y, z), report.outputs)
+            path = self.link.leads().split()
+            path_nm = (nanometres(path[0]), nanometres(path[1]), nanometres(path[2])) if path else None
+            self.recovery = self.looking.look(self.link.out, self.link.file, lines, size, (x, y, z), report.outputs,
+                                              path_nm)
 
     def look_again(self, report: Report) -> None:
         """Looks again if the motors aren't where they were. Raises NoAnswer, OSError."""

@@ -181,7 +181,7 @@ def where_to_begin(record: Record | None, source: Source, anew: bool, restored: 
     begun = Record(out) if record is None else Record(out, 0, 0, record.outputs, record.at_nm, screws=record.screws)
     if record is None or anew or not source.is_file or record.size == 0:
         return begun, ""
-    goes_on = replace(begun, lines=record.lines, size=record.size, is_off=record.is_off)
+    goes_on = replace(begun, lines=record.lines, size=record.size, is_off=record.is_off, path_nm=record.path_nm)
     there = source.mark(record.size) if source.holds(record.size) else None
     if source.failed:
         raise source.failed
