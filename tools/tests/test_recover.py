@@ -10,6 +10,7 @@ import unittest
 from collections.abc import Callable
 from functools import partial
 from pathlib import Path
+from unittest.mock import patch
 
 sys.path.insert(0, str(Path(__file__).resolve().parent))
 
@@ -431,6 +432,39 @@ class Finding(InFolder):
                          (wanted, uncut.at(wanted), False))
         self.assertEqual(whole.splitlines(), uncut.lines[:whole.count(b"\n")])
         self.assertGreaterEqual(len(whole), found.size)
+        self.try_whole(uncut, chance, lines, wanted)
+
+    def try_whole(self, uncut: object, chance: random.Random, lines: list[bytes], wanted: int) -> None:
+        """The same where nothing of OUT is lost, as within a session."""
+        carried = chance.randint(max(0, len(lines) - 150), len(lines))
+        Path("c.out").write_bytes(b"".join(lines))
+        finder = Finder(ngc(), "settings.toml", Path("c.dev").read_bytes(), is_whole=True)
+        size, (x, y, z) = sum(map(len, lines[:carried])), uncut.at(carried)
+        found = finder.find("c.out", FileRecord(size, (x, y, z)))
+        self.assertEqual((b"".join(lines)[:found.size].count(b"\n"), found.steps, found.missing, found.is_off),
+                         (wanted, uncut.at(wanted), b"", False))
+
+    def test_whole(self) -> None:
+        """Where nothing of OUT is lost the session's work isn't done again: the open segment's own lines tell where it
+        begins, and where nothing is open, that is at the end."""
+        self.device()
+        console = Console(ngc(), "mill.dev", "first.toml", "out")
+        self.addCleanup(console.kill)
+        console.load(b"G21 G90 G94\nG1 X0.5 F60\nX0\nX0.03\nM2\n")
+        console.ask("start")
+        for count, half, begins, x in ((80, "program", 0, 0), (500, "none", 500, 500), (600, "program", 500, 500),
+                                       (1012, "program", 1000, 0)):
+            while Path("out").read_bytes().count(b"\n") < count or console.status().half != half:
+                console.ask("tick 1")
+            lines = Path("out").read_bytes().splitlines(True)
+            self.assertEqual(len(lines), count)
+            stands, size = sum(int(line.split()[1]) for line in lines), sum(map(len, lines))
+            finder = Finder(ngc(), "first.toml", Path("mill.dev").read_bytes(), is_whole=True)
+            with patch.object(Finder, "_by_log", side_effect=AssertionError("it is done again")):
+                for y in (0, 9):  # on the path, and off it
+                    found = finder.find("out", FileRecord(size, (stands, y, 0)))
+                    self.assertEqual((found.size, found.steps, found.missing, found.is_off),
+                                     (sum(map(len, lines[:begins])), (x, 0, 0), b"", y != 0), count)
 
     def test_short(self) -> None:
         """Where less was handed out than the bytes by which a place is known, the search comes to its end: by hand, OUT

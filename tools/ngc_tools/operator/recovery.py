@@ -80,10 +80,10 @@ class Recovery:
 class Looking:
     """Looks at OUT, with `ngc`, the settings and the device as the session left it."""
 
-    def __init__(self, ngc: str, settings: str, image: bytes) -> None:
-        """Raises NoDevice, BadSettings, OSError."""
+    def __init__(self, ngc: str, settings: str, image: bytes, is_whole: bool = False) -> None:
+        """`is_whole`: OUT has all that was handed out. Raises NoDevice, BadSettings, OSError."""
         self.settings, self.path = Settings.read(settings), settings
-        self.finder = Finder(ngc, settings, image)
+        self.finder = Finder(ngc, settings, image, is_whole)
         self.device = Device(image)
 
     def look(self, out: str, file: int, lines: int, size: int, at_nm: Point, kept: Switch) -> Recovery:
@@ -149,9 +149,10 @@ class OutFound:
     _at_nm: Point = (0, 0, 0)
 
     @staticmethod
-    def of(ngc: str, settings: str, link: SyncedLink, device: Device | None) -> "OutFound":
-        """Looks, and mends. The player goes on at once where no line is left. Raises NoAnswer, BadSettings, OSError."""
-        looking = Looking(ngc, settings, device.image) if device else None
+    def of(ngc: str, settings: str, link: SyncedLink, device: Device | None, is_whole: bool = False) -> "OutFound":
+        """Looks, and mends. The player goes on at once where no line is left. `is_whole`: OUT has all that was handed
+        out. Raises NoAnswer, BadSettings, OSError."""
+        looking = Looking(ngc, settings, device.image, is_whole) if device else None
         found = OutFound(link, looking, Recovery(), [])
         found.look()
         lost = found.recovery.beginning.missing if found.recovery.beginning else b""
