@@ -99,8 +99,11 @@ class Looking:
             return Recovery(lines, size, at_nm, kept, lines, problem=Failure.said(error))
 
     def _outputs(self, file: int, size: int, to: int, kept: Switch) -> Switch:
-        """The outputs where the motors are. Where the switch that set them can't be read any more, they are those with
-        which the segment begins, or those handed out last, unless a switch stands between."""
+        """The outputs where the motors are. Within the segment they are those with which it begins, but for a switch in
+        it: so OUT isn't searched for one that was long ago. Before it, where the switch that set them can't be read any
+        more, they are those too, or those handed out last, unless a switch stands between."""
+        if self.device.state.half and to <= size and not is_switch_between(file, to, size):
+            return self.finder.segment(self.device.image)[1]
         found = switched_at(file, size, kept)
         if found is not None:
             return found
