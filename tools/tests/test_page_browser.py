@@ -671,8 +671,8 @@ class Power(InBrowser):
         browser.wait("document.getElementById('run').textContent === 'Run' && !document.getElementById('run').disabled")
         self.no_complaints()
 
-    def test_measured(self) -> None:
-        """A place that somebody measured, other than the record's, is the machine's once the line is given up."""
+    def half_done(self) -> None:
+        """Power is lost in a cut, and comes back: the page asks where the machine stands."""
         browser = self.browser
         self.load(SLOW, 4)
         browser.press("Run", "#run")
@@ -683,7 +683,11 @@ class Power(InBrowser):
         browser.wait(f"ngc.state?.session && ngc.state.session !== '{before}'")
         browser.goes_on()
         browser.press("Next", "#over button")
-        browser.fill("input[aria-label='Machine Y']", "0.25")
+
+    def gives_up(self, y: str) -> None:
+        """Writes where the machine stands, confirms it, and gives the line up."""
+        browser = self.browser
+        browser.fill("input[aria-label='Machine Y']", y)
         for _ in range(3):
             browser.press("Confirm", "#over button")
         browser.press("Next", "#over button")
@@ -692,11 +696,27 @@ class Power(InBrowser):
         browser.press("Next", "#over button")
         browser.press("Give up", "#over button")
         browser.press("Yes, give it up", "#over button")
-        browser.wait("ngc.state.half === 'none' && ngc.state.known && ngc.state.motors[1] === '0.250000'")
+        browser.wait("ngc.state.half === 'none' && !ngc.state.busy")
+
+    def test_measured(self) -> None:
+        """A place that somebody measured, other than the record's, is the machine's once the line is given up."""
+        browser = self.browser
+        self.half_done()
+        self.gives_up("0.25")
+        browser.wait("ngc.state.known && ngc.state.motors[1] === '0.250000'")
         self.assertEqual(browser.js("ngc.state.at.join()"), browser.js("ngc.state.motors.join()"))
         browser.press("Recover", "#run")  # lines are left in OUT
         browser.wait("document.getElementById('run').disabled")  # what it opens is open
         self.no_complaints()
+
+    def test_outside(self) -> None:
+        """From outside of the travel, as where home was held at a switch, a line can be given up too: nobody knows
+        then where the machine is, and why its place isn't taken is told."""
+        browser = self.browser
+        self.half_done()
+        self.gives_up("1001")
+        self.assertFalse(browser.js("ngc.state.known"))
+        self.assertIn("X2 OutsideTravel", browser.js("document.getElementById('toast').textContent"))
 
     def not_rehearsed(self) -> None:
         """Where step 1 isn't rehearsed it says why, and what can be done: on a page that watches, where it fails."""

@@ -335,16 +335,15 @@ export class Recovery {
   }
 
   async resume() {
-    if (await this.isTold()) await this.asks('resume');
+    const answer = await this.tells();
+    if (answer && !answer.refused) await this.asks('resume');
   }
 
+  // Where a place isn't taken, as outside of the travel, the line is given up all the same: then none is known.
   async abandon() {
-    if (await this.isTold() && await this.asks('abandon')) this.close();
+    if (await this.tells() && await this.asks('abandon')) this.close();
   }
 
-  // Tells where each axis was confirmed to stand, also where the record has it elsewhere; whether that is taken.
-  async isTold() {
-    const answer = await this.asks('reference', { at: this.at, anyway: true });
-    return answer !== null && !answer.refused;
-  }
+  // Tells where each axis was confirmed to stand, also where the record has it elsewhere.
+  tells() { return this.asks('reference', { at: this.at, anyway: true }); }
 }
