@@ -38,7 +38,13 @@ traverse_nm_per_min = 6000000000
 period_us = 50
 tools_nm = [50000000]
 """
+TOOL = b"tool 1 50\n"
+MACHINE = """[motion]
+accel_mm_s2 = [20000, 20000, 20000]
+most_percent = 150
+"""
 PATIENCE_S = int(os.environ.get("NGC_PATIENCE_S", "30"))
+AHEAD = 100
 FILES = ("mill.dev", "out", "position")
 SECTOR = 512
 OFF = ("0", "0", "0", "0")
@@ -114,7 +120,7 @@ def run_uncut(ngc: str, settings: str, text: bytes, typed: list[bytes]) -> Uncut
     with tempfile.TemporaryDirectory(prefix="ngc-uncut-", dir=memory()) as name:
         folder = Path(name)
         (folder / "settings").write_text(settings)
-        begin = b"load %d\n" % len(text) + text + b"start\n"
+        begin = TOOL + b"load %d\n" % len(text) + text + b"start\n"
         goes_on = [command for line in typed for command in (b"mdi " + line, b"continue")]
         commands = [begin, *(b"tick 1000000\n%s\n" % each for each in (*goes_on, b"continue"))]
         counts = re.findall(r"^ticks (\d+)", run_ngc(ngc, folder, b"".join(commands)), re.MULTILINE)
@@ -206,6 +212,20 @@ class Ledger:
             raise Wrong(f"moves {self.made} to {at - 1} are never made")
         self.again += at < self.made
         self.made = max(self.made, at + 1)
+
+    def loses(self, to: int, most: int) -> None:
+        """Over a pipe what was handed out before move `to`, and not made, is never cut: at most so many moves. Raises
+        Wrong."""
+        if to > self.made and most:
+            if to - self.made > most:
+                raise Wrong(f"{to - self.made} moves from {self.made} on are never made")
+            self.lost += to - self.made
+            self.made = to
+
+    def goes_free(self, line: bytes) -> None:
+        """A line that isn't the program's, as of a jog."""
+        if not self.switches(line):
+            self.steps, self.on = after(self.steps, line), None
 
     def takes_back(self, line: bytes) -> None:
         """A pulse of a way back. Raises Wrong."""
@@ -446,6 +466,28 @@ class Consoles:
 
 
 @dataclass
+class Job:
+    """A program, its uncut run, and what is typed at its stops. `over` is a file or a pipe; with ramps the motors follow
+    `machine.toml`, are jogged at stops, held, and go at other rates."""
+
+    text: bytes
+    uncut: Uncut
+    typed: list[bytes] = field(default_factory=list)
+    over: str = "file"
+    has_ramps: bool = False
+
+    @property
+    def words(self) -> list[str]:
+        """The player's."""
+        return [*(["-f"] if self.over == "file" else ["-b", "4096"]), *(["-m", "machine.toml"] if self.has_ramps else [])]
+
+    def typed_at(self, move: int | None) -> bytes:
+        """The line that is typed before this move; nothing, if there is none."""
+        at = sorted({place for kind, place, _ in self.uncut.begins if kind == "mdi"})
+        return next((line for place, line in zip(at, self.typed) if self.uncut.begins["mdi", place, 0] == move), b"")
+
+
+@dataclass
 class Tools:
     """Where the programs are."""
 
@@ -455,6 +497,10 @@ class Tools:
     consoles: Consoles
 
 
+class Unjudged(Exception):
+    """The judge doesn't know what has to be."""
+
+
 class Lost(Exception):
     """Power was lost, or the console is gone."""
 
@@ -462,9 +508,8 @@ class Lost(Exception):
 class Shop:
     """A player and a console over the files of a folder, from their start to a loss of power."""
 
-    def __init__(self, tools: Tools, folder: Path, deeds: str, at: Steps | None, words: list[str]) -> None:
-        """Starts both. `deeds` are of power_disk.c, `at` is where the motors were measured, `words` are more of the
-        player's."""
+    def __init__(self, tools: Tools, folder: Path, deeds: str, at: Steps | None, job: Job) -> None:
+        """Starts both. `deeds` are of power_disk.c, `at` is where the motors were measured."""
         self.tools, self.folder = tools, folder
         self.log = folder / "log"
         with self.log.open("wb") as file:
@@ -479,11 +524,12 @@ class Shop:
         (folder / "progress").unlink(missing_ok=True)
         self.env = {"NGC_POWER": str(self.log), "NGC_POWER_DO": deeds}
         measured = [] if at is None else ["-a", *(f"{each / 1000:.3f}" for each in at)]
-        self.player = self._start_player([*measured, *words])
+        self.player = self._start_player([*measured, *job.words])
+        self.meanwhile: list[tuple[float, str]] = []  # what is typed while something runs, and when; "hold" is Ctrl-C
         self.console = self.into = self.out_of = -1
 
     def _start_player(self, words: list[str]) -> subprocess.Popen[bytes]:
-        command = [self.tools.player, "-t", "-f", "-o", "1", "-s", "progress", "-p", "pins", *words, "out",
+        command = [self.tools.player, "-t", "-o", "1", "-s", "progress", "-p", "pins", *words, "out",
                    "settings.toml", "position"]
         env = {**os.environ, **self.env, "LD_PRELOAD": self.tools.preload, "NGC_POWER_ROLE": "player"}
         with (self.folder / "said").open("ab") as said:
@@ -527,6 +573,11 @@ class Shop:
                     found.append(pid)
         return found
 
+    def spare(self) -> None:
+        """Power isn't lost any more, but by a deed."""
+        self.deadline = self.alone = None
+        self.stop_at(0, False)
+
     def pins(self) -> int:
         """How many lines the motors made up to now, since the job began."""
         return len(self.lines())
@@ -550,6 +601,8 @@ class Shop:
                 raise Lost
             if self.alone and time.monotonic() > self.alone[0]:
                 self.kill_alone()
+            if self.meanwhile and time.monotonic() > self.meanwhile[0][0]:
+                self._say_meanwhile(self.meanwhile.pop(0)[1])
             if time.monotonic() > until:
                 raise Wrong(f"no prompt for {PATIENCE_S} s")
             if select.select([self.out_of], [], [], 0.01)[0]:
@@ -559,6 +612,12 @@ class Shop:
                 if not piece:
                     raise Lost
         return said
+
+    def _say_meanwhile(self, text: str) -> None:
+        if text == "hold":
+            os.kill(self.console, signal.SIGINT)
+        else:
+            self.type(text)
 
     def _settles(self) -> bool:
         """Lets the record come to where the motors stand without power."""
@@ -619,8 +678,8 @@ class Shop:
 
 
 def read_or_none(path: Path) -> bytes | None:
-    """A file's bytes, if it is there."""
-    return path.read_bytes() if path.exists() else None
+    """A file's bytes, if it is one."""
+    return path.read_bytes() if path.is_file() else None
 
 
 # ---- a person, and what they are asked
@@ -634,21 +693,13 @@ QUESTIONS = (
     (r"yes goes there, Enter holds", "goes"),
     (r"yes goes on with the cut", "cuts"),
     (r"Does the spindle turn, and is the right tool in\?", "cuts"),
+    (r"go on all the same\? yes goes on", "asks"),
     (r"half-done.*ends the session|yes ends|yes alone ends", "yes"),
 )
 
 
 FAILED = r"the player is gone|can't be (synced|written|read)|\bJ1\b|\bK5\b|Input/output error|No space left"
 """After these words a person ends the session, and starts both anew."""
-
-
-@dataclass
-class Job:
-    """A program, its uncut run, and what is typed at its stops."""
-
-    text: bytes
-    uncut: Uncut
-    typed: list[bytes] = field(default_factory=list)
 
 
 class Person:
@@ -659,11 +710,13 @@ class Person:
         self.shop, self.job, self.ledger, self.chance, self.trusts = shop, job, ledger, chance, trusts
         self.phase, self.to, self.entries = "still", 0, -1
         self.followed, ledger.legs = shop.pins(), None
-        self.record_at = record_move(shop.folder)
+        self.record_at = record_move(shop.folder) if job.over == "file" else 0
         self.before = ledger.made
         self.opening, self.tries, self.at_start = "", 0, True
         self.measures = self.leaves = self.cutting = self.ended = False
+        self.was_free = self.by_hand = False
         self.shown: list[str] = []
+        self.errands: list[str] = []  # lines of the person's own that come next
 
     def work(self) -> None:
         """Works to the job's end. Raises Lost, Wrong."""
@@ -681,6 +734,9 @@ class Person:
         elif self.phase == "cut":
             for line in lines:
                 self.ledger.cut(line)
+        elif self.phase == "free":
+            for line in lines:
+                self.ledger.goes_free(line)
         elif not all(self.ledger.switches(line) for line in lines):
             raise Wrong(f"the motors move though nobody said so: {lines[:3]}")
 
@@ -700,7 +756,9 @@ class Person:
             return self.stands(text)
         if deed == "lift":
             return self.lifts(found)
-        if deed == "goes":
+        if deed == "asks":
+            self.shown.append("asked is what is known: " + text.strip().splitlines()[-2])
+        elif deed == "goes":
             self.phase = "way"
         elif deed == "cuts":
             self.begins()
@@ -748,6 +806,7 @@ class Person:
         if "status entries" in text:
             self.entries, place, at, kind, segment = read_status(text)
             self.to = self.target(place, kind, segment)
+            self.ledger.loses(self.to, AHEAD if self.job.over == "pipe" else 0)
             if self.ledger.is_through() and not self.is_left(self.opening):
                 return self.ends(at, kind)
         if self.at_start:
@@ -755,11 +814,11 @@ class Person:
             return "status"
         self.phase = "still"
         self.tries += 1
-        if self.tries > 12:
+        if self.tries > 30:
             raise Wrong("nothing that the console proposes leads on")
-        if self.entries == 0:
-            self.entries = 1
-            return "load part.ngc"
+        if self.entries < 2:
+            self.entries += 1
+            return ("tool 1 50", "load part.ngc")[self.entries - 1]
         if self.is_left(self.opening):
             self.opening = ""
             return "recover"
@@ -776,15 +835,52 @@ class Person:
         """The program begins, or goes on."""
         if self.is_left(text):
             return "recover"
-        if not self.cutting:
+        if self.errands:
+            self.phase = "free"
+            return self.errands.pop(0)
+        if not self.cutting or self.was_free:
+            if self.ledger.steps != self.job.uncut.points[self.to]:
+                self.errands, self.was_free = self.back_by_hand(), True
+                return "reference player"
             self.begins()
+        self.was_free = False
+        return self.goes_on()
+
+    def back_by_hand(self) -> list[str]:
+        """The lines that bring the machine to where the program goes on, with its outputs."""
+        uncut, to = self.job.uncut, self.to
+        self.by_hand = True
+        self.shop.spare()
+        spindle, mist, flood, _ = uncut.outputs[to] if to < len(uncut.moves) else uncut.last
+        x, y, z = (f"{each / 1000:.3f}" for each in uncut.points[to])
+        number, _, speed = spindle.partition(" ")
+        return [f"G53 G0 X{x} Y{y} Z{z}", "M9", *(["M7"] if mist == "1" else []), *(["M8"] if flood == "1" else []),
+                f"M{'534'[int(number)]}" + (f" S{speed}" if speed else "")]
+
+    def goes_on(self) -> str:
+        """The line that is typed at a stop, after a jog there and back; else `run`, and somebody may hold, or choose
+        another rate meanwhile."""
+        typed, now, at = self.job.typed_at(self.ledger.on), time.monotonic(), self.ledger.on
+        if typed and self.ledger.made == at and self.job.has_ramps and self.to != at:
+            self.to, self.was_free, self.phase, self.errands = at, True, "free", ["jog X- 600 for 0.1"]
+            return "jog X+ 600 for 0.1"
         self.phase = "cut"
+        if typed and self.ledger.made == at:
+            return typed.decode()
+        if self.job.has_ramps and self.chance.random() < 0.5:
+            rate = self.chance.choice(("percent 50", "percent 120", "percent 100"))
+            self.shop.meanwhile = [(now + self.chance.uniform(0, 0.3), rate),
+                                   (now + self.chance.uniform(0.3, 0.6), "hold")]
         return "run"
 
     def target(self, place: int, kind: str, segment: int) -> int:
         """The move that comes next by a status."""
         uncut = self.job.uncut
         if kind != "none":
+            if kind == "mdi":
+                place = min((each for of, each, _ in uncut.begins if of == "mdi" and each >= place), default=place)
+            if (kind, place, segment) not in uncut.begins:
+                raise Unjudged("a line of the person's own is half-done")
             return uncut.begins[kind, place, segment]
         if place == 0:
             return len(uncut.moves) if self.entries >= uncut.entries else 0
@@ -875,8 +971,9 @@ class Found:
     states: int = 0
     back: int = 0
     again: int = 0
+    unjudged: int = 0
     wrong: list[str] = field(default_factory=list)
-    shown: list[str] = field(default_factory=list)  # places that aren't those of the motors
+    shown: list[str] = field(default_factory=list)  # places that aren't those of the motors, questions for nothing
 
 
 class Chain:
@@ -888,10 +985,14 @@ class Chain:
         self.tools, self.folder, self.job, self.chance, self.plans = tools, folder, job, chance, plans
         self.plant = plant
         self.ledger, self.told, self.shown = Ledger(job.uncut), [], []
-        self.lost = 0
+        self.lost, self.by_hand = 0, False
+        (folder / "machine.toml").write_text(MACHINE)
         (folder / "settings.toml").write_text(SETTINGS)
         (folder / "part.ngc").write_bytes(job.text)
-        (folder / "out").touch()
+        if job.over == "file":
+            (folder / "out").touch()
+        else:
+            os.mkfifo(folder / "out")
         subprocess.run([tools.ngc, "format", folder / "mill.dev"], check=True)
 
     def run(self) -> None:
@@ -899,16 +1000,17 @@ class Chain:
         measured = None
         for _ in range(2 * len(self.plans) + 8):
             how = self.plans[self.lost] if self.lost < len(self.plans) else Plan()
-            shop = Shop(self.tools, self.folder, how.deeds, measured, [])
+            shop = Shop(self.tools, self.folder, how.deeds, measured, self.job)
             person = Person(shop, self.job, self.ledger, self.chance, bool(self.plant))
             self.told.append(f"-- {how}, measured {measured}, at move {self.ledger.on} of {self.ledger.made} made")
-            if measured:
+            if measured or self.job.over == "pipe":
                 self.ledger.leave()
             try:
                 is_over = self.session(shop, person, how)
             finally:
                 shop.kill()
                 self.shown += person.shown
+                self.by_hand = self.by_hand or person.by_hand
                 self.told.append(f"{time.monotonic() - shop.begun:.2f} s: {shop.said}")
             if is_over:
                 return
@@ -961,6 +1063,8 @@ class Chain:
             raise Wrong(f"the player's status is {shop.player.returncode}: {(self.folder / 'said').read_text()}")
         if steps_of(record["reference"].split()) != ledger.steps:
             raise Wrong(f"the record says {record['reference']}, and the motors stand at {ledger.steps}")
+        if self.by_hand or self.job.over == "pipe":
+            return
         lines = (self.folder / "out").read_bytes().split(b"\n")[:-1]
         if len(lines) != int(record["lines"]) or [each for each in lines if each[:1] != b"S"] != self.job.uncut.moves:
             raise Wrong("OUT isn't one path, or the record isn't at its end")
@@ -1005,8 +1109,9 @@ def try_plant(tools: Tools, plant: str, seed: int) -> str:
     return ""
 
 
-def program(chance: random.Random, blocks: int) -> bytes:
-    """Short moves, arcs, cycles, waits, switches and traverses, by chance."""
+def program(chance: random.Random, blocks: int) -> tuple[bytes, list[bytes]]:
+    """Short moves, arcs, cycles, waits, switches, tools, traverses and stops, by chance; and what is typed at these."""
+    typed: list[bytes] = []
     lines, x, y = ["G17 G21 G40 G49 G54 G80 G90 G94", "M3 S1000", "G0 Z0.1", "G1 Z-0.1 F1200"], 0, 0
     for _ in range(blocks):
         x, y = x + chance.randint(-6, 9), y + chance.randint(-6, 9)
@@ -1016,21 +1121,27 @@ def program(chance: random.Random, blocks: int) -> bytes:
             [chance.choice(("M8", "M9", "M7", "S1200", "M5", "M3 S900"))],
             ["G0 Z0.2", f"G82 X{x / 100:.2f} Y{y / 100:.2f} Z-0.15 R0.1 P0.003", "G80", "G1 Z-0.1"],
             ["G0 Z0.3", f"G83 X{x / 100:.2f} Y{y / 100:.2f} Z-0.2 R0.1 Q0.1", "G80", "G1 Z-0.1"],
-            ["G0 Z0.2", f"G0 X{x / 100:.2f} Y{y / 100:.2f}", "G1 Z-0.1"]))
-    return "".join(line + "\n" for line in [*lines, "G0 Z0.3", "G0 X0 Y0", "M2"]).encode()
+            ["G0 Z0.2", f"G0 X{x / 100:.2f} Y{y / 100:.2f}", "G1 Z-0.1"], ["G0 Z0.2", "T1 M6", "G1 Z-0.1"],
+            ["G0 Z0.2", "M0", "G1 Z-0.1"]))
+        if lines[-2:-1] == ["M0"]:
+            typed.append(b"G1 X%.2f" % (chance.randint(-9, 9) / 100))
+    return "".join(line + "\n" for line in [*lines, "G0 Z0.3", "G0 X0 Y0", "M2"]).encode(), typed
 
 
-def try_chain(tools: Tools, seed: int, losses: int, kept: tuple[str, ...], fails: int, found: Found) -> list[str]:
+def try_chain(tools: Tools, seed: int, losses: int, kept: tuple[str, ...], fails: int, over: str,
+              found: Found) -> list[str]:
     """Runs the chain of a seed; what was said, if it is wrong."""
     chance = random.Random(seed)
-    text = program(chance, chance.randint(3, 14))
-    job = Job(text, run_uncut(tools.ngc, SETTINGS, text, []))
+    text, typed = program(chance, chance.randint(3, 14))
+    job = Job(text, run_uncut(tools.ngc, SETTINGS, text, typed), typed, over, chance.random() < 0.3)
     with tempfile.TemporaryDirectory(prefix="ngc-power-", dir=memory()) as name:
         plans = [plan(chance, len(job.uncut.moves), kept, fails) for _ in range(chance.randint(min(1, losses), losses))]
         chain = Chain(tools, Path(name).resolve(), job, chance, plans)
         found.chains += 1
         try:
             chain.run()
+        except Unjudged:
+            found.unjudged += 1
         except Wrong as wrong:
             found.wrong.append(f"seed {seed}: {wrong}")
             return [text.decode(), *chain.told, f"WRONG, seed {seed}: {wrong}", (chain.folder / "said").read_text()]
@@ -1059,6 +1170,7 @@ def main() -> int:
     parser.add_argument("--seconds", type=float, default=1e9)
     parser.add_argument("--losses", type=int, default=5)
     parser.add_argument("--kept", default="all,none,first,torn", help="of all,none,first,torn,any,hole")
+    parser.add_argument("--over", choices=("file", "pipe"), default="file")
     parser.add_argument("--fails", type=int, default=0, help="the weight of calls that fail, beside 100 losses")
     parser.add_argument("--plant", choices=PLANTS, help="a fault that the judge has to find in each chain")
     parser.add_argument("--keep", type=Path, help="where what was said of wrong chains is kept")
@@ -1071,14 +1183,14 @@ def main() -> int:
             continue
         if time.monotonic() > begun + given.seconds:
             break
-        said = try_chain(tools, seed, given.losses, tuple(given.kept.split(",")), given.fails, found)
+        said = try_chain(tools, seed, given.losses, tuple(given.kept.split(",")), given.fails, given.over, found)
         if said and given.keep:
             (given.keep / f"seed-{seed}.txt").write_text("\n".join(said))
         if said:
             print(found.wrong[-1].splitlines()[0], flush=True)
     tools.consoles.close()
     print(f"{found.losses} losses of power in {found.chains} chains, {time.monotonic() - begun:.0f} s; {found.back} pulses"
-          f" back, {found.again} moves made again; {len(found.wrong)} chains are wrong, {len(found.shown)} places shown are")
+          f" back, {found.again} moves made again, {found.unjudged} chains aren't judged; {len(found.wrong)} chains are wrong, {len(found.shown)} places and questions are")
     for kind, count in Counter(re.sub(r"\d+|(?s:\n.*)", "", text.partition(": ")[2]) for text in found.wrong).items():
         print(f"{count} times: {kind}")
     return int(bool(found.wrong) != bool(given.plant) or "NOT FOUND" in found.wrong)
