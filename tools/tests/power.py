@@ -44,7 +44,6 @@ accel_mm_s2 = [20000, 20000, 20000]
 most_percent = 150
 """
 PATIENCE_S = int(os.environ.get("NGC_PATIENCE_S", "30"))
-AHEAD = 100
 FILES = ("mill.dev", "out", "position")
 SECTOR = 512
 OFF = ("0", "0", "0", "0")
@@ -103,6 +102,11 @@ def is_reverse(line: bytes, other: bytes) -> bool:
     return line[:1] == b"P" and after((0, 0, 0), line) == after((0, 0, 0), other, -1)
 
 
+def is_same_step(line: bytes, other: bytes) -> bool:
+    """Whether two pulses step alike."""
+    return line[:1] == other[:1] == b"P" and line.split()[1:4] == other.split()[1:4]
+
+
 def read_status(text: str) -> tuple[int, int, tuple[str, str, str], str, int]:
     """Entries, place, point, what is half done, and its segment."""
     found = re.findall(r"^status entries (\d+) place (\d+) at (\S+) (\S+) (\S+) (?:un)?known half (none|\w+ \d+) ",
@@ -154,6 +158,8 @@ def mark_segments(uncut: Uncut, said: str, moves: list[int]) -> None:
             now = (kind, place, segment)
             handed += kind != "none" and now == open_before and not done
             uncut.begins.setdefault(now if kind != "none" else ("none", place, 0), moves[handed])
+            if kind == "none":
+                uncut.begins["behind", place, 0] = moves[handed]
             open_before, done = now, False
     if handed != len(moves) - 1:
         raise Wrong(f"{handed} ticks hand out {len(moves) - 1} lines")
@@ -181,9 +187,12 @@ class Ledger:
     back: int = 0
     lost: int = 0
     legs: "Legs | None" = None
+    is_of_sink: bool = False  # it tells steps and switches alone
 
     def is_through(self) -> bool:
         """Whether all is made, and the outputs are those of the end."""
+        if self.is_of_sink and all(each[:1] == b"D" for each in self.uncut.moves[self.made:]):
+            self.made = len(self.uncut.moves)
         return self.made == len(self.uncut.moves) and self.outputs == self.uncut.last
 
     def switches(self, line: bytes) -> bool:
@@ -200,8 +209,10 @@ class Ledger:
             return
         if self.on is None or self.on >= len(self.uncut.moves):
             raise Wrong(f"{line!r} is made beside the path, at {self.steps}, after move {self.on}")
+        while self.is_of_sink and self.uncut.moves[self.on][:1] == b"D" and self.on < len(self.uncut.moves) - 1:
+            self.passes()
         at, self.on = self.on, self.on + 1
-        if line != self.uncut.moves[at]:
+        if line != self.uncut.moves[at] and not (self.is_of_sink and is_same_step(line, self.uncut.moves[at])):
             raise Wrong(f"{line!r} is made at {self.steps}, where move {at} is {self.uncut.moves[at]!r}")
         if self.steps != self.uncut.points[at]:
             raise Wrong(f"move {at}, {line!r}, is made at {self.steps}, and begins at {self.uncut.points[at]}")
@@ -226,6 +237,11 @@ class Ledger:
         """A line that isn't the program's, as of a jog."""
         if not self.switches(line):
             self.steps, self.on = after(self.steps, line), None
+
+    def passes(self) -> None:
+        """A wait, which no step of a sink tells."""
+        self.made = max(self.made, self.on + (self.made == self.on))
+        self.on += 1
 
     def takes_back(self, line: bytes) -> None:
         """A pulse of a way back. Raises Wrong."""
@@ -479,12 +495,77 @@ class Job:
     @property
     def words(self) -> list[str]:
         """The player's."""
-        return [*(["-f"] if self.over == "file" else ["-b", "4096"]), *(["-m", "machine.toml"] if self.has_ramps else [])]
+        return [*(["-b", "4096"] if self.over == "pipe" else ["-f"]), *([] if self.over == "sink" else ["-p", "pins"]),
+                *(["-m", "machine.toml"] if self.has_ramps else [])]
+
+    @property
+    def ahead(self) -> int:
+        """How many lines of OUT a loss of power may cost, by docs/OUTPUT.md: with ramps by 1.5 times 20 kHz, and 20 million
+        steps/s2."""
+        return 0 if self.over != "pipe" else 990 if self.has_ramps else 100
 
     def typed_at(self, move: int | None) -> bytes:
         """The line that is typed before this move; nothing, if there is none."""
         at = sorted({place for kind, place, _ in self.uncut.begins if kind == "mdi"})
         return next((line for place, line in zip(at, self.typed) if self.uncut.begins["mdi", place, 0] == move), b"")
+
+
+class Sink:
+    """A step sink at a pseudo terminal, with a clock of its own. What it makes is told in a file."""
+
+    def __init__(self, program: str, folder: Path, boot: int, before: list[bytes]) -> None:
+        """`before` is what was made before."""
+        self.before = before
+        self.path = folder / f"sink-{boot}"
+        with self.path.open("wb") as said:
+            self.child = subprocess.Popen([program, str(boot)], stdin=subprocess.PIPE, stdout=said)
+        until = time.monotonic() + PATIENCE_S
+        while not self.path.read_bytes().endswith(b"\n") and time.monotonic() < until:
+            time.sleep(0.002)
+        line = self.path.read_text().splitlines()[0]
+        self.told = 0
+        self.tell("serve 20")
+        (folder / "machine.toml").write_text(f'{MACHINE}[sink]\nline = "{line}"\nbaud = 2000000\n')
+
+    def tell(self, line: str) -> None:
+        """Has it do a line of its input; what it made before is in the file then."""
+        self.child.stdin.write(line.encode() + b"\n")
+        self.child.stdin.flush()
+        self.told += 1
+        until = time.monotonic() + PATIENCE_S
+        while self.path.read_bytes().count(b"\n.") < self.told and time.monotonic() < until:
+            time.sleep(0.002)
+
+    def rest(self) -> None:
+        """Lets it make what it has, up to its rest: it hears nothing for half a second of its clock."""
+        self.tell("serve 1")
+        before, until = -1, time.monotonic() + PATIENCE_S
+        while len(self.lines()) != before and time.monotonic() < until:
+            before = len(self.lines())
+            time.sleep(0.8)
+        self.tell("serve 20")
+
+    def end(self) -> None:
+        """Its power is lost."""
+        self.child.kill()
+        self.child.wait()
+
+    def lines(self) -> list[bytes]:
+        """What it made, as lines of OUT, whose times aren't known."""
+        self.tell("inputs 0")
+        whole = self.path.read_bytes().rpartition(b"\n")[0]
+        return self.before + [line for line in map(made_line, whole.split(b"\n")[1:]) if line]
+
+
+def made_line(text: bytes) -> bytes:
+    """A line of what a sink's pins did, as one of OUT; nothing of one without a step."""
+    kind, *rest = text.split()
+    if kind == b"S":
+        spindle, speed, mist, flood, selected, slot = map(int, rest[1:])
+        return b"S %d %d.%06d %d %d %d %d" % (spindle, speed // 10**6, speed % 10**6, mist, flood, selected, slot)
+    axes, down = map(int, rest[1:]) if kind == b"P" else (0, 0)
+    steps = tuple((axes >> axis & 1) * (-1 if down >> axis & 1 else 1) for axis in range(3))
+    return b"P %d %d %d 0" % steps if any(steps) else b""
 
 
 @dataclass
@@ -495,6 +576,7 @@ class Tools:
     player: str
     preload: str
     consoles: Consoles
+    sink: str = ""
 
 
 class Unjudged(Exception):
@@ -508,9 +590,9 @@ class Lost(Exception):
 class Shop:
     """A player and a console over the files of a folder, from their start to a loss of power."""
 
-    def __init__(self, tools: Tools, folder: Path, deeds: str, at: Steps | None, job: Job) -> None:
+    def __init__(self, tools: Tools, folder: Path, deeds: str, at: Steps | None, job: Job, sink: Sink | None) -> None:
         """Starts both. `deeds` are of power_disk.c, `at` is where the motors were measured."""
-        self.tools, self.folder = tools, folder
+        self.tools, self.folder, self.sink = tools, folder, sink
         self.log = folder / "log"
         with self.log.open("wb") as file:
             file.write(HEAD.pack(HEAD.size, *[0] * 70))
@@ -525,11 +607,11 @@ class Shop:
         self.env = {"NGC_POWER": str(self.log), "NGC_POWER_DO": deeds}
         measured = [] if at is None else ["-a", *(f"{each / 1000:.3f}" for each in at)]
         self.player = self._start_player([*measured, *job.words])
-        self.meanwhile: list[tuple[float, str]] = []  # what is typed while something runs, and when; "hold" is Ctrl-C
+        self.hold_at = 0.0  # when Ctrl-C is pressed while something runs, if that isn't 0
         self.console = self.into = self.out_of = -1
 
     def _start_player(self, words: list[str]) -> subprocess.Popen[bytes]:
-        command = [self.tools.player, "-t", "-o", "1", "-s", "progress", "-p", "pins", *words, "out",
+        command = [self.tools.player, "-t", "-o", "1", "-s", "progress", *words, "out",
                    "settings.toml", "position"]
         env = {**os.environ, **self.env, "LD_PRELOAD": self.tools.preload, "NGC_POWER_ROLE": "player"}
         with (self.folder / "said").open("ab") as said:
@@ -584,6 +666,8 @@ class Shop:
 
     def lines(self) -> list[bytes]:
         """The lines that they made."""
+        if self.sink:
+            return self.sink.lines()
         path = self.folder / "pins"
         return path.read_bytes().split(b"\n")[:-1] if path.exists() else []
 
@@ -601,8 +685,9 @@ class Shop:
                 raise Lost
             if self.alone and time.monotonic() > self.alone[0]:
                 self.kill_alone()
-            if self.meanwhile and time.monotonic() > self.meanwhile[0][0]:
-                self._say_meanwhile(self.meanwhile.pop(0)[1])
+            if 0 < self.hold_at < time.monotonic():
+                os.kill(self.console, signal.SIGINT)
+                self.hold_at = 0.0
             if time.monotonic() > until:
                 raise Wrong(f"no prompt for {PATIENCE_S} s")
             if select.select([self.out_of], [], [], 0.01)[0]:
@@ -611,13 +696,8 @@ class Shop:
                 self.said += piece
                 if not piece:
                     raise Lost
+        self.hold_at = 0.0
         return said
-
-    def _say_meanwhile(self, text: str) -> None:
-        if text == "hold":
-            os.kill(self.console, signal.SIGINT)
-        else:
-            self.type(text)
 
     def _settles(self) -> bool:
         """Lets the record come to where the motors stand without power."""
@@ -710,7 +790,6 @@ class Person:
         self.shop, self.job, self.ledger, self.chance, self.trusts = shop, job, ledger, chance, trusts
         self.phase, self.to, self.entries = "still", 0, -1
         self.followed, ledger.legs = shop.pins(), None
-        self.record_at = record_move(shop.folder) if job.over == "file" else 0
         self.before = ledger.made
         self.opening, self.tries, self.at_start = "", 0, True
         self.measures = self.leaves = self.cutting = self.ended = False
@@ -771,9 +850,10 @@ class Person:
         """How far up legs go; they have to lead to where the record has the motors, or to where the cut begins."""
         *at, low, high = found.groups()
         points = self.job.uncut.points
-        moves = [move for move in (self.record_at, self.to) if points[move] == steps_of(at)]
+        left = record_move(self.shop.folder) if self.job.over != "pipe" else self.to
+        moves = [move for move in (left, self.to) if points[move] == steps_of(at)]
         if not moves:
-            raise Wrong(f"legs lead to {at}, and the path was left at move {self.record_at}, {points[self.record_at]}")
+            raise Wrong(f"legs lead to {at}, and the path was left at move {left}, {points[left]}")
         lift = min(float(high), float(low) + self.chance.choice((0, 0.1, 0.35)))
         self.ledger.legs = Legs(round(lift * 1000), moves[0], points[moves[0]])
         self.ledger.arrives()
@@ -790,6 +870,8 @@ class Person:
     def begins(self) -> None:
         """The cut goes on: everything before is made, and the motors are where it begins."""
         ledger, uncut = self.ledger, self.job.uncut
+        if ledger.is_of_sink and not any(each[:1] == b"P" for each in uncut.moves[ledger.made:self.to]):
+            ledger.made = max(ledger.made, self.to)
         if ledger.steps != uncut.points[self.to]:
             raise Wrong(f"the motors stand at {ledger.steps}, and move {self.to} begins at {uncut.points[self.to]}")
         if ledger.made < self.to:
@@ -805,8 +887,8 @@ class Person:
             return "quit"
         if "status entries" in text:
             self.entries, place, at, kind, segment = read_status(text)
-            self.to = self.target(place, kind, segment)
-            self.ledger.loses(self.to, AHEAD if self.job.over == "pipe" else 0)
+            self.to = self.target(place, steps_of(at), kind, segment)
+            self.ledger.loses(self.to, self.job.ahead)
             if self.ledger.is_through() and not self.is_left(self.opening):
                 return self.ends(at, kind)
         if self.at_start:
@@ -860,21 +942,21 @@ class Person:
     def goes_on(self) -> str:
         """The line that is typed at a stop, after a jog there and back; else `run`, and somebody may hold, or choose
         another rate meanwhile."""
-        typed, now, at = self.job.typed_at(self.ledger.on), time.monotonic(), self.ledger.on
+        typed, at = self.job.typed_at(self.ledger.on), self.ledger.on
         if typed and self.ledger.made == at and self.job.has_ramps and self.to != at:
             self.to, self.was_free, self.phase, self.errands = at, True, "free", ["jog X- 600 for 0.1"]
             return "jog X+ 600 for 0.1"
         self.phase = "cut"
         if typed and self.ledger.made == at:
             return typed.decode()
+        if self.job.has_ramps and self.chance.random() < 0.3:
+            return self.chance.choice(("percent 50", "percent 120", "percent 100"))
         if self.job.has_ramps and self.chance.random() < 0.5:
-            rate = self.chance.choice(("percent 50", "percent 120", "percent 100"))
-            self.shop.meanwhile = [(now + self.chance.uniform(0, 0.3), rate),
-                                   (now + self.chance.uniform(0.3, 0.6), "hold")]
+            self.shop.hold_at = time.monotonic() + self.chance.uniform(0, 0.5)
         return "run"
 
-    def target(self, place: int, kind: str, segment: int) -> int:
-        """The move that comes next by a status."""
+    def target(self, place: int, at: Steps, kind: str, segment: int) -> int:
+        """The move that comes next by a status; at one place that before a typed line, or behind it."""
         uncut = self.job.uncut
         if kind != "none":
             if kind == "mdi":
@@ -884,11 +966,12 @@ class Person:
             return uncut.begins[kind, place, segment]
         if place == 0:
             return len(uncut.moves) if self.entries >= uncut.entries else 0
-        return uncut.begins["none", place, 0]
+        behind = uncut.begins["behind", place, 0]
+        return behind if uncut.points[behind] == at else uncut.begins["none", place, 0]
 
     def ends(self, at: tuple[str, str, str], kind: str) -> str:
         """The job is made: everything is at one place."""
-        if kind != "none" or steps_of(at) != self.ledger.steps:
+        if kind != "none" or steps_of(at) != self.ledger.steps and not self.ledger.lost:
             raise Wrong(f"ngc says {at}, {kind}, and the motors stand at {self.ledger.steps}")
         self.ended = True
         return "quit"
@@ -928,6 +1011,7 @@ class Plan:
     keeps: dict[str, str] = field(default_factory=lambda: dict.fromkeys(FILES, "all"))
     coasts: Steps = (0, 0, 0)
     fails: bool = False
+    sink_dies: bool = False
 
 
 FAILS = ("ngc mill.dev write {} 28", "ngc mill.dev sync {} 5", "ngc out write {} 28", "ngc out write {} 5",
@@ -939,10 +1023,11 @@ CALLS = ("ngc mill.dev write {} kill", "ngc mill.dev sync {} kill", "ngc out wri
          "console out write 1 kill", "console out sync 1 kill")
 
 
-def plan(chance: random.Random, moves: int, kept: tuple[str, ...], fails: int) -> Plan:
+def plan(chance: random.Random, moves: int, kept: tuple[str, ...], fails: int, over: str) -> Plan:
     """A loss of power by chance, in a job of so many moves; `fails` is the weight of calls that fail."""
     found = Plan()
-    kind = chance.choices(("line", "motors", "call", "seconds", "alone", "fail"), (30, 25, 30, 10, 5, fails))[0]
+    weights = (0, 0, 30, 65, 5, fails) if over == "sink" else (30, 25, 30, 10, 5, fails)
+    kind = chance.choices(("line", "motors", "call", "seconds", "alone", "fail"), weights)[0]
     if kind in ("line", "motors"):
         found.line = 1 + int(chance.random() ** 2 * moves)
         found.is_all = kind == "line"
@@ -957,7 +1042,8 @@ def plan(chance: random.Random, moves: int, kept: tuple[str, ...], fails: int) -
         out = chance.choice(kept)
         found.keeps = {"mill.dev": chance.choice([each for each in kept if each not in ("torn", "hole")] + ["any"]),
                        "out": out, "position": chance.choice(("all", "all", "none"))}
-        if chance.random() < 0.15:
+        found.sink_dies = chance.random() < 0.3
+        if chance.random() < 0.15 and over != "sink":
             found.coasts = tuple(chance.randint(-30, 30) for _ in range(3))
     return found
 
@@ -984,15 +1070,16 @@ class Chain:
         """`plans` are how power is lost, one after the other; behind the first one a fault is planted."""
         self.tools, self.folder, self.job, self.chance, self.plans = tools, folder, job, chance, plans
         self.plant = plant
-        self.ledger, self.told, self.shown = Ledger(job.uncut), [], []
+        self.ledger, self.told, self.shown = Ledger(job.uncut, is_of_sink=job.over == "sink"), [], []
         self.lost, self.by_hand = 0, False
         (folder / "machine.toml").write_text(MACHINE)
         (folder / "settings.toml").write_text(SETTINGS)
         (folder / "part.ngc").write_bytes(job.text)
-        if job.over == "file":
-            (folder / "out").touch()
-        else:
+        self.sink = Sink(tools.sink, folder, 1, []) if job.over == "sink" else None
+        if job.over == "pipe":
             os.mkfifo(folder / "out")
+        else:
+            (folder / "out").touch()
         subprocess.run([tools.ngc, "format", folder / "mill.dev"], check=True)
 
     def run(self) -> None:
@@ -1000,7 +1087,7 @@ class Chain:
         measured = None
         for _ in range(2 * len(self.plans) + 8):
             how = self.plans[self.lost] if self.lost < len(self.plans) else Plan()
-            shop = Shop(self.tools, self.folder, how.deeds, measured, self.job)
+            shop = Shop(self.tools, self.folder, how.deeds, measured, self.job, self.sink)
             person = Person(shop, self.job, self.ledger, self.chance, bool(self.plant))
             self.told.append(f"-- {how}, measured {measured}, at move {self.ledger.on} of {self.ledger.made} made")
             if measured or self.job.over == "pipe":
@@ -1017,6 +1104,11 @@ class Chain:
             measured = self.after(shop, how, person.measures)
         raise Wrong("it comes to no end")
 
+    def close(self) -> None:
+        """Ends the sink."""
+        if self.sink:
+            self.sink.end()
+
     def session(self, shop: Shop, person: Person, how: Plan) -> bool:
         """From power on to its loss, or to the job's end: then True."""
         shop.stop_at(how.line, how.is_all)
@@ -1031,18 +1123,26 @@ class Chain:
         if person.ended and not is_lost or how.alone and not person.leaves:
             shop.close()
         shop.kill()
+        if self.sink and not person.ended:
+            self.sink.rest()
         person.follow()
         if not (is_lost or person.leaves or person.ended or how.fails):
             raise Wrong("the console ended by itself")
-        if person.ended and not is_lost:
+        is_over = person.ended and not is_lost and not (how.fails and shop.player.returncode)
+        if is_over:
             self.ends(shop)
-        return person.ended and not is_lost
+        return is_over
 
     def after(self, shop: Shop, how: Plan, measures: bool) -> Steps | None:
         """What power left: the disk loses what it loses, the motors coast; where they stand, if that is measured."""
         if not measures or how.alone or how.fails:
             self.lost += 1
             shop.lose(how.keeps, self.chance)
+            if self.sink and how.sink_dies:
+                made = self.sink.lines()
+                self.sink.end()
+                self.sink = Sink(self.tools.sink, self.folder, self.lost + 1, made)
+                return self.ledger.steps
             if how.coasts != (0, 0, 0) and self.ledger.made:
                 self.ledger.steps = tuple(map(sum, zip(self.ledger.steps, how.coasts)))
                 self.ledger.leave()
@@ -1050,6 +1150,8 @@ class Chain:
             plant_in_record(self.folder, self.plant)
             return None
         said = record_of(self.folder).get("reference", "0 0 0").split()
+        if self.sink and not measures:
+            return None
         if steps_of(said) == self.ledger.steps:
             return None
         return self.ledger.steps if measures or self.chance.random() < 0.7 else None
@@ -1133,9 +1235,10 @@ def try_chain(tools: Tools, seed: int, losses: int, kept: tuple[str, ...], fails
     """Runs the chain of a seed; what was said, if it is wrong."""
     chance = random.Random(seed)
     text, typed = program(chance, chance.randint(3, 14))
-    job = Job(text, run_uncut(tools.ngc, SETTINGS, text, typed), typed, over, chance.random() < 0.3)
+    job = Job(text, run_uncut(tools.ngc, SETTINGS, text, typed), typed, over,
+              over == "sink" or chance.random() < 0.3)
     with tempfile.TemporaryDirectory(prefix="ngc-power-", dir=memory()) as name:
-        plans = [plan(chance, len(job.uncut.moves), kept, fails) for _ in range(chance.randint(min(1, losses), losses))]
+        plans = [plan(chance, len(job.uncut.moves), kept, fails, over) for _ in range(chance.randint(min(1, losses), losses))]
         chain = Chain(tools, Path(name).resolve(), job, chance, plans)
         found.chains += 1
         try:
@@ -1146,6 +1249,7 @@ def try_chain(tools: Tools, seed: int, losses: int, kept: tuple[str, ...], fails
             found.wrong.append(f"seed {seed}: {wrong}")
             return [text.decode(), *chain.told, f"WRONG, seed {seed}: {wrong}", (chain.folder / "said").read_text()]
         finally:
+            chain.close()
             found.losses += chain.lost
             found.back += chain.ledger.back
             found.again += chain.ledger.again
@@ -1157,8 +1261,10 @@ def make_tools(ngc: str) -> Tools:
     """Builds the programs."""
     sys.path.insert(0, str(HERE))
     from player_support import built, made
+    from sink_support import PARTS, SINK
     preload = made("power_disk.so", "cc", "-shared", "-fPIC", "-O2", str(HERE / "power_disk.c"))
-    return Tools(ngc, built("-O2"), preload, Consoles(preload))
+    sink = built("-std=c99", "-O2", "-I", str(SINK), sources=PARTS)
+    return Tools(ngc, built("-O2"), preload, Consoles(preload), sink)
 
 
 def main() -> int:
@@ -1170,7 +1276,7 @@ def main() -> int:
     parser.add_argument("--seconds", type=float, default=1e9)
     parser.add_argument("--losses", type=int, default=5)
     parser.add_argument("--kept", default="all,none,first,torn", help="of all,none,first,torn,any,hole")
-    parser.add_argument("--over", choices=("file", "pipe"), default="file")
+    parser.add_argument("--over", choices=("file", "pipe", "sink"), default="file")
     parser.add_argument("--fails", type=int, default=0, help="the weight of calls that fail, beside 100 losses")
     parser.add_argument("--plant", choices=PLANTS, help="a fault that the judge has to find in each chain")
     parser.add_argument("--keep", type=Path, help="where what was said of wrong chains is kept")
