@@ -750,11 +750,20 @@ class Shop:
             if left_of(before, [call for call in calls[which] if call.ended], "all", chance, False) != now and all(
                     call.ended for call in calls[which]):
                 raise Wrong(f"the model of the disk isn't {name}")
+            if name == "out":
+                self._is_synced(left_of(before, calls[which], "none", chance, False))
             if keeps[name] != "all":
                 left = left_of(before, calls[which], keeps[name], chance, name == "out")
                 with (self.folder / name).open("r+b") as file:
                     file.write(left)
                     file.truncate(len(left))
+
+
+    def _is_synced(self, lasting: bytes) -> None:
+        """All that the motors did stands in OUT after a loss of power. Raises Wrong."""
+        size = int(record_of(self.folder).get("bytes", "0"))
+        if size > len(lasting):
+            raise Wrong(f"{size} bytes of OUT are carried out, and {len(lasting)} are on the disk")
 
 
 def read_or_none(path: Path) -> bytes | None:
@@ -795,6 +804,7 @@ class Person:
         self.measures = self.leaves = self.cutting = self.ended = False
         self.was_free = self.by_hand = False
         self.shown: list[str] = []
+        self.has_typed: set[int] = set()  # before these moves
         self.errands: list[str] = []  # lines of the person's own that come next
 
     def work(self) -> None:
@@ -942,12 +952,18 @@ class Person:
     def goes_on(self) -> str:
         """The line that is typed at a stop, after a jog there and back; else `run`, and somebody may hold, or choose
         another rate meanwhile."""
-        typed, at = self.job.typed_at(self.ledger.on), self.ledger.on
+        at = self.ledger.on
+        typed = self.job.typed_at(at) if at not in self.has_typed else b""
         if typed and self.ledger.made == at and self.job.has_ramps and self.to != at:
             self.to, self.was_free, self.phase, self.errands = at, True, "free", ["jog X- 600 for 0.1"]
             return "jog X+ 600 for 0.1"
+        if typed and self.ledger.made == at and self.ledger.outputs != self.job.uncut.outputs[at]:
+            self.to, self.was_free, self.phase = at, True, "free"
+            _, *self.errands = self.back_by_hand()
+            return self.errands.pop(0)
         self.phase = "cut"
         if typed and self.ledger.made == at:
+            self.has_typed.add(at)
             return typed.decode()
         if self.job.has_ramps and self.chance.random() < 0.3:
             return self.chance.choice(("percent 50", "percent 120", "percent 100"))
@@ -1126,6 +1142,8 @@ class Chain:
         if self.sink and not person.ended:
             self.sink.rest()
         person.follow()
+        if self.sink and not person.ended and (self.folder / "said").read_text().endswith("--at X Y Z tells it\n"):
+            person.leaves = person.measures = True
         if not (is_lost or person.leaves or person.ended or how.fails):
             raise Wrong("the console ended by itself")
         is_over = person.ended and not is_lost and not (how.fails and shop.player.returncode)
@@ -1294,6 +1312,8 @@ def main() -> int:
             (given.keep / f"seed-{seed}.txt").write_text("\n".join(said))
         if said:
             print(found.wrong[-1].splitlines()[0], flush=True)
+        if found.chains % 50 == 0:
+            print(f"{found.losses} losses in {found.chains} chains, {time.monotonic() - begun:.0f} s", flush=True)
     tools.consoles.close()
     print(f"{found.losses} losses of power in {found.chains} chains, {time.monotonic() - begun:.0f} s; {found.back} pulses"
           f" back, {found.again} moves made again, {found.unjudged} chains aren't judged; {len(found.wrong)} chains are wrong, {len(found.shown)} places and questions are")
