@@ -187,13 +187,19 @@ class Ledger:
     back: int = 0
     lost: int = 0
     legs: "Legs | None" = None
+    is_by_hand: bool = False  # OUT has lines that aren't the program's
     is_of_sink: bool = False  # it tells steps and switches alone
+
+    @property
+    def told(self) -> int:
+        """How many of the outputs are known: a sink that began anew doesn't know the tool."""
+        return 3 if self.is_of_sink else 4
 
     def is_through(self) -> bool:
         """Whether all is made, and the outputs are those of the end."""
         if self.is_of_sink and all(each[:1] == b"D" for each in self.uncut.moves[self.made:]):
             self.made = len(self.uncut.moves)
-        return self.made == len(self.uncut.moves) and self.outputs == self.uncut.last
+        return self.made == len(self.uncut.moves) and self.outputs[:self.told] == self.uncut.last[:self.told]
 
     def switches(self, line: bytes) -> bool:
         """Whether a line is a switch; it is heeded."""
@@ -216,7 +222,7 @@ class Ledger:
             raise Wrong(f"{line!r} is made at {self.steps}, where move {at} is {self.uncut.moves[at]!r}")
         if self.steps != self.uncut.points[at]:
             raise Wrong(f"move {at}, {line!r}, is made at {self.steps}, and begins at {self.uncut.points[at]}")
-        if self.outputs != self.uncut.outputs[at]:
+        if self.outputs[:self.told] != self.uncut.outputs[at][:self.told]:
             raise Wrong(f"move {at} is made with {self.outputs} and not {self.uncut.outputs[at]}")
         self.steps = after(self.steps, line)
         if at > self.made:
@@ -802,7 +808,7 @@ class Person:
         self.before = ledger.made
         self.opening, self.tries, self.at_start = "", 0, True
         self.measures = self.leaves = self.cutting = self.ended = False
-        self.was_free = self.by_hand = False
+        self.was_free = False
         self.shown: list[str] = []
         self.has_typed: set[int] = set()  # before these moves
         self.errands: list[str] = []  # lines of the person's own that come next
@@ -845,10 +851,15 @@ class Person:
             return self.stands(text)
         if deed == "lift":
             return self.lifts(found)
-        if deed == "asks":
+        if deed == "asks" and "first switches it on" in text:
+            self.to, self.was_free = self.ledger.on, True
+            _, *self.errands = self.back_by_hand()
+            return "no"
+        if deed == "asks" and "doesn't tell any more" in text:
             self.shown.append("asked is what is known: " + text.strip().splitlines()[-2])
         elif deed == "goes":
             self.phase = "way"
+            self.finds_path()
         elif deed == "cuts":
             self.begins()
             shown = re.findall(r"The motors are there: X (\S+) Y (\S+) Z (\S+)\.", text)
@@ -856,12 +867,21 @@ class Person:
                 self.shown.append(f"shown is {shown[-1]}, and the motors stand at {self.ledger.steps}")
         return "600" if deed == "feed" and "No feed is known" in text else "" if deed == "feed" else "yes"
 
+    def finds_path(self) -> None:
+        """Motors that were measured may stand on the path all the same, where the record has them, or at the goal."""
+        left = record_move(self.shop.folder) if self.job.over != "pipe" else self.to
+        for move in (self.to, left):
+            if self.ledger.on is None and not self.ledger.legs and self.job.uncut.points[move] == self.ledger.steps:
+                self.ledger.on = move
+
     def lifts(self, found: re.Match[str]) -> str:
         """How far up legs go; they have to lead to where the record has the motors, or to where the cut begins."""
         *at, low, high = found.groups()
         points = self.job.uncut.points
         left = record_move(self.shop.folder) if self.job.over != "pipe" else self.to
         moves = [move for move in (left, self.to) if points[move] == steps_of(at)]
+        if not moves and self.ledger.is_by_hand:
+            raise Unjudged("where the path was left is of a line of the person's own")
         if not moves:
             raise Wrong(f"legs lead to {at}, and the path was left at move {left}, {points[left]}")
         lift = min(float(high), float(low) + self.chance.choice((0, 0.1, 0.35)))
@@ -927,6 +947,8 @@ class Person:
         """The program begins, or goes on."""
         if self.is_left(text):
             return "recover"
+        if "reference player takes the player's point" in text:
+            return "reference player"
         if self.errands:
             self.phase = "free"
             return self.errands.pop(0)
@@ -938,10 +960,15 @@ class Person:
         self.was_free = False
         return self.goes_on()
 
+    def is_switched(self, at: int) -> bool:
+        """Whether the outputs are those of a move."""
+        told = self.ledger.told
+        return self.ledger.outputs[:told] == self.job.uncut.outputs[at][:told]
+
     def back_by_hand(self) -> list[str]:
         """The lines that bring the machine to where the program goes on, with its outputs."""
         uncut, to = self.job.uncut, self.to
-        self.by_hand = True
+        self.ledger.is_by_hand = True
         self.shop.spare()
         spindle, mist, flood, _ = uncut.outputs[to] if to < len(uncut.moves) else uncut.last
         x, y, z = (f"{each / 1000:.3f}" for each in uncut.points[to])
@@ -957,7 +984,7 @@ class Person:
         if typed and self.ledger.made == at and self.job.has_ramps and self.to != at:
             self.to, self.was_free, self.phase, self.errands = at, True, "free", ["jog X- 600 for 0.1"]
             return "jog X+ 600 for 0.1"
-        if typed and self.ledger.made == at and self.ledger.outputs != self.job.uncut.outputs[at]:
+        if typed and self.ledger.made == at and not self.is_switched(at):
             self.to, self.was_free, self.phase = at, True, "free"
             _, *self.errands = self.back_by_hand()
             return self.errands.pop(0)
@@ -1087,7 +1114,7 @@ class Chain:
         self.tools, self.folder, self.job, self.chance, self.plans = tools, folder, job, chance, plans
         self.plant = plant
         self.ledger, self.told, self.shown = Ledger(job.uncut, is_of_sink=job.over == "sink"), [], []
-        self.lost, self.by_hand = 0, False
+        self.lost = 0
         (folder / "machine.toml").write_text(MACHINE)
         (folder / "settings.toml").write_text(SETTINGS)
         (folder / "part.ngc").write_bytes(job.text)
@@ -1113,7 +1140,6 @@ class Chain:
             finally:
                 shop.kill()
                 self.shown += person.shown
-                self.by_hand = self.by_hand or person.by_hand
                 self.told.append(f"{time.monotonic() - shop.begun:.2f} s: {shop.said}")
             if is_over:
                 return
@@ -1168,11 +1194,11 @@ class Chain:
             plant_in_record(self.folder, self.plant)
             return None
         said = record_of(self.folder).get("reference", "0 0 0").split()
-        if self.sink and not measures:
+        if measures:
+            return self.ledger.steps
+        if self.sink or steps_of(said) == self.ledger.steps:
             return None
-        if steps_of(said) == self.ledger.steps:
-            return None
-        return self.ledger.steps if measures or self.chance.random() < 0.7 else None
+        return self.ledger.steps if self.chance.random() < 0.7 else None
 
     def ends(self, shop: Shop) -> None:
         """Everything is made, and at one place."""
@@ -1183,7 +1209,7 @@ class Chain:
             raise Wrong(f"the player's status is {shop.player.returncode}: {(self.folder / 'said').read_text()}")
         if steps_of(record["reference"].split()) != ledger.steps:
             raise Wrong(f"the record says {record['reference']}, and the motors stand at {ledger.steps}")
-        if self.by_hand or self.job.over == "pipe":
+        if ledger.is_by_hand or self.job.over == "pipe":
             return
         lines = (self.folder / "out").read_bytes().split(b"\n")[:-1]
         if len(lines) != int(record["lines"]) or [each for each in lines if each[:1] != b"S"] != self.job.uncut.moves:
@@ -1285,6 +1311,11 @@ def make_tools(ngc: str) -> Tools:
     return Tools(ngc, built("-O2"), preload, Consoles(preload), sink)
 
 
+def kind_of(text: str) -> str:
+    """What is wrong, without the seed, numbers, and what is said besides."""
+    return re.sub(r"[-\d.]+", "#", text.partition(": ")[2].partition("\n")[0])
+
+
 def main() -> int:
     """Runs it by words, and tells what was seen."""
     parser = argparse.ArgumentParser(description=__doc__, formatter_class=argparse.RawDescriptionHelpFormatter)
@@ -1317,7 +1348,7 @@ def main() -> int:
     tools.consoles.close()
     print(f"{found.losses} losses of power in {found.chains} chains, {time.monotonic() - begun:.0f} s; {found.back} pulses"
           f" back, {found.again} moves made again, {found.unjudged} chains aren't judged; {len(found.wrong)} chains are wrong, {len(found.shown)} places and questions are")
-    for kind, count in Counter(re.sub(r"\d+|(?s:\n.*)", "", text.partition(": ")[2]) for text in found.wrong).items():
+    for kind, count in Counter(map(kind_of, [*found.wrong, *found.shown])).items():
         print(f"{count} times: {kind}")
     return int(bool(found.wrong) != bool(given.plant) or "NOT FOUND" in found.wrong)
 
