@@ -38,6 +38,11 @@ traverse_nm_per_min = 6000000000
 period_us = 50
 tools_nm = [50000000]
 """
+TOOL = b"tool 1 50\n"
+MACHINE = """[motion]
+accel_mm_s2 = [20000, 20000, 20000]
+most_percent = 150
+"""
 PATIENCE_S = int(os.environ.get("NGC_PATIENCE_S", "30"))
 FILES = ("mill.dev", "out", "position")
 SECTOR = 512
@@ -97,6 +102,11 @@ def is_reverse(line: bytes, other: bytes) -> bool:
     return line[:1] == b"P" and after((0, 0, 0), line) == after((0, 0, 0), other, -1)
 
 
+def is_same_step(line: bytes, other: bytes) -> bool:
+    """Whether two pulses step alike."""
+    return line[:1] == other[:1] == b"P" and line.split()[1:4] == other.split()[1:4]
+
+
 def read_status(text: str) -> tuple[int, int, tuple[str, str, str], str, int]:
     """Entries, place, point, what is half done, and its segment."""
     found = re.findall(r"^status entries (\d+) place (\d+) at (\S+) (\S+) (\S+) (?:un)?known half (none|\w+ \d+) ",
@@ -114,7 +124,7 @@ def run_uncut(ngc: str, settings: str, text: bytes, typed: list[bytes]) -> Uncut
     with tempfile.TemporaryDirectory(prefix="ngc-uncut-", dir=memory()) as name:
         folder = Path(name)
         (folder / "settings").write_text(settings)
-        begin = b"load %d\n" % len(text) + text + b"start\n"
+        begin = TOOL + b"load %d\n" % len(text) + text + b"start\n"
         goes_on = [command for line in typed for command in (b"mdi " + line, b"continue")]
         commands = [begin, *(b"tick 1000000\n%s\n" % each for each in (*goes_on, b"continue"))]
         counts = re.findall(r"^ticks (\d+)", run_ngc(ngc, folder, b"".join(commands)), re.MULTILINE)
@@ -148,6 +158,8 @@ def mark_segments(uncut: Uncut, said: str, moves: list[int]) -> None:
             now = (kind, place, segment)
             handed += kind != "none" and now == open_before and not done
             uncut.begins.setdefault(now if kind != "none" else ("none", place, 0), moves[handed])
+            if kind == "none":
+                uncut.begins["behind", place, 0] = moves[handed]
             open_before, done = now, False
     if handed != len(moves) - 1:
         raise Wrong(f"{handed} ticks hand out {len(moves) - 1} lines")
@@ -175,10 +187,19 @@ class Ledger:
     back: int = 0
     lost: int = 0
     legs: "Legs | None" = None
+    is_by_hand: bool = False  # OUT has lines that aren't the program's
+    is_of_sink: bool = False  # it tells steps and switches alone
+
+    @property
+    def told(self) -> int:
+        """How many of the outputs are known: a sink that began anew doesn't know the tool."""
+        return 3 if self.is_of_sink else 4
 
     def is_through(self) -> bool:
         """Whether all is made, and the outputs are those of the end."""
-        return self.made == len(self.uncut.moves) and self.outputs == self.uncut.last
+        if self.is_of_sink and all(each[:1] == b"D" for each in self.uncut.moves[self.made:]):
+            self.made = len(self.uncut.moves)
+        return self.made == len(self.uncut.moves) and self.outputs[:self.told] == self.uncut.last[:self.told]
 
     def switches(self, line: bytes) -> bool:
         """Whether a line is a switch; it is heeded."""
@@ -194,18 +215,39 @@ class Ledger:
             return
         if self.on is None or self.on >= len(self.uncut.moves):
             raise Wrong(f"{line!r} is made beside the path, at {self.steps}, after move {self.on}")
+        while self.is_of_sink and self.uncut.moves[self.on][:1] == b"D" and self.on < len(self.uncut.moves) - 1:
+            self.passes()
         at, self.on = self.on, self.on + 1
-        if line != self.uncut.moves[at]:
+        if line != self.uncut.moves[at] and not (self.is_of_sink and is_same_step(line, self.uncut.moves[at])):
             raise Wrong(f"{line!r} is made at {self.steps}, where move {at} is {self.uncut.moves[at]!r}")
         if self.steps != self.uncut.points[at]:
             raise Wrong(f"move {at}, {line!r}, is made at {self.steps}, and begins at {self.uncut.points[at]}")
-        if self.outputs != self.uncut.outputs[at]:
+        if self.outputs[:self.told] != self.uncut.outputs[at][:self.told]:
             raise Wrong(f"move {at} is made with {self.outputs} and not {self.uncut.outputs[at]}")
         self.steps = after(self.steps, line)
         if at > self.made:
             raise Wrong(f"moves {self.made} to {at - 1} are never made")
         self.again += at < self.made
         self.made = max(self.made, at + 1)
+
+    def loses(self, to: int, most: int) -> None:
+        """Over a pipe what was handed out before move `to`, and not made, is never cut: at most so many moves. Raises
+        Wrong."""
+        if to > self.made and most:
+            if to - self.made > most:
+                raise Wrong(f"{to - self.made} moves from {self.made} on are never made")
+            self.lost += to - self.made
+            self.made = to
+
+    def goes_free(self, line: bytes) -> None:
+        """A line that isn't the program's, as of a jog."""
+        if not self.switches(line):
+            self.steps, self.on = after(self.steps, line), None
+
+    def passes(self) -> None:
+        """A wait, which no step of a sink tells."""
+        self.made = max(self.made, self.on + (self.made == self.on))
+        self.on += 1
 
     def takes_back(self, line: bytes) -> None:
         """A pulse of a way back. Raises Wrong."""
@@ -446,6 +488,93 @@ class Consoles:
 
 
 @dataclass
+class Job:
+    """A program, its uncut run, and what is typed at its stops. `over` is a file or a pipe; with ramps the motors follow
+    `machine.toml`, are jogged at stops, held, and go at other rates."""
+
+    text: bytes
+    uncut: Uncut
+    typed: list[bytes] = field(default_factory=list)
+    over: str = "file"
+    has_ramps: bool = False
+
+    @property
+    def words(self) -> list[str]:
+        """The player's."""
+        return [*(["-b", "4096"] if self.over == "pipe" else ["-f"]), *([] if self.over == "sink" else ["-p", "pins"]),
+                *(["-m", "machine.toml"] if self.has_ramps else [])]
+
+    @property
+    def ahead(self) -> int:
+        """How many lines of OUT a loss of power may cost, by docs/OUTPUT.md: with ramps by 1.5 times 20 kHz, and 20 million
+        steps/s2."""
+        return 0 if self.over != "pipe" else 990 if self.has_ramps else 100
+
+    def typed_at(self, move: int | None) -> bytes:
+        """The line that is typed before this move; nothing, if there is none."""
+        at = sorted({place for kind, place, _ in self.uncut.begins if kind == "mdi"})
+        return next((line for place, line in zip(at, self.typed) if self.uncut.begins["mdi", place, 0] == move), b"")
+
+
+class Sink:
+    """A step sink at a pseudo terminal, with a clock of its own. What it makes is told in a file."""
+
+    def __init__(self, program: str, folder: Path, boot: int, before: list[bytes]) -> None:
+        """`before` is what was made before."""
+        self.before = before
+        self.path = folder / f"sink-{boot}"
+        with self.path.open("wb") as said:
+            self.child = subprocess.Popen([program, str(boot)], stdin=subprocess.PIPE, stdout=said)
+        until = time.monotonic() + PATIENCE_S
+        while not self.path.read_bytes().endswith(b"\n") and time.monotonic() < until:
+            time.sleep(0.002)
+        line = self.path.read_text().splitlines()[0]
+        self.told = 0
+        self.tell("serve 20")
+        (folder / "machine.toml").write_text(f'{MACHINE}[sink]\nline = "{line}"\nbaud = 2000000\n')
+
+    def tell(self, line: str) -> None:
+        """Has it do a line of its input; what it made before is in the file then."""
+        self.child.stdin.write(line.encode() + b"\n")
+        self.child.stdin.flush()
+        self.told += 1
+        until = time.monotonic() + PATIENCE_S
+        while self.path.read_bytes().count(b"\n.") < self.told and time.monotonic() < until:
+            time.sleep(0.002)
+
+    def rest(self) -> None:
+        """Lets it make what it has, up to its rest: it hears nothing for half a second of its clock."""
+        self.tell("serve 1")
+        before, until = -1, time.monotonic() + PATIENCE_S
+        while len(self.lines()) != before and time.monotonic() < until:
+            before = len(self.lines())
+            time.sleep(0.8)
+        self.tell("serve 20")
+
+    def end(self) -> None:
+        """Its power is lost."""
+        self.child.kill()
+        self.child.wait()
+
+    def lines(self) -> list[bytes]:
+        """What it made, as lines of OUT, whose times aren't known."""
+        self.tell("inputs 0")
+        whole = self.path.read_bytes().rpartition(b"\n")[0]
+        return self.before + [line for line in map(made_line, whole.split(b"\n")[1:]) if line]
+
+
+def made_line(text: bytes) -> bytes:
+    """A line of what a sink's pins did, as one of OUT; nothing of one without a step."""
+    kind, *rest = text.split()
+    if kind == b"S":
+        spindle, speed, mist, flood, selected, slot = map(int, rest[1:])
+        return b"S %d %d.%06d %d %d %d %d" % (spindle, speed // 10**6, speed % 10**6, mist, flood, selected, slot)
+    axes, down = map(int, rest[1:]) if kind == b"P" else (0, 0)
+    steps = tuple((axes >> axis & 1) * (-1 if down >> axis & 1 else 1) for axis in range(3))
+    return b"P %d %d %d 0" % steps if any(steps) else b""
+
+
+@dataclass
 class Tools:
     """Where the programs are."""
 
@@ -453,6 +582,11 @@ class Tools:
     player: str
     preload: str
     consoles: Consoles
+    sink: str = ""
+
+
+class Unjudged(Exception):
+    """The judge doesn't know what has to be."""
 
 
 class Lost(Exception):
@@ -462,10 +596,9 @@ class Lost(Exception):
 class Shop:
     """A player and a console over the files of a folder, from their start to a loss of power."""
 
-    def __init__(self, tools: Tools, folder: Path, deeds: str, at: Steps | None, words: list[str]) -> None:
-        """Starts both. `deeds` are of power_disk.c, `at` is where the motors were measured, `words` are more of the
-        player's."""
-        self.tools, self.folder = tools, folder
+    def __init__(self, tools: Tools, folder: Path, deeds: str, at: Steps | None, job: Job, sink: Sink | None) -> None:
+        """Starts both. `deeds` are of power_disk.c, `at` is where the motors were measured."""
+        self.tools, self.folder, self.sink = tools, folder, sink
         self.log = folder / "log"
         with self.log.open("wb") as file:
             file.write(HEAD.pack(HEAD.size, *[0] * 70))
@@ -479,11 +612,12 @@ class Shop:
         (folder / "progress").unlink(missing_ok=True)
         self.env = {"NGC_POWER": str(self.log), "NGC_POWER_DO": deeds}
         measured = [] if at is None else ["-a", *(f"{each / 1000:.3f}" for each in at)]
-        self.player = self._start_player([*measured, *words])
+        self.player = self._start_player([*measured, *job.words])
+        self.hold_at = 0.0  # when Ctrl-C is pressed while something runs, if that isn't 0
         self.console = self.into = self.out_of = -1
 
     def _start_player(self, words: list[str]) -> subprocess.Popen[bytes]:
-        command = [self.tools.player, "-t", "-f", "-o", "1", "-s", "progress", "-p", "pins", *words, "out",
+        command = [self.tools.player, "-t", "-o", "1", "-s", "progress", *words, "out",
                    "settings.toml", "position"]
         env = {**os.environ, **self.env, "LD_PRELOAD": self.tools.preload, "NGC_POWER_ROLE": "player"}
         with (self.folder / "said").open("ab") as said:
@@ -527,12 +661,19 @@ class Shop:
                     found.append(pid)
         return found
 
+    def spare(self) -> None:
+        """Power isn't lost any more, but by a deed."""
+        self.deadline = self.alone = None
+        self.stop_at(0, False)
+
     def pins(self) -> int:
         """How many lines the motors made up to now, since the job began."""
         return len(self.lines())
 
     def lines(self) -> list[bytes]:
         """The lines that they made."""
+        if self.sink:
+            return self.sink.lines()
         path = self.folder / "pins"
         return path.read_bytes().split(b"\n")[:-1] if path.exists() else []
 
@@ -550,6 +691,9 @@ class Shop:
                 raise Lost
             if self.alone and time.monotonic() > self.alone[0]:
                 self.kill_alone()
+            if 0 < self.hold_at < time.monotonic():
+                os.kill(self.console, signal.SIGINT)
+                self.hold_at = 0.0
             if time.monotonic() > until:
                 raise Wrong(f"no prompt for {PATIENCE_S} s")
             if select.select([self.out_of], [], [], 0.01)[0]:
@@ -558,6 +702,7 @@ class Shop:
                 self.said += piece
                 if not piece:
                     raise Lost
+        self.hold_at = 0.0
         return said
 
     def _settles(self) -> bool:
@@ -611,6 +756,8 @@ class Shop:
             if left_of(before, [call for call in calls[which] if call.ended], "all", chance, False) != now and all(
                     call.ended for call in calls[which]):
                 raise Wrong(f"the model of the disk isn't {name}")
+            if name == "out":
+                self._is_synced(left_of(before, calls[which], "none", chance, False))
             if keeps[name] != "all":
                 left = left_of(before, calls[which], keeps[name], chance, name == "out")
                 with (self.folder / name).open("r+b") as file:
@@ -618,9 +765,16 @@ class Shop:
                     file.truncate(len(left))
 
 
+    def _is_synced(self, lasting: bytes) -> None:
+        """All that the motors did stands in OUT after a loss of power. Raises Wrong."""
+        size = int(record_of(self.folder).get("bytes", "0"))
+        if size > len(lasting):
+            raise Wrong(f"{size} bytes of OUT are carried out, and {len(lasting)} are on the disk")
+
+
 def read_or_none(path: Path) -> bytes | None:
-    """A file's bytes, if it is there."""
-    return path.read_bytes() if path.exists() else None
+    """A file's bytes, if it is one."""
+    return path.read_bytes() if path.is_file() else None
 
 
 # ---- a person, and what they are asked
@@ -634,21 +788,13 @@ QUESTIONS = (
     (r"yes goes there, Enter holds", "goes"),
     (r"yes goes on with the cut", "cuts"),
     (r"Does the spindle turn, and is the right tool in\?", "cuts"),
+    (r"go on all the same\? yes goes on", "asks"),
     (r"half-done.*ends the session|yes ends|yes alone ends", "yes"),
 )
 
 
 FAILED = r"the player is gone|can't be (synced|written|read)|\bJ1\b|\bK5\b|Input/output error|No space left"
 """After these words a person ends the session, and starts both anew."""
-
-
-@dataclass
-class Job:
-    """A program, its uncut run, and what is typed at its stops."""
-
-    text: bytes
-    uncut: Uncut
-    typed: list[bytes] = field(default_factory=list)
 
 
 class Person:
@@ -659,11 +805,13 @@ class Person:
         self.shop, self.job, self.ledger, self.chance, self.trusts = shop, job, ledger, chance, trusts
         self.phase, self.to, self.entries = "still", 0, -1
         self.followed, ledger.legs = shop.pins(), None
-        self.record_at = record_move(shop.folder)
         self.before = ledger.made
         self.opening, self.tries, self.at_start = "", 0, True
         self.measures = self.leaves = self.cutting = self.ended = False
+        self.was_free = False
         self.shown: list[str] = []
+        self.has_typed: set[int] = set()  # before these moves
+        self.errands: list[str] = []  # lines of the person's own that come next
 
     def work(self) -> None:
         """Works to the job's end. Raises Lost, Wrong."""
@@ -681,6 +829,9 @@ class Person:
         elif self.phase == "cut":
             for line in lines:
                 self.ledger.cut(line)
+        elif self.phase == "free":
+            for line in lines:
+                self.ledger.goes_free(line)
         elif not all(self.ledger.switches(line) for line in lines):
             raise Wrong(f"the motors move though nobody said so: {lines[:3]}")
 
@@ -700,8 +851,15 @@ class Person:
             return self.stands(text)
         if deed == "lift":
             return self.lifts(found)
-        if deed == "goes":
+        if deed == "asks" and "first switches it on" in text:
+            self.to, self.was_free = self.ledger.on, True
+            _, *self.errands = self.back_by_hand()
+            return "no"
+        if deed == "asks" and "doesn't tell any more" in text:
+            self.shown.append("asked is what is known: " + text.strip().splitlines()[-2])
+        elif deed == "goes":
             self.phase = "way"
+            self.finds_path()
         elif deed == "cuts":
             self.begins()
             shown = re.findall(r"The motors are there: X (\S+) Y (\S+) Z (\S+)\.", text)
@@ -709,13 +867,23 @@ class Person:
                 self.shown.append(f"shown is {shown[-1]}, and the motors stand at {self.ledger.steps}")
         return "600" if deed == "feed" and "No feed is known" in text else "" if deed == "feed" else "yes"
 
+    def finds_path(self) -> None:
+        """Motors that were measured may stand on the path all the same, where the record has them, or at the goal."""
+        left = record_move(self.shop.folder) if self.job.over != "pipe" else self.to
+        for move in (self.to, left):
+            if self.ledger.on is None and not self.ledger.legs and self.job.uncut.points[move] == self.ledger.steps:
+                self.ledger.on = move
+
     def lifts(self, found: re.Match[str]) -> str:
         """How far up legs go; they have to lead to where the record has the motors, or to where the cut begins."""
         *at, low, high = found.groups()
         points = self.job.uncut.points
-        moves = [move for move in (self.record_at, self.to) if points[move] == steps_of(at)]
+        left = record_move(self.shop.folder) if self.job.over != "pipe" else self.to
+        moves = [move for move in (left, self.to) if points[move] == steps_of(at)]
+        if not moves and self.ledger.is_by_hand:
+            raise Unjudged("where the path was left is of a line of the person's own")
         if not moves:
-            raise Wrong(f"legs lead to {at}, and the path was left at move {self.record_at}, {points[self.record_at]}")
+            raise Wrong(f"legs lead to {at}, and the path was left at move {left}, {points[left]}")
         lift = min(float(high), float(low) + self.chance.choice((0, 0.1, 0.35)))
         self.ledger.legs = Legs(round(lift * 1000), moves[0], points[moves[0]])
         self.ledger.arrives()
@@ -732,6 +900,8 @@ class Person:
     def begins(self) -> None:
         """The cut goes on: everything before is made, and the motors are where it begins."""
         ledger, uncut = self.ledger, self.job.uncut
+        if ledger.is_of_sink and not any(each[:1] == b"P" for each in uncut.moves[ledger.made:self.to]):
+            ledger.made = max(ledger.made, self.to)
         if ledger.steps != uncut.points[self.to]:
             raise Wrong(f"the motors stand at {ledger.steps}, and move {self.to} begins at {uncut.points[self.to]}")
         if ledger.made < self.to:
@@ -747,7 +917,8 @@ class Person:
             return "quit"
         if "status entries" in text:
             self.entries, place, at, kind, segment = read_status(text)
-            self.to = self.target(place, kind, segment)
+            self.to = self.target(place, steps_of(at), kind, segment)
+            self.ledger.loses(self.to, self.job.ahead)
             if self.ledger.is_through() and not self.is_left(self.opening):
                 return self.ends(at, kind)
         if self.at_start:
@@ -755,11 +926,11 @@ class Person:
             return "status"
         self.phase = "still"
         self.tries += 1
-        if self.tries > 12:
+        if self.tries > 30:
             raise Wrong("nothing that the console proposes leads on")
-        if self.entries == 0:
-            self.entries = 1
-            return "load part.ngc"
+        if self.entries < 2:
+            self.entries += 1
+            return ("tool 1 50", "load part.ngc")[self.entries - 1]
         if self.is_left(self.opening):
             self.opening = ""
             return "recover"
@@ -776,23 +947,74 @@ class Person:
         """The program begins, or goes on."""
         if self.is_left(text):
             return "recover"
-        if not self.cutting:
+        if "reference player takes the player's point" in text:
+            return "reference player"
+        if self.errands:
+            self.phase = "free"
+            return self.errands.pop(0)
+        if not self.cutting or self.was_free:
+            if self.ledger.steps != self.job.uncut.points[self.to]:
+                self.errands, self.was_free = self.back_by_hand(), True
+                return "reference player"
             self.begins()
+        self.was_free = False
+        return self.goes_on()
+
+    def is_switched(self, at: int) -> bool:
+        """Whether the outputs are those of a move."""
+        told = self.ledger.told
+        return self.ledger.outputs[:told] == self.job.uncut.outputs[at][:told]
+
+    def back_by_hand(self) -> list[str]:
+        """The lines that bring the machine to where the program goes on, with its outputs."""
+        uncut, to = self.job.uncut, self.to
+        self.ledger.is_by_hand = True
+        self.shop.spare()
+        spindle, mist, flood, _ = uncut.outputs[to] if to < len(uncut.moves) else uncut.last
+        x, y, z = (f"{each / 1000:.3f}" for each in uncut.points[to])
+        number, _, speed = spindle.partition(" ")
+        return [f"G53 G0 X{x} Y{y} Z{z}", "M9", *(["M7"] if mist == "1" else []), *(["M8"] if flood == "1" else []),
+                f"M{'534'[int(number)]}" + (f" S{speed}" if speed else "")]
+
+    def goes_on(self) -> str:
+        """The line that is typed at a stop, after a jog there and back; else `run`, and somebody may hold, or choose
+        another rate meanwhile."""
+        at = self.ledger.on
+        typed = self.job.typed_at(at) if at not in self.has_typed else b""
+        if typed and self.ledger.made == at and self.job.has_ramps and self.to != at:
+            self.to, self.was_free, self.phase, self.errands = at, True, "free", ["jog X- 600 for 0.1"]
+            return "jog X+ 600 for 0.1"
+        if typed and self.ledger.made == at and not self.is_switched(at):
+            self.to, self.was_free, self.phase = at, True, "free"
+            _, *self.errands = self.back_by_hand()
+            return self.errands.pop(0)
         self.phase = "cut"
+        if typed and self.ledger.made == at:
+            self.has_typed.add(at)
+            return typed.decode()
+        if self.job.has_ramps and self.chance.random() < 0.3:
+            return self.chance.choice(("percent 50", "percent 120", "percent 100"))
+        if self.job.has_ramps and self.chance.random() < 0.5:
+            self.shop.hold_at = time.monotonic() + self.chance.uniform(0, 0.5)
         return "run"
 
-    def target(self, place: int, kind: str, segment: int) -> int:
-        """The move that comes next by a status."""
+    def target(self, place: int, at: Steps, kind: str, segment: int) -> int:
+        """The move that comes next by a status; at one place that before a typed line, or behind it."""
         uncut = self.job.uncut
         if kind != "none":
+            if kind == "mdi":
+                place = min((each for of, each, _ in uncut.begins if of == "mdi" and each >= place), default=place)
+            if (kind, place, segment) not in uncut.begins:
+                raise Unjudged("a line of the person's own is half-done")
             return uncut.begins[kind, place, segment]
         if place == 0:
             return len(uncut.moves) if self.entries >= uncut.entries else 0
-        return uncut.begins["none", place, 0]
+        behind = uncut.begins["behind", place, 0]
+        return behind if uncut.points[behind] == at else uncut.begins["none", place, 0]
 
     def ends(self, at: tuple[str, str, str], kind: str) -> str:
         """The job is made: everything is at one place."""
-        if kind != "none" or steps_of(at) != self.ledger.steps:
+        if kind != "none" or steps_of(at) != self.ledger.steps and not self.ledger.lost:
             raise Wrong(f"ngc says {at}, {kind}, and the motors stand at {self.ledger.steps}")
         self.ended = True
         return "quit"
@@ -832,6 +1054,7 @@ class Plan:
     keeps: dict[str, str] = field(default_factory=lambda: dict.fromkeys(FILES, "all"))
     coasts: Steps = (0, 0, 0)
     fails: bool = False
+    sink_dies: bool = False
 
 
 FAILS = ("ngc mill.dev write {} 28", "ngc mill.dev sync {} 5", "ngc out write {} 28", "ngc out write {} 5",
@@ -843,10 +1066,11 @@ CALLS = ("ngc mill.dev write {} kill", "ngc mill.dev sync {} kill", "ngc out wri
          "console out write 1 kill", "console out sync 1 kill")
 
 
-def plan(chance: random.Random, moves: int, kept: tuple[str, ...], fails: int) -> Plan:
+def plan(chance: random.Random, moves: int, kept: tuple[str, ...], fails: int, over: str) -> Plan:
     """A loss of power by chance, in a job of so many moves; `fails` is the weight of calls that fail."""
     found = Plan()
-    kind = chance.choices(("line", "motors", "call", "seconds", "alone", "fail"), (30, 25, 30, 10, 5, fails))[0]
+    weights = (0, 0, 30, 65, 5, fails) if over == "sink" else (30, 25, 30, 10, 5, fails)
+    kind = chance.choices(("line", "motors", "call", "seconds", "alone", "fail"), weights)[0]
     if kind in ("line", "motors"):
         found.line = 1 + int(chance.random() ** 2 * moves)
         found.is_all = kind == "line"
@@ -861,7 +1085,8 @@ def plan(chance: random.Random, moves: int, kept: tuple[str, ...], fails: int) -
         out = chance.choice(kept)
         found.keeps = {"mill.dev": chance.choice([each for each in kept if each not in ("torn", "hole")] + ["any"]),
                        "out": out, "position": chance.choice(("all", "all", "none"))}
-        if chance.random() < 0.15:
+        found.sink_dies = chance.random() < 0.3
+        if chance.random() < 0.15 and over != "sink":
             found.coasts = tuple(chance.randint(-30, 30) for _ in range(3))
     return found
 
@@ -875,8 +1100,9 @@ class Found:
     states: int = 0
     back: int = 0
     again: int = 0
+    unjudged: int = 0
     wrong: list[str] = field(default_factory=list)
-    shown: list[str] = field(default_factory=list)  # places that aren't those of the motors
+    shown: list[str] = field(default_factory=list)  # places that aren't those of the motors, questions for nothing
 
 
 class Chain:
@@ -887,11 +1113,16 @@ class Chain:
         """`plans` are how power is lost, one after the other; behind the first one a fault is planted."""
         self.tools, self.folder, self.job, self.chance, self.plans = tools, folder, job, chance, plans
         self.plant = plant
-        self.ledger, self.told, self.shown = Ledger(job.uncut), [], []
+        self.ledger, self.told, self.shown = Ledger(job.uncut, is_of_sink=job.over == "sink"), [], []
         self.lost = 0
+        (folder / "machine.toml").write_text(MACHINE)
         (folder / "settings.toml").write_text(SETTINGS)
         (folder / "part.ngc").write_bytes(job.text)
-        (folder / "out").touch()
+        self.sink = Sink(tools.sink, folder, 1, []) if job.over == "sink" else None
+        if job.over == "pipe":
+            os.mkfifo(folder / "out")
+        else:
+            (folder / "out").touch()
         subprocess.run([tools.ngc, "format", folder / "mill.dev"], check=True)
 
     def run(self) -> None:
@@ -899,10 +1130,10 @@ class Chain:
         measured = None
         for _ in range(2 * len(self.plans) + 8):
             how = self.plans[self.lost] if self.lost < len(self.plans) else Plan()
-            shop = Shop(self.tools, self.folder, how.deeds, measured, [])
+            shop = Shop(self.tools, self.folder, how.deeds, measured, self.job, self.sink)
             person = Person(shop, self.job, self.ledger, self.chance, bool(self.plant))
             self.told.append(f"-- {how}, measured {measured}, at move {self.ledger.on} of {self.ledger.made} made")
-            if measured:
+            if measured or self.job.over == "pipe":
                 self.ledger.leave()
             try:
                 is_over = self.session(shop, person, how)
@@ -914,6 +1145,11 @@ class Chain:
                 return
             measured = self.after(shop, how, person.measures)
         raise Wrong("it comes to no end")
+
+    def close(self) -> None:
+        """Ends the sink."""
+        if self.sink:
+            self.sink.end()
 
     def session(self, shop: Shop, person: Person, how: Plan) -> bool:
         """From power on to its loss, or to the job's end: then True."""
@@ -929,18 +1165,28 @@ class Chain:
         if person.ended and not is_lost or how.alone and not person.leaves:
             shop.close()
         shop.kill()
+        if self.sink and not person.ended:
+            self.sink.rest()
         person.follow()
+        if self.sink and not person.ended and (self.folder / "said").read_text().endswith("--at X Y Z tells it\n"):
+            person.leaves = person.measures = True
         if not (is_lost or person.leaves or person.ended or how.fails):
             raise Wrong("the console ended by itself")
-        if person.ended and not is_lost:
+        is_over = person.ended and not is_lost and not (how.fails and shop.player.returncode)
+        if is_over:
             self.ends(shop)
-        return person.ended and not is_lost
+        return is_over
 
     def after(self, shop: Shop, how: Plan, measures: bool) -> Steps | None:
         """What power left: the disk loses what it loses, the motors coast; where they stand, if that is measured."""
         if not measures or how.alone or how.fails:
             self.lost += 1
             shop.lose(how.keeps, self.chance)
+            if self.sink and how.sink_dies:
+                made = self.sink.lines()
+                self.sink.end()
+                self.sink = Sink(self.tools.sink, self.folder, self.lost + 1, made)
+                return self.ledger.steps
             if how.coasts != (0, 0, 0) and self.ledger.made:
                 self.ledger.steps = tuple(map(sum, zip(self.ledger.steps, how.coasts)))
                 self.ledger.leave()
@@ -948,9 +1194,11 @@ class Chain:
             plant_in_record(self.folder, self.plant)
             return None
         said = record_of(self.folder).get("reference", "0 0 0").split()
-        if steps_of(said) == self.ledger.steps:
+        if measures:
+            return self.ledger.steps
+        if self.sink or steps_of(said) == self.ledger.steps:
             return None
-        return self.ledger.steps if measures or self.chance.random() < 0.7 else None
+        return self.ledger.steps if self.chance.random() < 0.7 else None
 
     def ends(self, shop: Shop) -> None:
         """Everything is made, and at one place."""
@@ -961,6 +1209,8 @@ class Chain:
             raise Wrong(f"the player's status is {shop.player.returncode}: {(self.folder / 'said').read_text()}")
         if steps_of(record["reference"].split()) != ledger.steps:
             raise Wrong(f"the record says {record['reference']}, and the motors stand at {ledger.steps}")
+        if ledger.is_by_hand or self.job.over == "pipe":
+            return
         lines = (self.folder / "out").read_bytes().split(b"\n")[:-1]
         if len(lines) != int(record["lines"]) or [each for each in lines if each[:1] != b"S"] != self.job.uncut.moves:
             raise Wrong("OUT isn't one path, or the record isn't at its end")
@@ -1005,8 +1255,9 @@ def try_plant(tools: Tools, plant: str, seed: int) -> str:
     return ""
 
 
-def program(chance: random.Random, blocks: int) -> bytes:
-    """Short moves, arcs, cycles, waits, switches and traverses, by chance."""
+def program(chance: random.Random, blocks: int) -> tuple[bytes, list[bytes]]:
+    """Short moves, arcs, cycles, waits, switches, tools, traverses and stops, by chance; and what is typed at these."""
+    typed: list[bytes] = []
     lines, x, y = ["G17 G21 G40 G49 G54 G80 G90 G94", "M3 S1000", "G0 Z0.1", "G1 Z-0.1 F1200"], 0, 0
     for _ in range(blocks):
         x, y = x + chance.randint(-6, 9), y + chance.randint(-6, 9)
@@ -1016,25 +1267,33 @@ def program(chance: random.Random, blocks: int) -> bytes:
             [chance.choice(("M8", "M9", "M7", "S1200", "M5", "M3 S900"))],
             ["G0 Z0.2", f"G82 X{x / 100:.2f} Y{y / 100:.2f} Z-0.15 R0.1 P0.003", "G80", "G1 Z-0.1"],
             ["G0 Z0.3", f"G83 X{x / 100:.2f} Y{y / 100:.2f} Z-0.2 R0.1 Q0.1", "G80", "G1 Z-0.1"],
-            ["G0 Z0.2", f"G0 X{x / 100:.2f} Y{y / 100:.2f}", "G1 Z-0.1"]))
-    return "".join(line + "\n" for line in [*lines, "G0 Z0.3", "G0 X0 Y0", "M2"]).encode()
+            ["G0 Z0.2", f"G0 X{x / 100:.2f} Y{y / 100:.2f}", "G1 Z-0.1"], ["G0 Z0.2", "T1 M6", "G1 Z-0.1"],
+            ["G0 Z0.2", "M0", "G1 Z-0.1"]))
+        if lines[-2:-1] == ["M0"]:
+            typed.append(b"G1 X%.2f" % (chance.randint(-9, 9) / 100))
+    return "".join(line + "\n" for line in [*lines, "G0 Z0.3", "G0 X0 Y0", "M2"]).encode(), typed
 
 
-def try_chain(tools: Tools, seed: int, losses: int, kept: tuple[str, ...], fails: int, found: Found) -> list[str]:
+def try_chain(tools: Tools, seed: int, losses: int, kept: tuple[str, ...], fails: int, over: str,
+              found: Found) -> list[str]:
     """Runs the chain of a seed; what was said, if it is wrong."""
     chance = random.Random(seed)
-    text = program(chance, chance.randint(3, 14))
-    job = Job(text, run_uncut(tools.ngc, SETTINGS, text, []))
+    text, typed = program(chance, chance.randint(3, 14))
+    job = Job(text, run_uncut(tools.ngc, SETTINGS, text, typed), typed, over,
+              over == "sink" or chance.random() < 0.3)
     with tempfile.TemporaryDirectory(prefix="ngc-power-", dir=memory()) as name:
-        plans = [plan(chance, len(job.uncut.moves), kept, fails) for _ in range(chance.randint(min(1, losses), losses))]
+        plans = [plan(chance, len(job.uncut.moves), kept, fails, over) for _ in range(chance.randint(min(1, losses), losses))]
         chain = Chain(tools, Path(name).resolve(), job, chance, plans)
         found.chains += 1
         try:
             chain.run()
+        except Unjudged:
+            found.unjudged += 1
         except Wrong as wrong:
             found.wrong.append(f"seed {seed}: {wrong}")
             return [text.decode(), *chain.told, f"WRONG, seed {seed}: {wrong}", (chain.folder / "said").read_text()]
         finally:
+            chain.close()
             found.losses += chain.lost
             found.back += chain.ledger.back
             found.again += chain.ledger.again
@@ -1046,8 +1305,15 @@ def make_tools(ngc: str) -> Tools:
     """Builds the programs."""
     sys.path.insert(0, str(HERE))
     from player_support import built, made
+    from sink_support import PARTS, SINK
     preload = made("power_disk.so", "cc", "-shared", "-fPIC", "-O2", str(HERE / "power_disk.c"))
-    return Tools(ngc, built("-O2"), preload, Consoles(preload))
+    sink = built("-std=c99", "-O2", "-I", str(SINK), sources=PARTS)
+    return Tools(ngc, built("-O2"), preload, Consoles(preload), sink)
+
+
+def kind_of(text: str) -> str:
+    """What is wrong, without the seed, numbers, and what is said besides."""
+    return re.sub(r"[-\d.]+", "#", text.partition(": ")[2].partition("\n")[0])
 
 
 def main() -> int:
@@ -1059,6 +1325,7 @@ def main() -> int:
     parser.add_argument("--seconds", type=float, default=1e9)
     parser.add_argument("--losses", type=int, default=5)
     parser.add_argument("--kept", default="all,none,first,torn", help="of all,none,first,torn,any,hole")
+    parser.add_argument("--over", choices=("file", "pipe", "sink"), default="file")
     parser.add_argument("--fails", type=int, default=0, help="the weight of calls that fail, beside 100 losses")
     parser.add_argument("--plant", choices=PLANTS, help="a fault that the judge has to find in each chain")
     parser.add_argument("--keep", type=Path, help="where what was said of wrong chains is kept")
@@ -1071,15 +1338,17 @@ def main() -> int:
             continue
         if time.monotonic() > begun + given.seconds:
             break
-        said = try_chain(tools, seed, given.losses, tuple(given.kept.split(",")), given.fails, found)
+        said = try_chain(tools, seed, given.losses, tuple(given.kept.split(",")), given.fails, given.over, found)
         if said and given.keep:
             (given.keep / f"seed-{seed}.txt").write_text("\n".join(said))
         if said:
             print(found.wrong[-1].splitlines()[0], flush=True)
+        if found.chains % 50 == 0:
+            print(f"{found.losses} losses in {found.chains} chains, {time.monotonic() - begun:.0f} s", flush=True)
     tools.consoles.close()
     print(f"{found.losses} losses of power in {found.chains} chains, {time.monotonic() - begun:.0f} s; {found.back} pulses"
-          f" back, {found.again} moves made again; {len(found.wrong)} chains are wrong, {len(found.shown)} places shown are")
-    for kind, count in Counter(re.sub(r"\d+|(?s:\n.*)", "", text.partition(": ")[2]) for text in found.wrong).items():
+          f" back, {found.again} moves made again, {found.unjudged} chains aren't judged; {len(found.wrong)} chains are wrong, {len(found.shown)} places and questions are")
+    for kind, count in Counter(map(kind_of, [*found.wrong, *found.shown])).items():
         print(f"{count} times: {kind}")
     return int(bool(found.wrong) != bool(given.plant) or "NOT FOUND" in found.wrong)
 
