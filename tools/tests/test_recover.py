@@ -8,6 +8,7 @@ import sys
 import time
 import unittest
 from collections.abc import Callable
+from dataclasses import replace
 from functools import partial
 from pathlib import Path
 
@@ -22,6 +23,8 @@ from session_support import FIRST, InFolder, ngc, told  # noqa: E402
 from ngc_tools.cli.rehearse import main as rehearse  # noqa: E402
 from ngc_tools.formats.device import Device  # noqa: E402
 from ngc_tools.formats.out import OFF, read_line  # noqa: E402
+from ngc_tools.formats.out_note import OutNote  # noqa: E402
+from ngc_tools.formats.position import Position  # noqa: E402
 from ngc_tools.formats.record import Record  # noqa: E402
 from ngc_tools.formats.settings import Settings  # noqa: E402
 from ngc_tools.ngc.carried import CannotTell  # noqa: E402
@@ -564,7 +567,9 @@ class Typing(Yes):
 
 
 class WithOperator(PlayerTest):
-    """An operator over a player that follows."""
+    """An operator over a player that follows. `noted` is the device beside which it is noted what OUT has."""
+
+    noted: str | None = None
 
     def half_done(self, out: str = "out") -> None:
         """A device of which G0 Z0.020 is open, with an OUT of its 3 lines before and 6 of its own."""
@@ -584,7 +589,7 @@ class WithOperator(PlayerTest):
         self.begin("--follow", *words, "--no-ask-tool", "--pins", "pins", "--progress", "progress", out,
                    "first.toml", "position")
         self.linked()
-        link = SyncedLink("progress", out) if out == "out" else self.linked()
+        link = SyncedLink("progress", out, device=self.noted) if out == "out" else self.linked()
         self.addCleanup(link.close)
         if out == "out":
             link.cut = partial(self.cut, link.cut)
@@ -877,7 +882,7 @@ class Recovering(WithOperator):
         Path("out").write_text("P 1 0 0 50\n" * 9)
         counts = [99, 99, 23, 22]
         link = SyncedLink.__new__(SyncedLink)
-        link.__dict__.update(file=os.open("out", os.O_RDWR), patience_s=60, follow=lambda: None,
+        link.__dict__.update(file=os.open("out", os.O_RDWR), notes=None, patience_s=60, follow=lambda: None,
                              kept=lambda: (0, counts.pop(0)))
         self.addCleanup(os.close, link.file)
         OutFound(link, None, Recovery(), []).cut(22)
@@ -1017,6 +1022,182 @@ class BesideThePath(WithOperator):
 
 class BesideInC(InC, BesideThePath):
     """tools/player."""
+
+
+class EndsWhereItBegan(WithOperator):
+    """Blocks that end where they began, of which OUT lost all with the power, while the device has them as done."""
+
+    noted = "mill.dev"
+
+    def begun(self, text: str) -> tuple[Operator, Typing]:
+        """An operator with an OUT of `text`."""
+        Path("out").write_text(text)
+        self.operator, self.face = self.operate()
+        return self.operator, self.face
+
+    def lost(self, lines: list[str], count: int) -> None:
+        """Power is lost before the last line's OUT was synced: it has its first `count` lines, and all of them are
+        carried out."""
+        self.operator.console.kill()
+        if self.noted and Path("noted").exists():
+            shutil.copy("noted", "mill.dev.out")
+        self.player.kill()
+        self.player.communicate()
+        whole = "".join(f"{line}\n" for line in lines[:count])
+        Path("out").write_text(whole)
+        found = Settings.read("first.toml").step_nm
+        at = Position(found).take_all(read_line(line, 1) for line in lines[:count])
+        source = Source("out")
+        mark = source.mark(len(whole))
+        source.close()
+        record = Record(f"{self.folder}/out", count, len(whole), OFF, at.nm, mark)
+        Path("position").write_bytes(record.text())
+        Path("pins").unlink(missing_ok=True)
+
+    def begin(self, *words: str, **how: object) -> subprocess.Popen[str]:
+        """Keeps the player."""
+        self.player = super().begin(*words, **how)
+        return self.player
+
+    def brought_back(self, lines: list[str], count: int) -> None:
+        """All lines behind the first `count` are put back, which is said, and `recover` carries them out."""
+        self.lost(lines, count)
+        operator, face = self.operate("yes", "yes", "yes")
+        lost = len(lines) - count
+        self.assertIn(f"out: {lost} lines that were handed out were lost with the power, and are put back: ngc run hands"
+                      " out the same ones again", face.said)
+        operator.do("run")
+        self.assertIn("nothing is done: lines stand in OUT", face.said[-1])
+        operator.do("recover")
+        self.assertEqual(self.pins(), lines[count:])
+        self.assertEqual(face.said[-1], "the motors are where what was handed out leads: run goes on")
+
+    def keep_note(self) -> None:
+        """It is that of the moment at which power will be lost."""
+        if self.noted:
+            shutil.copy("mill.dev.out", "noted")
+
+    def lines(self) -> list[str]:
+        """Those of OUT."""
+        return Path("out").read_text().splitlines()
+
+    def test_circle(self) -> None:
+        """A circle of 0.002 mm behind 3 steps."""
+        self.device()
+        operator, _ = self.begun("")
+        operator.do("G0 X0.003")
+        self.keep_note()
+        operator.do("G2 X0.003 I0.002 F60")
+        self.assertGreater(len(self.lines()), 10)
+        self.brought_back(self.lines(), 3)
+
+    def test_without_a_note(self) -> None:
+        """The same where nothing was noted, as after `ngc run` alone: the device's log tells it."""
+        self.noted = None
+        self.test_circle()
+
+    def test_log_begun_anew(self) -> None:
+        """The device's log is full in the midst of a program, and begun anew: 1,020 records are some 500 lines."""
+        self.device()
+        operator, face = self.begun("")
+        text = "G91\n" + "G0 X0.001\nG0 X-0.001\n" * 300 + "M0\nG4 P0.01\nM0\nM2\n"
+        operator.load("long", text.encode())
+        epoch = Device.read("mill.dev").epoch
+        operator.do("run")
+        self.assertEqual(Device.read("mill.dev").epoch, epoch + 1)
+        self.keep_note()
+        operator.do("run")
+        self.assertEqual(self.lines()[-1], "D 10000", face.said)
+        Path("noted").unlink()  # it was noted within the program, before the last lines
+        note = OutNote.of_text(Path("mill.dev.out").read_bytes())
+        self.assertEqual(note.epoch, epoch + 1)
+        self.brought_back(self.lines(), 600)
+
+    def test_noted_within(self) -> None:
+        """Where the log is begun anew in the midst of a program it is noted once no block is under way."""
+        self.device()
+        operator, _ = self.begun("")
+        operator.do("G0 X0.001")
+        link = operator.session.meter.link
+        before = Path("mill.dev.out").read_bytes()
+        operator.session.passed(operator.console.status())
+        self.assertEqual(Path("mill.dev.out").read_bytes(), before)
+        operator.console.ask("tool 1 0.5")
+        operator.console.load(b"M2\n")  # begins it anew
+        operator.session.passed(replace(operator.console.status(), half="program"))
+        self.assertEqual(Path("mill.dev.out").read_bytes(), before)
+        operator.session.passed(operator.console.status())
+        note, device = link.noted(), Device.read("mill.dev")
+        self.assertEqual((note.epoch, note.records, note.entries, note.size, note.begins),
+                         (device.epoch, 0, device.state.entries, 11, 11))
+
+    def test_another_out(self) -> None:
+        """An OUT that was emptied, as at the start of a day, or that is another one, has lost nothing."""
+        self.device()
+        operator, _ = self.begun("")
+        operator.do("G2 X0 I0.002 F60")
+        lines = self.lines()
+        self.lost(lines, 0)
+        shutil.copy("out", "new")
+        for name in ("out", "new"):
+            os.replace(name, "out")
+            Path("position").unlink(missing_ok=True)
+            operator, face = self.operate()
+            self.assertEqual([said for said in face.said if "lines" in said and "behind" not in said], [])
+            operator.do("recover")
+            self.assertEqual(face.said[-1], "nothing is half-done, and nothing is left in OUT: run goes on")
+            operator.console.kill()
+            self.player.kill()
+            self.player.communicate()
+
+    def test_all_of_an_empty_out(self) -> None:
+        """An OUT that was empty as the session began, and is so again: that isn't put back without a question."""
+        self.device()
+        operator, _ = self.begun("")
+        self.keep_note()
+        operator.do("G2 X0 I0.002 F60")
+        lines = self.lines()
+        self.lost(lines, 0)
+        operator, face = self.operate("yes", "yes", "yes", "yes")
+        self.assertTrue([said for said in face.said if f"has none of the {len(lines)} lines that were handed" in said])
+        operator.do("recover")
+        self.assertEqual(self.pins(), lines)
+
+    def test_not_noted(self) -> None:
+        """Where it can't be noted that is said once, and the work goes on; what isn't a note isn't written over."""
+        self.device()
+        Path("mill.dev.out").write_text("a drawing\n")
+        operator, face = self.begun("")
+        operator.do("G0 X0.002")
+        operator.do("G0 X0.003")
+        why = ("what OUT has isn't noted beside the device, by which lines are told that are lost with the power:"
+               " [Errno 17] it isn't what is kept there, and isn't written over: 'mill.dev.out'")
+        self.assertEqual(face.said.count(why), 3)
+        self.assertEqual((Path("mill.dev.out").read_text(), len(self.lines())), ("a drawing\n", 3))
+
+    def twice(self, typed: str) -> None:
+        """A line is typed twice: OUT ends with the first one as it would with the second."""
+        self.device()
+        operator, face = self.begun("")
+        operator.do("G0 Z0.001")
+        operator.do(typed)
+        once = len(self.lines())
+        self.keep_note()
+        operator.do(typed)
+        self.assertEqual(len(self.lines()), 2 * once - 1, face.said)
+        self.brought_back(self.lines(), once)
+
+    def test_circles(self) -> None:
+        """Circles."""
+        self.twice("G2 X0 I0.002 F60")
+
+    def test_waits(self) -> None:
+        """A line of OUT each."""
+        self.twice("G4 P0.01")
+
+    def test_holes(self) -> None:
+        """Down, a wait, and up."""
+        self.twice("G82 X0 Y0 Z-0.002 R0.001 P0.001 F60")
 
 
 class PulledPlug(unittest.TestCase):

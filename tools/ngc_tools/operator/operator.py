@@ -138,6 +138,7 @@ class Operator:
         if refused(session, reply, "load"):
             return False
         session.program, session.told = Program(text), 0
+        session.note_out(self.console.status())
         self.face.say(f"{reply}: {name}, {len(text):,} bytes, {session.program.count} lines")
         return True
 
@@ -500,6 +501,7 @@ class Operator:
         self.session.own = ""
         if ended == SINGLE:
             ended = self.console.ask("hold")[0]
+        self.session.note_out(self.console.status())
         return ended
 
     def _say_stand(self, ended: str) -> None:

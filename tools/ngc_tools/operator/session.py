@@ -3,6 +3,7 @@ import re
 from collections.abc import Callable
 from contextlib import suppress
 from dataclasses import dataclass, field
+from functools import partial
 
 from ngc_tools.formats.device import Device, NoDevice
 from ngc_tools.formats.lines import Program
@@ -21,6 +22,7 @@ came with lines in hand, so that no more line of the session is carried out, and
 """
 DOOR, SPINDLE, OTHER = "door", "spindle", "other"
 """What holds motors that nobody told to hold from here."""
+NOT_NOTED = "what OUT has isn't noted beside the device, by which lines are told that are lost with the power"
 _MACHINE_S = 0.3  # a player that tells its inputs does so in that time; others are deaf for that question
 
 
@@ -83,10 +85,25 @@ class Session:
         return report
 
     def passed(self, status: Status) -> None:
-        """Gives room of OUT that nobody needs any more back to the disk."""
+        """Gives room of OUT that nobody needs any more back to the disk, and notes what OUT has where the device was
+        written anew."""
         if self.meter and isinstance(self.meter.link, SyncedLink):
             with suppress(NoAnswer):  # the next question says it
                 self.meter.link.passed(status)
+            if status.half == "none":
+                self.noting(partial(self.meter.link.note_end, True))
+
+    def note_out(self, status: Status) -> None:
+        """Notes what OUT, a file, has where no block is under way."""
+        if status.half == "none" and self.meter and isinstance(self.meter.link, SyncedLink):
+            self.noting(self.meter.link.note_end)
+
+    def noting(self, note: Callable[[], None]) -> None:
+        """Has it noted what OUT has; says once why that can't be."""
+        try:
+            note()
+        except OSError as error:
+            self.face.once(f"{NOT_NOTED}: {error}")
 
     def take(self, report: Report) -> None:
         """Takes what the player says."""

@@ -4,11 +4,15 @@ import fcntl
 import os
 import re
 import time
+from contextlib import suppress
 from pathlib import Path
 
+from ngc_tools.formats.device import Device, NoDevice
 from ngc_tools.formats.out import LONGEST_LINE, BadLine, read_line
+from ngc_tools.formats.out_note import NoteFile, OutNote
 from ngc_tools.ngc.console import Status
 from ngc_tools.player.progress import Link, NoAnswer, Report
+from ngc_tools.player.source import born_ns
 
 SYNCED_PARTS, SYNCED_AT_ONCE = 4, 1000  # of a Meter: few pieces, since each is synced
 _CHUNK = 1 << 22  # bytes of room that are given back at once
@@ -22,10 +26,13 @@ class SyncedLink(Link):
     by a sync of what OUT got since the last one, and by the word how many bytes are on the disk: beyond these the
     player carries nothing out. So what the motors were given is there after a loss of power."""
 
-    def __init__(self, path: str | Path, out: str | Path, patience_s: float = 5.0) -> None:
-        """Raises NoAnswer, or OSError if OUT can't be opened."""
+    def __init__(self, path: str | Path, out: str | Path, patience_s: float = 5.0, device: str | None = None) -> None:
+        """`device` is that beside which it is noted what OUT has; None for nowhere. Raises NoAnswer, or OSError if OUT
+        can't be opened."""
         super().__init__(path, patience_s)
         self.out = str(out)
+        self.notes = NoteFile(device) if device else None
+        self._epoch = 0  # of the device, as it was noted last
         self.file = os.open(out, os.O_RDWR | os.O_CLOEXEC)
         self.is_following = False
         self.told = -1  # bytes, of which the player knows that they are on the disk
@@ -101,6 +108,35 @@ class SyncedLink(Link):
     def sync(self) -> None:
         """Puts what stands in OUT on the disk. Raises OSError."""
         os.fdatasync(self.file)
+
+    def noted(self) -> OutNote | None:
+        """What was noted last of OUT; None where nothing was."""
+        return self.notes.read() if self.notes else None
+
+    def note(self, size: int, begins: int) -> None:
+        """Notes that OUT has so many bytes, which are synced before, as the device stands now, with nothing under way;
+        the half-done segment begins behind `begins` bytes, which is `size` without one. Raises OSError."""
+        if self.notes is None:
+            return
+        if self.told != self.size():
+            self.sync()
+        what = os.fstat(self.file)
+        with suppress(NoDevice):
+            device = Device.read(self.notes.device)
+            self._epoch = device.epoch
+            self.notes.write(OutNote(what.st_ino & (2**63 - 1), born_ns(self.file), device.epoch, len(device.records),
+                                     device.state.entries, size, begins))
+
+    def note_end(self, is_anew: bool = False) -> None:
+        """The same of all that OUT has, without a half-done block; with `is_anew` only where the device was written
+        anew since. Raises OSError."""
+        if self.notes is not None and not (is_anew and self.notes.epoch() == self._epoch):
+            self.note(self.size(), self.size())
+
+    def forget(self) -> None:
+        """What was noted isn't true of what OUT is to have. Raises OSError."""
+        if self.notes is not None:
+            self.notes.remove()
 
     def cut_part(self) -> int:
         """Cuts a part of a line off the end, if no session has OUT, and it is one; returns how many bytes that had.
