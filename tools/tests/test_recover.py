@@ -647,6 +647,24 @@ class Recovering(WithOperator):
         operator.do("recover")
         self.assertEqual(face.said, ["recover is for what the last session left, before anything else is done"])
 
+    def test_place_within_a_cycle(self) -> None:
+        """The place that is shown is that of the segment, which isn't the block's first: the way out of a hole at X0.002
+        Y0.003, from its bottom at Z-0.004."""
+        self.device()
+        text = "F60\nG81 X0.002 Y0.003 Z-0.004 R0.001\nM2\n"
+        self.run_ngc(f"load {len(text)}\n{text}start\ntick 19\nquit\n")
+        lines = Path("out").read_text().splitlines()
+        self.assertEqual((lines.count("P 0 0 -1 1000"), lines[-1]), (5, "P 0 0 1 50"))  # of R0.001 down, and a step up
+        source = Source("out")
+        size = source.size()
+        mark = source.mark(size)
+        source.close()
+        at = Position((1000, 1000, 1000)).take_all(read_line(line, 1) for line in lines)
+        Path("position").write_bytes(Record(f"{self.folder}/out", len(lines), size, OFF, at.nm, mark).text())
+        operator, face = self.operate("yes", "yes", "yes")
+        operator.do("recover")
+        self.assertIn("The motors are there: X 0.002000 Y 0.003000 Z -0.004000.", "\n".join(face.said))
+
     def cut_off(self, out: str = "out") -> list[str]:
         """A device of which G1 Z-0.010 at 60 mm a minute is open, under a spindle that turned, at X0.003."""
         self.device()

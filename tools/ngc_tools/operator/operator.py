@@ -354,7 +354,7 @@ class Operator:
             self.face.say(str(error), WARNING)
             return
         if is_there and status.half != "none":
-            self._take_up(status, True)
+            self._take_up(self.console.status(), True)
 
     def _drop(self, _: Typed) -> None:
         try:
