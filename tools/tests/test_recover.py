@@ -1,4 +1,5 @@
 """After a loss of power: ways along OUT, in both players; what ngc-operate and ngc-rehearse find; and `recover`."""
+import errno
 import os
 import random
 import shutil
@@ -8,9 +9,11 @@ import sys
 import time
 import unittest
 from collections.abc import Callable
+from contextlib import ExitStack
 from dataclasses import replace
 from functools import partial
 from pathlib import Path
+from unittest.mock import patch
 
 sys.path.insert(0, str(Path(__file__).resolve().parent))
 
@@ -1216,6 +1219,118 @@ class EndsWhereItBegan(WithOperator):
     def test_holes(self) -> None:
         """Down, a wait, and up."""
         self.twice("G82 X0 Y0 Z-0.002 R0.001 P0.001 F60")
+
+
+class Disk:
+    """What a disk has of the file `out`, by the system calls of this process. Once it `fails`, a sync takes what it
+    couldn't write for written, as Linux does: only what is written again after that comes to the disk."""
+
+    def __init__(self) -> None:
+        self.kept = bytearray()
+        self.dropped = 0  # so many bytes are taken for written
+        self.fails = False
+        self._real = os.fdatasync, os.fsync, os.pwrite, os.ftruncate
+
+    def sync(self, real: Callable[[int], None], file: int) -> None:
+        """A sync of any file."""
+        real(file)
+        if not os.path.samestat(os.fstat(file), os.stat("out")):
+            return
+        text = Path("out").read_bytes()
+        if self.fails:
+            self.fails, self.dropped = False, len(text)
+            raise OSError(errno.EIO, os.strerror(errno.EIO))
+        self.kept += bytes(max(0, self.dropped - len(self.kept))) + text[max(self.dropped, len(self.kept)):]
+
+    def write(self, file: int, text: bytes, begin: int) -> int:
+        """A write to any file at a place."""
+        if os.path.samestat(os.fstat(file), os.stat("out")):
+            self.kept[begin:begin + len(text)] = text
+        return self._real[2](file, text, begin)
+
+    def cut(self, file: int, size: int) -> None:
+        """A cut of any file."""
+        if os.path.samestat(os.fstat(file), os.stat("out")):
+            del self.kept[size:]
+            self.dropped = min(self.dropped, size)
+        self._real[3](file, size)
+
+    def patches(self) -> ExitStack:
+        """The calls of this process, until it is closed."""
+        stack, (datasync, sync, _, _) = ExitStack(), self._real
+        stack.enter_context(patch("os.ftruncate", self.cut))
+        stack.enter_context(patch("os.fdatasync", partial(self.sync, datasync)))
+        stack.enter_context(patch("os.fsync", partial(self.sync, sync)))
+        stack.enter_context(patch("os.pwrite", self.write))
+        return stack
+
+
+class Unsynced(WithOperator):
+    """A sync of OUT that fails once: the next one succeeds, and what the first one was to write isn't on the disk."""
+
+    def setUp(self) -> None:
+        """Three lines are on the disk, and carried out."""
+        super().setUp()
+        self.device()
+        Path("out").touch()
+        self.disk = Disk()
+        self.enterContext(self.disk.patches())
+        self.player = None
+        self.operator, self.face = self.operate("yes", "yes", "yes", "yes")
+        self.operator.do("G0 X0.003")
+
+    def begin(self, *words: str, **how: object) -> subprocess.Popen[str]:
+        """Keeps the player."""
+        self.player = super().begin(*words, **how)
+        return self.player
+
+    def test_named(self) -> None:
+        """It is said, and no line is carried out, or handed out, behind what is on the disk, whatever is typed."""
+        self.disk.fails = True
+        self.operator.do("G0 X0.5")
+        why = self.operator.session.meter.link.failed
+        self.assertEqual(why, "out: it can't be synced: Input/output error. What was handed out last may be lost, though"
+                         " it can be read, and no motor makes it before it is on the disk. Once the disk is well, quit,"
+                         " and start this again: it writes OUT again")
+        self.assertIn(f"{why}; nothing more is handed out", self.face.said)
+        handed_out = Path("out").read_bytes()
+        self.assertGreater(len(handed_out), 33)
+        for line in ("continue", "run", "G0 X0", "resume", "where"):
+            self.face.said.clear()
+            self.operator.do(line)
+            self.assertTrue(why in "\n".join(self.face.said) or self.face.said[-1].startswith("refused K1"), line)
+        self.assertEqual((Path("out").read_bytes(), self.pins()), (handed_out, ["P 1 0 0 50"] * 3))
+        self.assertEqual(self.operator.session.report().at, "0.003000 0.000000 0.000000")
+
+    def test_written_again(self) -> None:
+        """The next session writes OUT again before it goes by it, and all lines are made."""
+        self.disk.fails = True
+        self.operator.do("G0 X0.5")
+        self.operator.ending.tell_player()
+        self.operator.console.quit()
+        self.player.communicate()
+        self.assertEqual((bytes(self.disk.kept), self.disk.dropped > 33), (b"P 1 0 0 50\n" * 3, True))
+        operator, face = self.operate("yes", "yes", "yes", "yes")
+        self.assertEqual(bytes(self.disk.kept), Path("out").read_bytes())
+        operator.do("recover")
+        self.assertEqual(self.pins().count("P 1 0 0 50"), 500)
+        self.assertEqual(bytes(self.disk.kept), Path("out").read_bytes())
+
+    def test_at_the_end(self) -> None:
+        """The last sync of a program fails: what isn't made isn't shown as done."""
+        link = self.operator.session.meter.link
+        real = link._tell
+
+        def tell() -> None:
+            """Fails once all is handed out."""
+            self.disk.fails = self.operator.console.status().half == "none" and link.size() > link.told
+            real()
+
+        link._tell = tell
+        self.operator.do("G0 X0.004")
+        self.assertIn(f"{link.failed}", self.face.said)
+        self.assertEqual(self.pins(), ["P 1 0 0 50"] * 3)
+        self.assertFalse(self.operator.work.await_motors())
 
 
 class PulledPlug(unittest.TestCase):

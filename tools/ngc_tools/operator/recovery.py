@@ -170,6 +170,7 @@ class OutFound:
             found.put_back()
             found.said.append(f"{link.out}: {lost.count(10)} lines that were handed out were lost with the power, and"
                               " are put back: ngc run hands out the same ones again")
+        link.write_again(found.recovery.size)
         if not found.is_left():
             link.follow()
         return found

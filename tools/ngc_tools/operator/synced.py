@@ -1,5 +1,6 @@
 """OUT as a file: what a player is given is on the disk before, and room that nobody needs any more is given back."""
 import ctypes
+import errno
 import fcntl
 import os
 import re
@@ -17,8 +18,16 @@ from ngc_tools.player.source import born_ns
 SYNCED_PARTS, SYNCED_AT_ONCE = 4, 1000  # of a Meter: few pieces, since each is synced
 _CHUNK = 1 << 22  # bytes of room that are given back at once
 _TAIL = 4096  # bytes before the player's place: its record knows OUT by them
+_PIECE = 1 << 20  # bytes that are written again at once
+UNSYNCED = """\
+{out}: it can't be synced: {why}. What was handed out last may be lost, though it can be read, and no motor makes it \
+before it is on the disk. Once the disk is well, quit, and start this again: it writes OUT again"""
 _KEEP_SIZE, _PUNCH_HOLE = 1, 2
 _PART = re.compile(rb"[PDS](?: [-0-9. ]{0,198})?")  # of a line of OUT
+
+
+class NotSynced(NoAnswer):
+    """OUT can't be synced. What was handed out since the last sync may be lost, though it can be read."""
 
 
 class SyncedLink(Link):
@@ -35,6 +44,7 @@ class SyncedLink(Link):
         self._epoch = 0  # of the device, as it was noted last
         self.file = os.open(out, os.O_RDWR | os.O_CLOEXEC)
         self.is_following = False
+        self.failed = ""  # why OUT can't be synced: from then on nothing more of it counts as on the disk
         self.told = -1  # bytes, of which the player knows that they are on the disk
         self._passed = -1  # the bytes of OUT as the status was looked at last ..
         self._open = (-1, -1)  # .. with this segment open ..
@@ -70,21 +80,24 @@ class SyncedLink(Link):
         return os.fstat(self.file).st_size
 
     def ask(self) -> Report:
-        """Syncs OUT, tells it, and asks how far the player is. Raises NoAnswer, also where OUT can't be synced."""
-        if self.is_following:
+        """Syncs OUT, tells it, and asks how far the player is. Raises NoAnswer; NotSynced as OUT can't be synced. After
+        that it only asks."""
+        if self.is_following and not self.failed:
             self._tell()
         return super().ask()
 
     def end(self) -> None:
         """Syncs OUT, and tells the player that the session is over. Raises NoAnswer."""
-        if self.is_following:
-            self._tell()
-        super().end()
+        try:
+            if self.is_following and not self.failed:
+                self._tell()
+        finally:
+            super().end()
 
     def anew(self) -> None:
         """Tells the player that another session follows: until `follow` nothing more is carried out. Raises NoAnswer.
         """
-        self.is_following, self.told = False, -1
+        self.is_following, self.told, self.failed = False, -1, ""
         super().anew()
 
     def close(self) -> None:
@@ -100,14 +113,31 @@ class SyncedLink(Link):
             return
         try:
             self.sync()
-        except OSError as error:
-            raise NoAnswer(f"{self.out}: it can't be synced: {error.strerror}") from None
+        except OSError:
+            raise NotSynced(self.failed) from None
         self.synced(size)
         self.told = size
 
     def sync(self) -> None:
-        """Puts what stands in OUT on the disk. Raises OSError."""
-        os.fdatasync(self.file)
+        """Puts what stands in OUT on the disk. Raises OSError; once it did, it does so in this session: what a sync
+        couldn't write Linux takes for written, and the next one succeeds without it."""
+        if self.failed:
+            raise OSError(errno.EIO, self.failed)
+        try:
+            os.fdatasync(self.file)
+        except OSError as error:
+            self.failed = UNSYNCED.format(out=self.out, why=error.strerror)
+            raise
+
+    def write_again(self, begin: int) -> None:
+        """Writes what OUT has behind so many bytes again, as it is read, and syncs it: a session before may have failed
+        to. Raises OSError."""
+        end = self.size()
+        if begin >= end:
+            return
+        while begin < end and (piece := os.pread(self.file, min(_PIECE, end - begin), begin)):
+            begin += os.pwrite(self.file, piece, begin)
+        os.fsync(self.file)
 
     def noted(self) -> OutNote | None:
         """What was noted last of OUT; None where nothing was."""
@@ -116,7 +146,7 @@ class SyncedLink(Link):
     def note(self, size: int, begins: int) -> None:
         """Notes that OUT has so many bytes, which are synced before, as the device stands now, with nothing under way;
         the half-done segment begins behind `begins` bytes, which is `size` without one. Raises OSError."""
-        if self.notes is None:
+        if self.notes is None or self.failed:
             return
         if self.told != self.size():
             self.sync()

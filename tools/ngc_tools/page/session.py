@@ -538,6 +538,7 @@ class PageSession:
                 operator.session.take(report)
         except NoAnswer as error:
             status, report, gone = operator.console.status(), self.face.report, str(error)
+        gone = gone or (operator.session.meter.link.failed if operator.session.meter else "")
         operator.session.see_machine(machine)
         self.kept.at(status)
         self.stand = Stand(status, report, gone, recovery_of(operator.recover.found), *self._typed(), machine)
