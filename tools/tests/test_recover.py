@@ -595,6 +595,7 @@ class WithOperator(PlayerTest):
         link = SyncedLink("progress", out, device=self.noted) if out == "out" else self.linked()
         self.addCleanup(link.close)
         if out == "out":
+            link.hole = link.cut_hole()
             link.cut = partial(self.cut, link.cut)
         image = Device.read("mill.dev")
         found = OutFound.of(ngc(), "first.toml", link, image) if out == "out" else None
@@ -987,6 +988,14 @@ class BesideThePath(WithOperator):
         operator.do("recover")
         self.assertEqual(self.pins()[:2], ["P 0 0 -1 50"] * 2)
 
+    def test_from_the_first_line(self) -> None:
+        """A record of no line says where the first one begins: the motors are 2 steps beside it."""
+        self.half_done()
+        self.record_of(0, (0, 0, 0))
+        self.lost_again()
+        self.assertEqual(self.recovered("0 0.002 0")[:12],
+                         ["P 0 0 1 50"] * 4 + ["P 0 -1 0 50"] * 2 + ["P 0 0 -1 100"] * 4 + ["P 1 0 0 50"] * 2)
+
     def test_within_legs(self) -> None:
         """Power is lost within legs too: at 1 mm a minute a step takes 60 ms."""
         self.half_done()
@@ -1219,6 +1228,78 @@ class EndsWhereItBegan(WithOperator):
     def test_holes(self) -> None:
         """Down, a wait, and up."""
         self.twice("G82 X0 Y0 Z-0.002 R0.001 P0.001 F60")
+
+
+class Holes(WithOperator):
+    """Zeros in the place of lines that weren't synced: an append that was lost in its midst. OUT has 3 lines before the
+    open segment and 6 of its own, of 11 bytes each."""
+
+    def with_hole(self, begin: int, end: int, lines: int, at_nm: tuple[int, int, int]) -> None:
+        """Such an OUT, with zeros from a byte on, and a record of so many lines."""
+        self.half_done()
+        self.record_of(lines, at_nm)
+        text = Path("out").read_bytes()
+        Path("out").write_bytes(text[:begin].ljust(begin, b"\0") + bytes(end - begin) + text[end:])
+
+    def test_before_the_segment(self) -> None:
+        """Lines 2 and 3 are lost: behind line 1 OUT is cut off, and they are put back, since the device tells them."""
+        self.with_hole(14, 40, 1, (1000, 0, 0))
+        operator, face = self.operate("yes", "yes", "yes")
+        said = [said for said in face.said if said.startswith("out: ")]
+        self.assertEqual(said, ["out: behind its line 1, at byte 11, 26 bytes of zeros stood in the place of lines, which"
+                                " the disk lost. It\nis cut off there, with 6 lines behind them that no motor carried"
+                                " out", "out: 2 lines that were handed out were lost with the power, and are put back:"
+                                " ngc run hands out the same ones again"])
+        operator.do("recover")
+        self.assertEqual(self.pins()[:3] + self.pins()[-21:], ["P 1 0 0 50"] * 2 + ["S 0 0.000000 0 0 0 0"]
+                         + ["P 0 0 1 50"] * 20 + ["S 0 0.000000 0 0 0 0"])
+
+    def test_within_the_segment(self) -> None:
+        """Lines of the segment's own come again."""
+        self.with_hole(50, 70, 4, (3000, 0, 1000))
+        operator, face = self.operate("yes", "yes", "yes")
+        self.assertEqual(len([said for said in face.said if said.startswith("out: ") or "never cut" in said]), 1)
+        operator.do("recover")
+        self.assertEqual(self.pins(), ["P 0 0 -1 50", "S 0 0.000000 0 0 0 0"] + ["P 0 0 1 50"] * 20
+                         + ["S 0 0.000000 0 0 0 0"])
+
+    def test_at_the_end(self) -> None:
+        """Zeros at the end, where the file is as long as it was to be."""
+        self.with_hole(55, 120, 4, (3000, 0, 1000))
+        _, face = self.operate()
+        self.assertIn("out: behind its line 5, at byte 55, 65 bytes of zeros stood in the place of lines, which the disk"
+                      " lost. It\nis cut off there, with 0 lines behind them that no motor carried out", face.said)
+        self.assertEqual(Path("out").stat().st_size, 55)
+
+    def test_never_cut(self) -> None:
+        """Where the device tells it no more, after other power ons: at most 22 // 10 + 1 + 6 pulses, each of at most
+        1.733 um, are never cut."""
+        self.with_hole(11, 33, 1, (1000, 0, 0))
+        for _ in range(3):
+            self.run_ngc("")
+        _, face = self.operate()
+        self.assertIn("the device doesn't tell any more what was handed out from there on. Up to the half-done segment,"
+                      " or without one up to\nthe end, it is never cut: at most 9 lines, 0.016 mm", face.said)
+
+    def test_another_file(self) -> None:
+        """Nothing is cut off a file that has other text too, or no zeros, or that a session has."""
+        Path("out").touch()
+        self.begin("--follow", "--progress", "progress", "out", "first.toml", "position")
+        self.linked()
+        for text in (b"P 1 0 0 50\n\0\0\0G1 X1\n", b"P 1 0 0 50\nP 1\nP 1 0 0 50\n", b"P 1 0 0 50\n", b"",
+                     b"P 1 0 0 5\nP 2 0 0 50\nP 1 0 0 50\n\0"):
+            Path("out").write_bytes(text)
+            link = SyncedLink("progress", "out")
+            self.assertEqual((link.cut_hole(), Path("out").read_bytes()), (None, text))
+            link.close()
+        self.device()
+        console = Console(ngc(), "mill.dev", "first.toml", "out")
+        self.addCleanup(console.kill)
+        console.status()
+        Path("out").write_bytes(bytes(40))
+        link = SyncedLink("progress", "out")
+        self.addCleanup(link.close)
+        self.assertEqual((link.cut_hole(), Path("out").stat().st_size), (None, 40))
 
 
 class Disk:

@@ -12,7 +12,7 @@ from pathlib import Path
 
 from ngc_tools.files import opened
 from ngc_tools.formats.device import Device, State
-from ngc_tools.formats.out import LONGEST_LINE, Switch, read_line
+from ngc_tools.formats.out import LONGEST_LINE, Switch, end_of_lines, read_line
 from ngc_tools.formats.out_note import OutNote
 from ngc_tools.formats.position import nanometres, rounded
 from ngc_tools.formats.settings import Settings
@@ -59,13 +59,14 @@ class SegmentBeginning:
     """The first `size` bytes of OUT, with the lines `missing` behind what it has, lead to where the open segment
     begins, or to the end of what was handed out if no block is half-done. That is at `steps`. `is_off`: by the record
     the motors aren't on the path of OUT. `is_new`: OUT has none of the lines that were handed out, so it may be another
-    OUT than the session's."""
+    OUT than the session's. `is_told`: the device's log tells all of OUT that may have been lost before that."""
 
     size: int
     steps: Steps
     missing: bytes = b""
     is_off: bool = False
     is_new: bool = False
+    is_told: bool = False
 
 
 @dataclass(frozen=True, slots=True)
@@ -121,10 +122,10 @@ class Finder:
         with opened(out) as file:
             size = os.fstat(file.fileno()).st_size
             text = mmap.mmap(file.fileno(), 0, access=mmap.ACCESS_READ) if size else b""
-            size = text.rfind(b"\n") + 1
-            if kept.size > size:
-                raise CannotTell(f"{out} has {size:,} bytes of whole lines, and the record counts {kept.size:,}: they"
-                                 " don't belong together")
+            if kept.size > text.rfind(b"\n") + 1:
+                raise CannotTell(f"{out} has {text.rfind(bytes([10])) + 1:,} bytes of whole lines, and the record counts"
+                                 f" {kept.size:,}: they don't belong together")
+            size = end_of_lines(text, kept.size)  # behind a hole nothing tells where it leads
             found = self._by_note(text, size, kept) if self.note and self._is_noted(file.fileno()) else None
             return found or self._found(text, size, kept.ends(text[kept.size:size]), str(out))
 
@@ -189,14 +190,14 @@ class Finder:
             stands = _moved(since.start, text[begins:kept.size])
         else:
             stands = _moved_back(since.start, text[kept.size:min(begins, size)] + missing)
-        return SegmentBeginning(begins, since.start, missing, stands != kept.steps, size == 0 and bool(missing))
+        return SegmentBeginning(begins, since.start, missing, stands != kept.steps, size == 0 and bool(missing), True)
 
     def _found(self, text: "bytes | mmap.mmap", size: int, ends: list[_End], out: str) -> SegmentBeginning:
         """OUT leads to one of these, by the record."""
         lines = self._by_log()
         found = self._by_lines(text, size, lines, ends, _longest) if lines is not None else None
         if found is not None:
-            return found
+            return replace(found, is_told=not found.is_new)
         if not self.device.state.half:
             return self._at_end(out, size, ends)
         found = self._by_lines(text, size, self._own(), ends, _shortest)

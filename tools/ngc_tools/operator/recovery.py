@@ -6,6 +6,7 @@ from collections.abc import Iterator
 from contextlib import contextmanager
 from dataclasses import dataclass
 from functools import cached_property
+from math import isqrt
 
 from ngc_tools.failure import Failure
 from ngc_tools.formats.device import Device
@@ -27,6 +28,12 @@ from ngc_tools.player.retrace import slowed
 from ngc_tools.player.way import Way, count_lines, is_switch_between, look, moves, switched_at
 
 Point = tuple[int, int, int]
+HOLE = """\
+{out}: behind its line {line}, at byte {at}, {zeros} bytes of zeros stood in the place of lines, which the disk lost. It
+is cut off there, with {lines} lines behind them that no motor carried out"""
+NEVER = """\
+the device doesn't tell any more what was handed out from there on. Up to the half-done segment, or without one up to
+the end, it is never cut: at most {lines} lines, {mm} mm"""
 _NO_WAY = Way(0, 0, 0, 0, 0, 0, (0, 0, 0))
 
 
@@ -166,6 +173,7 @@ class OutFound:
         found = OutFound(link, looking, Recovery(), [])
         found.look()
         lost = found.recovery.beginning.missing if found.recovery.beginning else b""
+        found._say_hole()
         if lost and not found.recovery.beginning.is_new:
             found.put_back()
             found.said.append(f"{link.out}: {lost.count(10)} lines that were handed out were lost with the power, and"
@@ -174,6 +182,18 @@ class OutFound:
         if not found.is_left():
             link.follow()
         return found
+
+    def _say_hole(self) -> None:
+        """Says what the disk lost in the midst of OUT, and what that costs."""
+        if (hole := self.link.hole) is None:
+            return
+        self.link.hole = None
+        self.said.append(HOLE.format(out=self.link.out, zeros=hole.zeros, at=hole.at, line=hole.line, lines=hole.lines))
+        beginning = self.recovery.beginning
+        if self.looking is None or beginning is None or not beginning.is_told:
+            step_nm = self.looking.settings.step_nm if self.looking else (1_000_000,) * 3
+            most = rounded(isqrt(hole.most_lines ** 2 * sum(step * step for step in step_nm)) + 500)
+            self.said.append(NEVER.format(lines=hole.most_lines, mm=most))
 
     @staticmethod
     def cut_off(ngc: str, settings: str, link: SyncedLink, device: Device | None) -> "OutFound":
@@ -185,11 +205,11 @@ class OutFound:
         found.cut(size)
         return found
 
-    def _ends_there(self, report: Report, size: int) -> None:
+    def _ends_there(self, report: Report, size: int, is_told: bool = False) -> None:
         """The motors are where OUT leads, or is to."""
         lines = report.carried
         x, y, z = map(nanometres, report.at.split())
-        end = SegmentBeginning(size, (0, 0, 0))
+        end = SegmentBeginning(size, (0, 0, 0), is_told=is_told)
         self.recovery = Recovery(lines, size, (x, y, z), report.outputs, lines, end, (x, y, z), (x, y, z), _NO_WAY)
 
     def look(self) -> None:
@@ -203,14 +223,14 @@ class OutFound:
             return
         may_be_through = self.looking.may_be_through(size == self.link.size(), (x, y, z))
         if may_be_through and self.looking.is_through(self.link.file, size):
-            self._ends_there(report, size)
+            self._ends_there(report, size, True)
             return
         path = self.link.leads().split()
         path_nm = (nanometres(path[0]), nanometres(path[1]), nanometres(path[2])) if path else None
         self.recovery = self.looking.look(self.link.out, self.link.file, lines, size, (x, y, z), report.outputs,
                                           path_nm)
         if may_be_through and not self._has_lost(size):
-            self._ends_there(report, size)
+            self._ends_there(report, size, self.recovery.beginning is not None and self.recovery.beginning.is_told)
 
     def _has_lost(self, size: int) -> bool:
         """Whether lines are lost, and not only missing since OUT is another one than that of last time."""

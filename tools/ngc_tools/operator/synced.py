@@ -2,14 +2,16 @@
 import ctypes
 import errno
 import fcntl
+import mmap
 import os
 import re
 import time
 from contextlib import suppress
+from dataclasses import dataclass
 from pathlib import Path
 
 from ngc_tools.formats.device import Device, NoDevice
-from ngc_tools.formats.out import LONGEST_LINE, BadLine, read_line
+from ngc_tools.formats.out import LONGEST_LINE, BadLine, end_of_lines, read_line
 from ngc_tools.formats.out_note import NoteFile, OutNote
 from ngc_tools.ngc.console import Status
 from ngc_tools.player.progress import Link, NoAnswer, Report
@@ -23,7 +25,24 @@ UNSYNCED = """\
 {out}: it can't be synced: {why}. What was handed out last may be lost, though it can be read, and no motor makes it \
 before it is on the disk. Once the disk is well, quit, and start this again: it writes OUT again"""
 _KEEP_SIZE, _PUNCH_HOLE = 1, 2
+_OF_OUT = frozenset(b"PDS0123456789.- \n\0")  # bytes of lines, and zeros
 _PART = re.compile(rb"[PDS](?: [-0-9. ]{0,198})?")  # of a line of OUT
+
+
+@dataclass(frozen=True, slots=True)
+class Hole:
+    """Behind the first `at` bytes of OUT, its line `line`, zeros stood in the place of lines, `zeros` bytes of them. OUT
+    is cut off there, with `lines` lines that stood behind."""
+
+    at: int
+    line: int
+    zeros: int
+    lines: int
+
+    @property
+    def most_lines(self) -> int:
+        """How many pulses may have stood there, as short as they can be."""
+        return self.zeros // len("P 0 0 1 9\n") + 1 + self.lines
 
 
 class NotSynced(NoAnswer):
@@ -44,6 +63,7 @@ class SyncedLink(Link):
         self._epoch = 0  # of the device, as it was noted last
         self.file = os.open(out, os.O_RDWR | os.O_CLOEXEC)
         self.is_following = False
+        self.hole: Hole | None = None  # what was cut off as the session began
         self.failed = ""  # why OUT can't be synced: from then on nothing more of it counts as on the disk
         self.told = -1  # bytes, of which the player knows that they are on the disk
         self._passed = -1  # the bytes of OUT as the status was looked at last ..
@@ -171,10 +191,7 @@ class SyncedLink(Link):
     def cut_part(self) -> int:
         """Cuts a part of a line off the end, if no session has OUT, and it is one; returns how many bytes that had.
         Raises OSError."""
-        try:
-            fcntl.flock(self.file, fcntl.LOCK_EX | fcntl.LOCK_NB)
-            fcntl.flock(self.file, fcntl.LOCK_UN)
-        except BlockingIOError:
+        if self._is_held():
             return 0
         size = self.size()
         begin = max(0, size - 2 * LONGEST_LINE)
@@ -183,6 +200,33 @@ class SyncedLink(Link):
             return 0
         self.cut(size - len(part))
         return len(part)
+
+    def cut_hole(self) -> Hole | None:
+        """Cuts OUT off where zeros stand in the place of lines, behind what is carried out, if no session has OUT; None
+        where none do, or it has other text too. What an append lost in its midst tells nothing of where the lines
+        behind it lead. Raises NoAnswer, OSError."""
+        line, begin = self.kept()
+        size = self.size()
+        if self._is_held() or begin >= size:
+            return None
+        with mmap.mmap(self.file, 0, access=mmap.ACCESS_READ) as text:
+            at = end_of_lines(text, begin)
+            rest = text[at:]
+            zeros = rest.count(0)
+            if not zeros or set(rest) - _OF_OUT or 0 not in rest[:2 * LONGEST_LINE].partition(b"\n")[0]:
+                return None
+            line += text[begin:at].count(b"\n")
+        self.cut(at)
+        return Hole(at, line, zeros, rest.count(b"\n"))
+
+    def _is_held(self) -> bool:
+        """Whether a session has OUT."""
+        try:
+            fcntl.flock(self.file, fcntl.LOCK_EX | fcntl.LOCK_NB)
+            fcntl.flock(self.file, fcntl.LOCK_UN)
+        except BlockingIOError:
+            return True
+        return False
 
     def cut(self, size: int) -> None:
         """Cuts off what stands behind so many bytes, and syncs that. Raises OSError."""
