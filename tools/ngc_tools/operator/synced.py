@@ -10,6 +10,7 @@ from contextlib import suppress
 from dataclasses import dataclass
 from pathlib import Path
 
+from ngc_tools.files import naming
 from ngc_tools.formats.device import Device, NoDevice
 from ngc_tools.formats.out import LONGEST_LINE, BadLine, end_of_lines, read_line
 from ngc_tools.formats.out_note import NoteFile, OutNote
@@ -151,13 +152,14 @@ class SyncedLink(Link):
 
     def write_again(self, begin: int) -> None:
         """Writes what OUT has behind so many bytes again, as it is read, and syncs it: a session before may have failed
-        to. Raises OSError."""
+        to. Raises OSError with the path."""
         end = self.size()
         if begin >= end:
             return
-        while begin < end and (piece := os.pread(self.file, min(_PIECE, end - begin), begin)):
-            begin += os.pwrite(self.file, piece, begin)
-        os.fsync(self.file)
+        with naming(self.out):
+            while begin < end and (piece := os.pread(self.file, min(_PIECE, end - begin), begin)):
+                begin += os.pwrite(self.file, piece, begin)
+            os.fsync(self.file)
 
     def noted(self) -> OutNote | None:
         """What was noted last of OUT; None where nothing was."""
@@ -234,12 +236,14 @@ class SyncedLink(Link):
         os.fsync(self.file)
 
     def append(self, text: bytes) -> None:
-        """Puts lines at the end, and syncs them. Raises OSError."""
+        """Puts lines at the end, and syncs them. Raises OSError with the path, as on a full disk: what is there then is
+        whole but for its last line."""
         end = self.size()
-        while text:
-            done = os.pwrite(self.file, text, end)
-            end, text = end + done, text[done:]
-        os.fsync(self.file)
+        with naming(self.out):
+            while text:
+                done = os.pwrite(self.file, text, end)
+                end, text = end + done, text[done:]
+            os.fsync(self.file)
 
     def passed(self, status: Status) -> None:
         """Looks how far the work is, after each piece of it. Room before the open segment is given back to the disk

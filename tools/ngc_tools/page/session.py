@@ -503,8 +503,9 @@ class PageSession:
         self.over.set()
 
     def _give_up(self) -> None:
-        """Ends `ngc` where nothing more can be done with it."""
-        self.operator.ending.tell_player()
+        """Ends `ngc` where nothing more can be done with it. A player that is there goes on with the next session."""
+        with suppress(NoAnswer):
+            self.operator.following.let_go()
         self.ended = f"ngc ended with status {self.operator.console.quit()}"
 
     def _tell_end(self, ended: Ended) -> None:
