@@ -58,10 +58,14 @@ static bool are_slots(const struct outputs *outputs) {
     return outputs->selected <= SLOTS && outputs->slot <= SLOTS;
 }
 
+#define ZEROS "; zeros stand where the disk lost what was written, or its room was given back: recover in ngc-operate" \
+              " says what it was"
+
 static bool refuse(const char *text, size_t size, struct cause *why) {
     char quoted[QUOTED];
     quote(quoted, sizeof quoted, text, size);
-    return because(why, "not a line of OUT: %s", quoted);
+    const char *lost = memchr(text, '\0', size) != NULL ? ZEROS : "";
+    return because(why, "not a line of OUT: %s%s", quoted, lost);
 }
 
 static bool read_timed(const char *text, size_t size, uint64_t least_us, struct line *line, struct cause *why) {

@@ -37,8 +37,6 @@ class Player(Goes):
         self.lines, self.size = begun.lines, begun.size
         self.is_off = begun.is_off
         self.path_nm = begun.path_nm
-        if begun.size and Position(position.step_nm, begun.at_nm).steps != position.steps:
-            self._leave_path(begun.at_nm)
         self.screws = self.backlash.known(begun.screws)
         self.is_untold = False  # the motors moved without lines, and nobody said since that `ngc` knows where they are
         self.counts = Counts()

@@ -263,7 +263,10 @@ def _remove_stale(path: str) -> None:
 
 
 class Link:
-    """The other end: asks a player. What starts motors or a spindle is sent by `starts`."""
+    """The other end: asks a player. What starts motors or a spindle is sent by `starts`. `failed` says why nothing more
+    may be handed out in this session."""
+
+    failed = ""
 
     def __init__(self, path: str | Path, patience_s: float = 5.0) -> None:
         """Raises NoAnswer if no player listens there. A question waits `patience_s` seconds for its answer."""
