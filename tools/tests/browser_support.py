@@ -106,8 +106,9 @@ class Browser:
         self.goes_on()
 
     def goes_on(self) -> None:
-        """A job goes on where the page is lost, as it is for a while if others want the processors."""
-        self.js("import('./link.js').then(link => link.post('loss', { goes: true })).then(() => true)")
+        """A job goes on where the page is lost, as it is for a while if others want the processors. What takes too long
+        for that reason is asked for again."""
+        self.wait("import('./link.js').then(link => link.post('loss', { goes: true })).then(() => true)")
 
     def fill(self, entry: str, text: str) -> None:
         """Types into an entry, in the place of what stands there, once it is one that isn't dead."""
