@@ -131,6 +131,9 @@ bool errand_take(struct player *player, const struct wish *wish, struct cause *w
         errand.bytes = wish->bytes;
         errand.lines = is_back ? player->lines - count : player->lines + count;
     }
+    if (wish->is_by_legs) {
+        player_leave_path(player);
+    }
     errand.legs_lines = errand.lines < player->lines ? errand.lines : player->lines;
     errand.legs_bytes = errand.bytes < player->bytes ? errand.bytes : player->bytes;
     player->errand = errand;

@@ -5,6 +5,7 @@
 #include <string.h>
 
 #include "scan.h"
+#include "schedule.h"
 
 static bool scan_step(struct scan *scan, int *step) {
     if (scan_word(scan, " -1")) {
@@ -58,10 +59,14 @@ static bool are_slots(const struct outputs *outputs) {
     return outputs->selected <= SLOTS && outputs->slot <= SLOTS;
 }
 
+#define ZEROS "; zeros stand where the disk lost what was written, or its room was given back: recover in ngc-operate" \
+              " says what it was"
+
 static bool refuse(const char *text, size_t size, struct cause *why) {
     char quoted[QUOTED];
     quote(quoted, sizeof quoted, text, size);
-    return because(why, "not a line of OUT: %s", quoted);
+    const char *lost = memchr(text, '\0', size) != NULL ? ZEROS : "";
+    return because(why, "not a line of OUT: %s%s", quoted, lost);
 }
 
 static bool read_timed(const char *text, size_t size, uint64_t least_us, struct line *line, struct cause *why) {
@@ -100,6 +105,13 @@ bool line_read(const char *text, size_t size, uint64_t least_us, struct line *li
         return because(why, "a slot above %d: %.*s", SLOTS, (int)size, text);
     }
     return true;
+}
+
+bool line_fits_clock(const struct line *line, struct cause *why) {
+    const uint64_t most_us = SCHEDULE_MOST_NS / 1000;
+    return line->us <= most_us
+        || because(why, "a time of %" PRIu64 " microseconds, and the player's clock has room for 73 years, %" PRIu64,
+                   line->us, most_us);
 }
 
 bool outputs_read(const char *text, size_t size, struct outputs *outputs) {

@@ -73,13 +73,12 @@ static bool read_newest(struct play *play) {
     if (!take_line(play, newest.text, &newest.size)) {
         return false;
     }
-    size_t length = newest.size - (newest.text[newest.size - 1] == '\n');
     newest_at = schedule_now();
     play->left_at = 0;
     play->counts.dry += is_dry;
     is_on_path = is_on_path && !is_dry; /* counted once */
     is_dry = false;
-    is_bad = !line_read(newest.text, length, play->least_us, &newest.line, &bad);
+    is_bad = !read_taken(play, newest.text, newest.size, &newest.line, &bad);
     look_at_screws(play);
     return !is_bad;
 }

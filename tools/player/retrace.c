@@ -58,8 +58,7 @@ enum end make_move(struct play *play, const struct move *move, uint64_t lasts_ns
     if (move->is_done) {
         backlash_take(&player->backlash, player->screws, &move->line, move->is_extra);
     }
-    player->lines = move->lines;
-    player->bytes = move->bytes;
+    player_count(player, move->lines, move->bytes);
     player_unlock(player);
     return AT_OUTS_END;
 }
@@ -251,7 +250,7 @@ static void arrive(struct player *player) {
     if (errand->wish.is_by_legs) {
         player->lines = errand->legs_lines;
         player->bytes = errand->legs_bytes;
-        player->is_off = false;
+        player_be_on_path(player);
     }
     atomic_store(&player->is_untold, false); /* OUT's lines lead on from there */
     if (!player->source.is_pipe) {

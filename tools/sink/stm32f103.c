@@ -81,16 +81,20 @@ void sink_port_timer(uint32_t ticks) {
     TIM2_DIER = COMPARED;
 }
 
-/* A word that is due already, as after a change of direction, is made at once. */
+static bool is_due(void) {
+    return (uint16_t)(due - TIM2_CNT - 1) >= 0x8000;
+}
+
+/* A word that is due already, as after a change of direction, is made at once. The counter says whether one is, not the
+ * interrupt: a match while this works leaves one pending even where its word is made here, and its flag cleared. */
 static void timer_handler(void) {
     uint32_t after = 1;
-    bool is_past = (TIM2_DIER & COMPARED) != 0;
-    while (after > 0 && is_past) {
-        TIM2_SR = (uint32_t)~COMPARED;
+    TIM2_SR = (uint32_t)~COMPARED;
+    while (after > 0 && (TIM2_DIER & COMPARED) != 0 && is_due()) {
         after = sink_make(&sink);
         due = (uint16_t)(due + after);
         TIM2_CCR1 = due;
-        is_past = (uint16_t)(due - TIM2_CNT - 1) >= 0x8000;
+        TIM2_SR = (uint32_t)~COMPARED;
     }
     TIM2_DIER = after > 0 ? TIM2_DIER : 0;
 }
@@ -123,9 +127,10 @@ void sink_port_pins(uint8_t steps, uint8_t down, const struct sink_outputs *outp
     if (steps == 0) {
         return;
     }
-    if (down != directions) {
-        directions = down;
-        A_BSRR = spread(down) << 1 | spread(7) << 17;
+    uint8_t wanted = (uint8_t)((directions & ~steps) | (down & steps)); /* an axis that doesn't step keeps its own */
+    if (wanted != directions) {
+        directions = wanted;
+        A_BSRR = spread(wanted) << 1 | spread(7) << 17;
         pause_ticks(DIRECTION_TICKS);
     }
     A_BSRR = spread(steps);

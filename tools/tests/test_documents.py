@@ -374,25 +374,25 @@ class Readme(Documents):
         shutil.copy("examples/mill.ngc", "mill.ngc")
         self.text, self.tried = self.chapter("../README.md", "")
         self.sides = [[(line[:self.WIDTH].strip(), line[self.WIDTH:]) for line in block.splitlines()]
-                      for block in blocks(self.text)[:2]]
+                      for block in blocks(self.text)[:3:2]]
 
     def test_dry_run(self) -> None:
         """The program, whose comment is cut short, and the text of its dry run."""
         command = "ngc dry mill.ngc --settings mill.toml"
         self.assertIn(f"`{command}`", self.text)
-        comment, *lines = (line for line, _ in self.sides[0] if line)
+        comment, *lines = (line for line, _ in self.sides[1] if line)
         whole, *program = Path("mill.ngc").read_text().splitlines()
         self.assertTrue(whole.startswith(comment.removesuffix("..)")))
         self.assertEqual(lines, program)
-        self.assertEqual([text for _, text in self.sides[0]], self.shell(command).splitlines())
+        self.assertEqual([text for _, text in self.sides[1]], self.shell(command).splitlines())
 
     def test_resume(self) -> None:
         """The answers to what is typed, after the tutorial's loss of power; then the program goes on to its end."""
         for title in CHAPTERS["TUTORIAL.md"][1:3]:
             for command, _ in self.chapter("TUTORIAL.md", title)[1]:
                 self.shell(command if "ngc-player" not in command else "true")
-        typed = "".join(line + "\n" for line, _ in self.sides[1] if line)
-        answers = [re.split(" {2,}", text)[0] for _, text in self.sides[1]]
+        typed = "".join(line + "\n" for line, _ in self.sides[0] if line)
+        answers = [re.split(" {2,}", text)[0] for _, text in self.sides[0]]
         said = self.shell("ngc run mill.dev mill.toml out-2", text=typed).splitlines()
         self.assertEqual(said[:len(answers)], answers)
         self.assertEqual(said[-2], "idle")

@@ -421,11 +421,11 @@ class Bytes(SinkTest):
         """The frame of docs/SINK.md, byte by byte."""
         text = (TOOLS.parent / "docs" / "SINK.md").read_text()
         block = text.partition("as it goes over the line:\n\n")[2].partition("\n\n")[0]
-        frame = words_frame(0x00010001, 0, steep(320, 0x01), steep(400, 0x4a))
+        frame = words_frame(0x00010001, 0, steep(320, 0x01), steep(400, 0x52))
         self.assertEqual(bytes.fromhex(block), frame)
         self.sink.ask("boot 1")
         events, _ = self.sink.run(10, begin_frame(0x00010000) + frame)
-        self.assertEqual([event[1:] for event in events if not is_off(event)], [(1, 0), (2, 1)])
+        self.assertEqual([event[1:] for event in events if not is_off(event)], [(1, 0), (2, 2)])
 
     def test_times(self) -> None:
         """Words are made in their times, and at their end it stands; an S line's outputs come in their place."""
@@ -779,6 +779,19 @@ class Sent(SinkTest):
             session.step(5, [])
         self.assertEqual(session.ends[1:], ["the sink's chip started again"])
 
+    def test_count_lost(self) -> None:
+        """A chip that doesn't keep the number of its boot starts again, with an earlier session: the sender says so."""
+        for boot in (0, 1):
+            self.boot()
+            session = self.linked()
+            while len(session.made) < 1:
+                session.step(1, [(MS, 1)] * 400)
+            session.boot(boot)
+            until = session.now + 200
+            while not session.ends and session.now < until:
+                session.step(1, [(MS, 1)] * 400)
+            self.assertEqual(session.ends, ["the sink's chip started again"], boot)
+
     def linked(self) -> Session:
         """A session that has begun."""
         session, _ = self.session(1)
@@ -847,8 +860,11 @@ class Sent(SinkTest):
         self.assertEqual(heard(396, 390, 2)[1][:2], [396 & 255, 444 & 255])
         self.assertEqual(heard(401, 30, 2), (390, []))
         self.assertEqual(heard(5000, 4999, 2), (390, []))
-        self.sender.step(session.now, framed(struct.pack(ANSWER, 4, self.sender.session - 1, *[0] * 11)))
-        self.assertEqual(self.sender.state, LINKED)
+        of_before = framed(struct.pack(ANSWER, 4, self.sender.session - 1, *[0] * 11))
+        for _ in range(3):
+            self.sender.step(session.now, of_before * 15)
+            self.assertEqual(self.sender.state, LINKED)
+            heard(401, 390, 2)
 
     def test_any_boot(self) -> None:
         """A chip may have started any number of times."""

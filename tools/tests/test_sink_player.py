@@ -271,8 +271,8 @@ class Stops(InC, OverSink, unittest.TestCase):
         sink.tell("boot 0")
         sink.tell("tempo 0")
         _, said = child.communicate(timeout=PATIENCE_S)
-        self.assertIn("no answer from the sink for two seconds", said)
-        self.assertIn("stopped deaf", record())
+        self.assertIn("the sink's chip started again", said)
+        self.assertIn("stopped reset", record())
         self.check_lost(sink)
 
     def test_power_lost(self) -> None:

@@ -19,6 +19,7 @@ mod command_line;
 mod format;
 mod from_device;
 mod grow;
+pub mod laws;
 mod operating;
 mod pacing;
 mod program;

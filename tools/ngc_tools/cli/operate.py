@@ -119,8 +119,9 @@ def metered(args: argparse.Namespace) -> Meter | None:
         raise CannotBegin(f"{args.player}: that player reads {report.out}, not {args.out}")
     if os.path.isfile(args.out):
         meter.link.close()
-        meter.link = link = SyncedLink(args.player, args.out)
+        meter.link = link = SyncedLink(args.player, args.out, device=args.device)
         meter.parts, meter.at_once = SYNCED_PARTS, SYNCED_AT_ONCE
+        link.hole = link.cut_hole()
         if part := link.cut_part():
             print(f"{args.out}: a part of a line at its end is cut off: {part} bytes", file=sys.stderr)
     return meter

@@ -138,6 +138,7 @@ class Operator:
         if refused(session, reply, "load"):
             return False
         session.program, session.told = Program(text), 0
+        session.note_out(self.console.status())
         self.face.say(f"{reply}: {name}, {len(text):,} bytes, {session.program.count} lines")
         return True
 
@@ -356,7 +357,7 @@ class Operator:
             self.face.say(str(error), WARNING)
             return
         if is_there and status.half != "none":
-            self._take_up(status, True)
+            self._take_up(self.console.status(), True)
 
     def _drop(self, _: Typed) -> None:
         try:
@@ -503,6 +504,7 @@ class Operator:
         self.session.own = ""
         if ended == SINGLE:
             ended = self.console.ask("hold")[0]
+        self.session.note_out(self.console.status())
         return ended
 
     def _say_stand(self, ended: str) -> None:

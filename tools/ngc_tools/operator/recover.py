@@ -28,6 +28,9 @@ lines stand in OUT that no motor carried out, behind line {line}: recover goes o
 off, and then nothing makes them any more"""
 DROPS = """\
 {count} lines are cut off OUT, behind its line {line}, and nothing makes them any more. yes cuts them off: """
+LOST = """\
+{out} has none of the {count} lines that were handed out last, and no motor carried them out if it is the OUT of that
+session: recover asks, and puts them back. run goes on without them"""
 THERE = "the motors are where what was handed out leads: run goes on"
 NOT_THERE = "what was handed out and not carried out is cut off; reference player tells ngc where the motors are"
 ON_WAY = """\
@@ -75,8 +78,12 @@ class Recover:
             return
         for said in self.found.said:
             self.session.face.say(said, WARNING)
+        self.session.noting(self.found.note)
+        beginning = self.found.recovery.beginning
         if self.found.is_left():
             self.session.face.say(LEFT.format(line=self.found.recovery.lines), WARNING)
+        elif status.half == "none" and beginning and beginning.is_new:
+            self.session.face.say(LOST.format(out=self.found.link.out, count=beginning.missing.count(b"\n")), WARNING)
         elif status.half != "none":
             self.session.face.say(HALF, WARNING)
 

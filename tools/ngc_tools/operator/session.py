@@ -1,8 +1,10 @@
 """What the parts of a person's session share: `ngc`, its device, the player, the face, and what is under way."""
+import os
 import re
 from collections.abc import Callable
 from contextlib import suppress
 from dataclasses import dataclass, field
+from functools import partial
 
 from ngc_tools.formats.device import Device, NoDevice
 from ngc_tools.formats.lines import Program
@@ -21,7 +23,18 @@ came with lines in hand, so that no more line of the session is carried out, and
 """
 DOOR, SPINDLE, OTHER = "door", "spindle", "other"
 """What holds motors that nobody told to hold from here."""
+NOT_NOTED = "what OUT has isn't noted beside the device, by which lines are told that are lost with the power"
+_LEAST_ROOM = 4096  # bytes: a page of a file
 _MACHINE_S = 0.3  # a player that tells its inputs does so in that time; others are deaf for that question
+
+
+def _is_full(path: str) -> bool:
+    """Whether the disk of a file has no room for more of it."""
+    try:
+        found = os.statvfs(path)
+    except OSError:
+        return False
+    return found.f_bavail * found.f_frsize < _LEAST_ROOM
 
 
 def place(status: Status) -> str:
@@ -83,10 +96,25 @@ class Session:
         return report
 
     def passed(self, status: Status) -> None:
-        """Gives room of OUT that nobody needs any more back to the disk."""
+        """Gives room of OUT that nobody needs any more back to the disk, and notes what OUT has where the device was
+        written anew."""
         if self.meter and isinstance(self.meter.link, SyncedLink):
             with suppress(NoAnswer):  # the next question says it
                 self.meter.link.passed(status)
+            if status.half == "none":
+                self.noting(partial(self.meter.link.note_end, True))
+
+    def note_out(self, status: Status) -> None:
+        """Notes what OUT, a file, has where no block is under way."""
+        if status.half == "none" and self.meter and isinstance(self.meter.link, SyncedLink):
+            self.noting(self.meter.link.note_end)
+
+    def noting(self, note: Callable[[], None]) -> None:
+        """Has it noted what OUT has; says once why that can't be."""
+        try:
+            note()
+        except OSError as error:
+            self.face.once(f"{NOT_NOTED}: {error}")
 
     def take(self, report: Report) -> None:
         """Takes what the player says."""
@@ -157,8 +185,15 @@ class Session:
         if status is not None and re.match(r"refused [EBCYX]\d", reply):
             where = f"{self.line(status)}\n  "
             cause = self._cause(reply, status)
-        self.face.say(where + explained(reply, cause), REFUSED)
+        self.face.say(where + explained(reply, cause or self.full_disk(reply)), REFUSED)
         return True
+
+    def full_disk(self, reply: str) -> str:
+        """Which disk has no room, if that may be why the device or OUT failed; nothing else."""
+        full = [f"{name}, {path}" for name, path in (("OUT", self.console.out), ("the device", self.console.device))
+                if reply.startswith("refused J1") and _is_full(path)]
+        return f"no room is left on the disk of {' and of '.join(full)}. Make some, and start again: nothing is lost" \
+            if full else ""
 
     def _cause(self, reply: str, status: Status) -> str:
         """Where the program's line at the place leaves the travel, if that is why it is refused."""

@@ -55,6 +55,8 @@ class Standing:
             return "Ended", "fail", session.ended
         if self.status.does == "broken":
             return "Device failed", "fail", "Remove the cause, then start again. What is stored stays"
+        if session.stand.gone and session.operator.session.meter.link.failed:
+            return "OUT failed", "fail", "Nothing more is handed out. Once the disk is well, Start ngc again"
         if session.stand.gone:
             return "Player gone", "fail", "Nothing more is handed out. Start the player again"
         if report and report.word == ALARM and not self.does.startswith("home "):

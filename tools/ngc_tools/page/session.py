@@ -545,8 +545,9 @@ class PageSession:
         self.over.set()
 
     def _give_up(self) -> None:
-        """Ends `ngc` where nothing more can be done with it."""
-        self.operator.ending.tell_player()
+        """Ends `ngc` where nothing more can be done with it. A player that is there goes on with the next session."""
+        with suppress(NoAnswer):
+            self.operator.following.let_go()
         self.ended = f"ngc ended with status {self.operator.console.quit()}"
 
     def _tell_end(self, ended: Ended) -> None:
@@ -580,6 +581,7 @@ class PageSession:
                 operator.session.take(report)
         except NoAnswer as error:
             status, report, gone = operator.console.status(), self.face.report, str(error)
+        gone = gone or (operator.session.meter.link.failed if operator.session.meter else "")
         operator.session.see_machine(machine)
         self.kept.at(status)
         self.stand = Stand(status, report, gone, recovery_of(operator.recover.found), *self._typed(), machine)

@@ -36,6 +36,7 @@ class Player(Goes):
         self.out = begun.out
         self.lines, self.size = begun.lines, begun.size
         self.is_off = begun.is_off
+        self.path_nm = begun.path_nm
         self.screws = self.backlash.known(begun.screws)
         self.is_untold = False  # the motors moved without lines, and nobody said since that `ngc` knows where they are
         self.counts = Counts()
@@ -87,8 +88,9 @@ class Player(Goes):
         """What is carried out now, for the record."""
         with self._lock:
             lines, size, outputs, at_nm, why = self.lines, self.size, self.outputs, self.position.nm, self.stopped_by
-            is_off, screws = self.is_off, as_text(self.screws)
-        return Record(self.out, lines, size, outputs, at_nm, self.source.mark(size), why, is_off=is_off, screws=screws)
+            is_off, screws, path_nm = self.is_off, as_text(self.screws), self.path_nm
+        return Record(self.out, lines, size, outputs, at_nm, self.source.mark(size), why, is_off=is_off, screws=screws,
+                      path_nm=path_nm)
 
     def close(self) -> None:
         """Lets go of what it has of the system."""
@@ -122,6 +124,7 @@ class Player(Goes):
             if not is_behind and not self.errand:
                 told = zip(self.position.steps, position.steps, self.screws)
                 self.screws = [screw if was == now else UNKNOWN for was, now, screw in told]
+                self._leave_path(self.position.nm)
                 self.position, self.is_untold = position, False
 
     def synced(self, size: int) -> None:
@@ -131,10 +134,9 @@ class Player(Goes):
                 self.source.limit = size
                 self._take_all()
 
-    def kept(self) -> tuple[int, int, int]:
-        """How many lines and bytes are carried out by the record that is on the disk, and the age in it."""
-        record = self.keeper.kept if self.keeper else None
-        return (record.lines, record.size, record.age_ms) if record else (0, 0, 0)
+    def kept(self) -> Record:
+        """The record that is on the disk."""
+        return self.keeper.kept if self.keeper and self.keeper.kept else Record(self.out)
 
     def go_where(self, text: bytes) -> None:
         """Goes on, back, by legs, or switches outputs, if it stands still with nothing in hand."""
@@ -254,6 +256,7 @@ class Player(Goes):
             with self._lock:
                 text = self.source.next()
                 came = text is None and self.source.read()
+                self.path_nm = self.path_nm if text is None else None  # it leads on from where the motors are
             if text is not None:
                 self._left_ns, self._stays = 0, False
                 return text
@@ -379,7 +382,7 @@ class Player(Goes):
             self.backlash.take(self.screws, line)
             self.lines += 1
             self.size += size
-            self.is_off = False
+            self.is_off, self.path_nm = False, None
 
     def _wait_until(self, due: int) -> None:
         """Waits until a moment of the monotonic clock."""

@@ -30,7 +30,8 @@
     then on, so what the motors were given is on the disk.
 `kept N`
     is answered by `kept N lines L bytes B age MS`: so many lines and bytes are carried out by the record on the disk,
-    and it was so old at most, in milliseconds, as the next one came; 0 where that isn't known.
+    and it was so old at most, in milliseconds, as the next one came; 0 where that isn't known. `path X Y Z` behind is
+    where these lines lead, where the motors aren't there and it is known.
 `along BYTES`, `along BYTES S ..`
     The motors go to where the first BYTES bytes of OUT, a file, lead: on along its lines, or back. It is taken while
     the player stands still and nothing is in hand. What stands behind, as outputs, is switched on first. Until they are
@@ -69,6 +70,8 @@ from pathlib import Path
 from ngc_tools.failure import Failure
 from ngc_tools.files import naming
 from ngc_tools.formats.out import OFF, BadLine, Switch, read_line
+from ngc_tools.formats.position import millimetres
+from ngc_tools.formats.record import Record
 from ngc_tools.hold_level import Starts, start_at_once
 
 QUESTION = re.compile(rb"progress [0-9]{1,20}")
@@ -78,7 +81,7 @@ PERCENT = re.compile(rb"percent ([1-9][0-9]{0,2})")
 SPINDLE = re.compile(rb"spindle percent ([1-9][0-9]{0,2})")
 _OTHER = "it is of another version: take a player and a console of one version"
 _LONGEST = 192  # bytes of a datagram to a player
-_KEPT = re.compile(r"lines (\d+) bytes (\d+) age (\d+)")
+_KEPT = re.compile(r"lines (\d+) bytes (\d+) age (\d+)(?: path (\S+ \S+ \S+))?")
 _WORDS = "works|held|moves|moved|alarm|broken|waits spindle"
 _REPORT = re.compile(rf"carried (\d+) received (\d+) ({_WORDS}|waits tool (\d{{1,3}})) reference (\S+ \S+ \S+)"
                      r" outputs (S \d \S+ \d \d \d+ \d+)(?: again (S \d \S+ \d \d \d+ \d+))? percent (\d+)"
@@ -185,6 +188,12 @@ def _switch(text: str) -> Switch | None:
     return line if isinstance(line, Switch) else None
 
 
+def kept_text(record: Record) -> bytes:
+    """What is answered of the record on the disk."""
+    path = f" path {' '.join(map(millimetres, record.path_nm))}" if record.path_nm not in (None, record.at_nm) else ""
+    return f"lines {record.lines} bytes {record.size} age {record.age_ms}{path}".encode()
+
+
 class Listener:
     """The player's end of the socket, which its own user alone may use."""
 
@@ -254,7 +263,10 @@ def _remove_stale(path: str) -> None:
 
 
 class Link:
-    """The other end: asks a player. What starts motors or a spindle is sent by `starts`."""
+    """The other end: asks a player. What starts motors or a spindle is sent by `starts`. `failed` says why nothing more
+    may be handed out in this session."""
+
+    failed = ""
 
     def __init__(self, path: str | Path, patience_s: float = 5.0) -> None:
         """Raises NoAnswer if no player listens there. A question waits `patience_s` seconds for its answer."""
@@ -344,6 +356,11 @@ class Link:
     def age_ms(self) -> int:
         """How old that record ever was as the next one came; 0 where that isn't known. Raises NoAnswer."""
         return int(self._kept()[3])
+
+    def leads(self) -> str:
+        """Where the lines lead that the record counts, as `7.21 0 0`, where the motors aren't there and it is known;
+        else nothing. Raises NoAnswer."""
+        return self._kept()[4] or ""
 
     def _kept(self) -> re.Match[str]:
         self.count += 1
