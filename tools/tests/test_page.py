@@ -705,6 +705,10 @@ class PowerOfFile(Served):
         self.assertIn("by legs then: straight up, over, and down", state["question"]["text"])
         self.assertEqual((state["motors"], state["recover"]["way"], state["past_mm"]), (measured, None, ""))
         self.assertIn("by the record the motors aren't on the path of OUT", page.said())
+        page.agree(state, "-5")
+        state = page.asked()  # a height that isn't taken is asked for again, with why
+        self.assertIn("Z -5 lies below Z 0.000000: legs go up first", state["question"]["text"])
+        self.assertEqual(state["motors"], measured)
 
     def look(self, page: Page) -> dict:
         """Agrees to all that is asked, up to the look at the machine; the state then, or where nothing more is asked.
