@@ -8,28 +8,22 @@ import subprocess
 import sys
 import tempfile
 import unittest
-import zlib
 from collections.abc import Iterator
 from pathlib import Path
-from typing import NamedTuple
 
 sys.path.insert(0, str(Path(__file__).resolve().parent))
 
 from player_support import SANITIZERS, built, has_sanitizers  # noqa: E402
 from session_support import TOOLS  # noqa: E402
+from sink_frames import (ANSWER, ASKED, BROKEN, DEAD, INPUT, LEAST, LINE, LINE_SWITCH, MARK, MS, NEW,  # noqa: E402
+                         NOTHING, OUTPUT, REST, RUNS, SILENT, STANDS, STEEP, STOPPED, SWITCH, TOKEN, TOUCHED, WORD,
+                         Answer, answers, begin_frame, framed, slope_of, steep, stop_frame, switches, unstuffed, word,
+                         words_frame)
+from sink_support import bench  # noqa: E402
 
 SINK = TOOLS / "sink"
-MS = 8000  # ticks
-LEAST = 40
-TOKEN = 4_000_000_000
-MARK = 2**60 + 3
 NO_MARK = 2**64 - 1
-LINE, LINE_SWITCH = 0x80 << 24, 0x02
-REST, OUTPUT, SWITCH = 0x40, 0x80, 0x01
 FIFO = 2048
-STEEP = 100  # the byte of a slope of 49,152: from 20,000 words a second it takes 559 to stop
-NEW, STANDS, RUNS, STOPPED, BROKEN = range(5)
-NOTHING, SILENT, WORD, ASKED, TOUCHED, INPUT, DEAD = range(7)
 SEEKS, BEGINS, LINKED, ENDED, RESET = range(5)
 TAKEN, LATER, REFUSED = range(3)
 WINDOW = 20 * MS
@@ -39,86 +33,6 @@ RUN_COUNT = int(os.environ.get("NGC_SINK_RUNS", "40"))
 def program(*parts: Path) -> str:
     """The path of a program of tools/sink, with the sanitizers where there are any."""
     return built("-std=c99", *(SANITIZERS if has_sanitizers() else ("-O2",)), "-I", SINK, sources=parts)
-
-
-def stuffed(body: bytes) -> bytes:
-    """A body as it goes over the line: each zero replaced by how far it is to the next, and one at the end."""
-    return b"".join(bytes([len(run) + 1]) + run for run in body.split(b"\0")) + b"\0"
-
-
-def framed(body: bytes) -> bytes:
-    """A body with its CRC as it goes over the line."""
-    return stuffed(body + struct.pack("<I", zlib.crc32(body)))
-
-
-def word(value: int, bits: int) -> bytes:
-    """A word's five bytes."""
-    return struct.pack("<IB", value, bits)
-
-
-def steep(ticks: int, bits: int) -> tuple[int, int]:
-    """A word with a slope."""
-    return ticks | STEEP << 24, bits
-
-
-def slope_of(value: int) -> int:
-    """How much the square of the rate may change from a word to the next; 2^42 over the square of its ticks."""
-    return (8 | value >> 24 & 7) << (value >> 27 & 15)
-
-
-def words_frame(session: int, first: int, *words: tuple[int, int]) -> bytes:
-    """A frame of words."""
-    return framed(struct.pack("<BII", 1, session, first) + b"".join(word(*each) for each in words))
-
-
-def begin_frame(session: int, stops: int = 0, low: int = 0, halts: int = 0) -> bytes:
-    """A frame that ends a session and begins the next."""
-    return framed(struct.pack("<BIIHHHQ", 2, session, TOKEN, stops, halts, low, MARK))
-
-
-def stop_frame(session: int, at_once: int = 0) -> bytes:
-    """A frame that stops."""
-    return framed(struct.pack("<BIB", 3, session, at_once))
-
-
-class Answer(NamedTuple):
-    """What an answer says."""
-
-    session: int
-    taken: int
-    made: int
-    state: int
-    fault: int
-    inputs: int
-    lost: int
-    token: int
-    touched: int = 0
-    dry: int = 0
-    mark: int = 0
-    lines: int = 0
-
-
-ANSWER = "<BIIIBBHHIIHQI"
-
-
-def answers(line: bytes) -> list[Answer]:
-    """The answers of a line without damage."""
-    found = []
-    for frame in line.split(b"\0")[:-1]:
-        body = unstuffed(frame + b"\0")
-        kind, *fields, crc = struct.unpack(ANSWER + "I", body)
-        assert kind == 4 and crc == zlib.crc32(body[:-4]), frame
-        found.append(Answer(*fields))
-    return found
-
-
-def unstuffed(frame: bytes) -> bytes:
-    """The body of a frame, with its CRC."""
-    body, at = b"", 0
-    while frame[at]:
-        body += frame[at + 1:at + frame[at]] + b"\0"
-        at += frame[at]
-    return body[:-1]
 
 
 class Child:
@@ -152,7 +66,7 @@ class Sink(Child):
 
     def __init__(self) -> None:
         """Starts it with boot 1."""
-        super().__init__(program(*(SINK / name for name in ("sink_posix.c", "sink.c", "make.c", "wire.c"))), "1")
+        super().__init__(*bench())
         self.line = os.open(self.child.stdout.readline().strip(), os.O_RDWR | os.O_NOCTTY)
         self.wrote = self.read = self.now = 0
 
@@ -207,12 +121,6 @@ class Sender(Child):
     def step(self, now: int, line: bytes) -> list[bytes]:
         """The frames that it sends after these bytes came."""
         return self.tell(f"step {now} {line.hex()}")
-
-
-def switches(spindle: int, speed: int, mist: int, flood: int, selected: int, slot: int) -> list[tuple[int, int]]:
-    """The two words of outputs."""
-    value = speed >> 32 << 20 | slot << 12 | selected << 4 | flood << 3 | mist << 2 | spindle
-    return [(speed & 0xffffffff, OUTPUT | REST), (value, OUTPUT | SWITCH | REST)]
 
 
 def lasts(each: tuple[int, int]) -> int:
