@@ -54,11 +54,11 @@ FAULTS: dict[str, list[Edit]] = {
     "auto-reload 0xfffe": port("TIM2_ARR = 0xffff;", "TIM2_ARR = 0xfffe;"),
     "flag never cleared": port("TIM2_SR = (uint32_t)~COMPARED;", ""),
     "rc_w0 written with the flag": port("TIM2_SR = (uint32_t)~COMPARED;", "TIM2_SR = COMPARED;"),
-    "a pending match taken for a due word": port("& COMPARED) != 0 && is_due())", "& COMPARED) != 0)"),
+    "a pending match taken for a due word": port("&& is_due()) {", "&& (is_due() || true)) {"),
     "compare set after the look": port(
-        "        TIM2_CCR1 = due;\n        TIM2_SR = (uint32_t)~COMPARED;\n    }",
-        "        bool is_past = is_due();\n        TIM2_CCR1 = due;\n        TIM2_SR = (uint32_t)~COMPARED;\n"
-        "        if (!is_past) {\n            break;\n        }\n    }"),
+        "        set_due(after);\n", "        bool is_past = (uint16_t)(due + after - TIM2_CNT - 1) >= 0x8000;\n"
+        "        set_due(after);\n        if (!is_past) {\n            break;\n        }\n"),
+    "all lateness made up for": port("late > MOST_LATE_TICKS &&", "false && late > MOST_LATE_TICKS &&"),
     "channel 2's interrupt": port("COMPARED = 2,", "COMPARED = 4,"),
     "interrupt 29": port("1u << TIM2_INTERRUPT;", "1u << (TIM2_INTERRUPT + 1);"),
     "vector one too far": port("void (*faults[14])(void);", "void (*faults[15])(void);"),

@@ -21,6 +21,7 @@ Step = tuple[int, int, int]  # ticks, axes, which of them count down
 Figures = dict[str, float]
 OUTPUT_PINS = (("A", 0), ("A", 1), ("A", 2), ("A", 3), ("A", 4), ("A", 5), ("B", 0), ("B", 1), ("B", 5), ("B", 7))
 LATE_US = 10
+MOST_LATE_US = 30  # that words make up for
 
 
 def begun(elf: str, ahead: int = 1500, **surroundings: int) -> Driver:
@@ -201,19 +202,17 @@ def short_words(elf: str) -> Figures:
     for at_once in (0, 1):
         driver = begun(elf, matches_at_once=at_once)
         chance = random.Random(1)
-        for ticks in (*range(56, 80), *range(100, 130)):
+        for turns, ticks in ((turns, ticks) for turns in (0, 1) for ticks in range(LEAST, 130, 2)):
             driver.chip.edges.clear()
-            turns, middle, spread = ticks >= 90, 110 if ticks >= 90 else ticks, 15 if ticks >= 90 else 9
-            steps = [step for pair in range(120)
-                     for step in ((chance.randint(middle - spread, middle + spread), 1, turns and pair & 1),
-                                  (ticks, 1, turns and ~pair & 1))]
+            steps = [step for pair in range(120) for step in ((ticks, 1, turns and pair & 1),
+                                                              (chance.randint(360, 420), 1, turns and ~pair & 1))]
             driver.give(words_of(steps))
             driver.play()
             off = lateness(steps, pulses(driver.chip.edges))
             early, late = min(early, *off), max(late, *off)
         empty += driver.chip.figure("spurious")
-    assert late < 2 * MS_CYCLES, f"a step is {late / MS_CYCLES:.1f} ms late"
     assert early > -US, f"a step is {-early / US:.1f} us early"
+    assert late < MOST_LATE_US * US, f"a step is {late / US:.1f} us late"
     return {"early_us": -early / US, "late_us": late / US, "empty_interrupts": empty}
 
 
@@ -410,21 +409,35 @@ def watchdog(elf: str) -> Figures:
     return figures
 
 
+WAYS: dict[str, Callable[[int], tuple[int, int]]] = {
+    "one_axis": lambda number: (1, 0), "three_axes": lambda number: (7, 0),
+    "in_turns": lambda number: ((1, 1), (2, 0))[number % 2], "to_and_fro": lambda number: (1, number & 1),
+    "three_to_and_fro": lambda number: (7, 7 * (number & 1))}
+"""Steps of one axis, of three at once, of two in turns with opposite directions, of one and of three that change their
+directions with each step."""
+
+
 def storm(elf: str) -> Figures:
-    """A FIFO full of the shortest words, with a new direction each, while bytes keep coming: they are made in order, it
-    recovers, and the watchdog doesn't bite, by a fast oscillator too."""
-    driver = begun(elf, ahead=2040, lsi_hz=60_000)
-    steps = [(16_000, 1, 0)] + [(LEAST, 1, number % 2) for number in range(2000)] + [(LEAST, 1, 0)]
-    driver.give(words_of(steps))
-    driver.play()
-    made = pulses(driver.chip.edges)
-    lateness(steps, made)
-    driver.give(words_of(even(5000, 500)))
-    driver.play()
-    assert driver.is_done and driver.last.state == STANDS, driver.last
-    assert driver.chip.figure("resets") == 0
-    return {"us_a_word": (made[-1].cycle - made[1].cycle) / (len(made) - 2) / US,
-            "poll_us": driver.chip.figure("hunger_us"), "lost": driver.last.lost}
+    """A FIFO full of the shortest words, while bytes keep coming, then slower ones: they are made in order and later,
+    evenly; those behind them take their own times, but for 30 us; the main loop has its turn."""
+    figures = {}
+    for way, how in WAYS.items():
+        driver = begun(elf, ahead=2040, lsi_hz=60_000)
+        steps = [(800_000, 1, 0)] + [(LEAST, *how(number)) for number in range(1500)]
+        slower = even(10_000, 400, how)
+        driver.give(words_of(steps + slower))
+        driver.play()
+        made = pulses(driver.chip.edges)
+        lateness(steps + slower, made)
+        gaps = [(after.cycle - at.cycle) / US for at, after in zip(made[1:], made[2:])]
+        assert max(gaps[:1500]) < 100, f"{way}: {max(gaps[:1500]):.0f} us between two of the shortest words"
+        lasted = (made[-1].cycle - made[len(steps)].cycle) / US - 100 * (len(slower) - 1)
+        assert abs(lasted) < MOST_LATE_US + LATE_US, f"{way}: the words behind take {lasted:.0f} us more"
+        assert driver.is_done and driver.last.state == STANDS and driver.chip.figure("resets") == 0, driver.last
+        figures[f"{way}_us"] = sum(gaps[:1500]) / 1500
+        figures["poll_us"] = max(figures.get("poll_us", 0), driver.chip.figure("hunger_us"))
+    assert figures["poll_us"] < 3000, f"the main loop waits for {figures['poll_us']} us"
+    return figures
 
 
 def flood(elf: str) -> Figures:
@@ -446,14 +459,6 @@ def flood(elf: str) -> Figures:
     late = lateness(steps, pulses(driver.chip.edges))
     assert driver.last.state == STANDS and driver.chip.figure("resets") == 0, driver.last
     return {"late_us": max(late) / US, "poll_us": driver.chip.figure("hunger_us"), "lost": driver.last.lost}
-
-
-WAYS: dict[str, Callable[[int], tuple[int, int]]] = {
-    "one_axis": lambda number: (1, 0), "three_axes": lambda number: (7, 0),
-    "in_turns": lambda number: ((1, 1), (2, 0))[number % 2], "to_and_fro": lambda number: (1, number & 1),
-    "three_to_and_fro": lambda number: (7, 7 * (number & 1))}
-"""Steps of one axis, of three at once, of two in turns with opposite directions, of one and of three that change their
-directions with each step."""
 
 
 def is_in_time(elf: str, rate: int, way: str, seconds: float = 0.5) -> bool:
