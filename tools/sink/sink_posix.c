@@ -1,4 +1,5 @@
-/* The sink itself on the bench (bench.c has its commands): `sink_posix BOOT`. */
+/* The sink itself on the bench (bench.c has its commands): `sink_posix BOOT`. Besides:
+ *     hang MS        the main loop doesn't come by for so long */
 #include <stdio.h>
 #include <stdlib.h>
 #include <string.h>
@@ -14,6 +15,7 @@ static uint64_t now;
 static uint64_t due;      /* when sink_make is called, if the timer runs */
 static uint64_t poll_due;
 static uint64_t watched;  /* when the watchdog was told last */
+static uint64_t hangs_until;
 static bool is_timed;
 static uint16_t inputs;
 static uint8_t came[ROOM]; /* bytes that came, and were not yet read */
@@ -87,8 +89,10 @@ void device_look(struct sink *to) {
 }
 
 bool device_obey(const char *line) {
-    (void)line;
-    return false;
+    unsigned ms = 0;
+    bool is_hang = sscanf(line, "hang %u", &ms) == 1;
+    hangs_until = is_hang ? now + ms * UINT64_C(1) * WIRE_TICKS_A_MS : hangs_until;
+    return is_hang;
 }
 
 /* The chip starts: its pins are off by themselves. */
@@ -103,6 +107,14 @@ void device_stray(void) {
     }
 }
 
+/* The main loop comes by, if it doesn't hang. */
+static void poll(void) {
+    if (now >= hangs_until) {
+        sink_poll(&sink, (uint32_t)now);
+    }
+    poll_due += POLL_TICKS;
+}
+
 /* The chip's main loop and its timer, in the order of their times. */
 void device_run(uint64_t ticks) {
     uint64_t until = now + ticks;
@@ -114,8 +126,7 @@ void device_run(uint64_t ticks) {
             is_timed = after > 0;
             due += after;
         } else {
-            sink_poll(&sink, (uint32_t)now);
-            poll_due += POLL_TICKS;
+            poll();
         }
         if (now - watched > WATCHDOG_MS * WIRE_TICKS_A_MS) {
             bench_give_up("the watchdog bit");

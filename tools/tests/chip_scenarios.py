@@ -87,12 +87,12 @@ def falls(edges: list[Edge], port: str, pin: int) -> list[int]:
 
 
 def check_ramp(made: list[Pulse]) -> None:
-    """They come to rest by the slopes: over each 8 steps the square of the rate loses no more than they allow (a tick
-    more or less in each), and the last one is slow."""
+    """They come to rest by the slopes: over each 8 steps the square of the rate loses no more than they allow, but for
+    two ticks in each, and the last one is slow."""
     slope = slope_of(SLOPE << 24)
     squares = [2 ** 42 / ((after.cycle - at.cycle) / CYCLES_A_TICK) ** 2 for at, after in zip(made, made[1:])]
     for before, after in zip(squares, squares[8:]):
-        noise = 4 * before / (2 ** 21 / before ** 0.5)
+        noise = 8 * before / (2 ** 21 / before ** 0.5)
         assert before - after < 8 * 1.1 * slope + noise, f"from a square of {before:.0f} to {after:.0f}"
     assert squares[-1] <= 2 * slope, f"the last step comes at a square of {squares[-1]:.0f}"
 
@@ -197,7 +197,8 @@ def speeds(elf: str) -> Figures:
 
 
 def short_words(elf: str) -> Figures:
-    """Words about as long as the timer's handler works: none is made before it is due, or a turn of the counter late."""
+    """Words about as long as the timer's handler works: none is made before it is due, or a turn of the counter
+    later."""
     early, late, empty = 0, 0, 0
     for at_once in (0, 1):
         driver = begun(elf, matches_at_once=at_once)
@@ -417,6 +418,43 @@ WAYS: dict[str, Callable[[int], tuple[int, int]]] = {
 directions with each step."""
 
 
+def hung(elf: str) -> Figures:
+    """The main loop hangs amid 20,000 steps a second: the timer brings the motors to rest by the slopes, then the
+    watchdog resets. By its slowest and fastest oscillator."""
+    figures = {}
+    for lsi in (30_000, 60_000):
+        driver = begun(elf, ahead=2000, lsi_hz=lsi)
+        chip = driver.chip
+        at = driver.move(20_000, 150)
+        chip.model.model_go_astray(chip.model.model_symbol(b"hang", None))
+        driver.pump(400 * MS_CYCLES)
+        made = [pulse for pulse in pulses(chip.edges) if pulse.cycle > at]
+        resets = [edge.cycle for edge in chip.edges if edge.port == "R"]
+        off = falls(chip.edges, "B", 0)
+        assert len(resets) == 1 and made[-1].cycle < off[-1] < resets[0], (made[-1:], off[-1:], resets)
+        check_ramp(made)
+        check_new(driver, 2 << 16)
+        figures[f"rests_ms_{lsi // 1000}"] = (made[-1].cycle - at) / MS_CYCLES
+        figures[f"bites_ms_{lsi // 1000}"] = (resets[0] - at) / MS_CYCLES
+    return figures
+
+
+def debounced(elf: str) -> Figures:
+    """An input that stops dead is open for 0.2 ms: nothing, as 1 ms is asked for; then for good."""
+    driver = begun(elf)
+    driver.begin(stops=4, debounce_us=1000)
+    driver.chip.edges.clear()
+    at = driver.move(10_000, 100)
+    for after_us, is_open in ((100, 1), (300, 0), (20_000, 1)):
+        driver.chip.model.model_turn_at(at + after_us * US, 10, is_open)
+    driver.pump(15 * MS_CYCLES)
+    assert (driver.last.state, driver.last.fault) == (RUNS, NOTHING), driver.last
+    driver.pump(20 * MS_CYCLES)
+    last = (pulses(driver.chip.edges)[-1].cycle - at) / US - 20_000
+    assert (driver.last.state, driver.last.fault) == (BROKEN, INPUT) and 800 < last < 2100, (driver.last, last)
+    return {"last_step_after_us": last}
+
+
 def storm(elf: str) -> Figures:
     """A FIFO full of the shortest words, while bytes keep coming, then slower ones: they are made in order and later,
     evenly; those behind them take their own times, but for 30 us; the main loop has its turn."""
@@ -507,7 +545,7 @@ def long(elf: str, count: int = 100_000) -> Figures:
 
 
 QUICK = (boot, worked_frame, even_steps, still_directions, switches, pulled, damaged, bad_word, input_stops,
-         input_halts, stops, reset_amid, power, crystal, baud, watchdog, storm)
+         input_halts, debounced, stops, reset_amid, power, crystal, baud, watchdog, hung, storm)
 """Some 10 seconds of processor time."""
 SLOW = (all_axes, noise, speeds, flood, claimed, short_words, rates, long)
 

@@ -4,7 +4,6 @@ import ctypes
 import fcntl
 import os
 import shutil
-import struct
 import subprocess
 from collections.abc import Iterable
 from dataclasses import dataclass, field
@@ -14,7 +13,7 @@ from typing import NamedTuple
 
 from player_support import builds
 from session_support import TOOLS
-from sink_frames import (BROKEN, MARK, MS, NOTHING, REST, RUNS, STANDS, STOPPED, Answer, answer_of, framed, stop_frame,
+from sink_frames import (BROKEN, MS, NOTHING, REST, RUNS, STANDS, STOPPED, Answer, answer_of, begin_frame, stop_frame,
                          words_frame)
 
 SINK = TOOLS / "sink"
@@ -194,11 +193,11 @@ class Driver:
             self.pump()
         return self.last
 
-    def begin(self, stops: int = 0, halts: int = 0, low: int = 0) -> None:
+    def begin(self, **inputs: int) -> None:
         """Begins a session."""
         answer = self.await_answer()
         token = next(TAKES_TOKENS)
-        frame = framed(struct.pack("<BIIHHHQ", 2, answer.session, token, stops, halts, low, MARK))
+        frame = begin_frame(answer.session, token=token, **inputs)
         until = self.chip.now + 300 * MS_CYCLES
         while answer.token != token or answer.state != STANDS:
             assert self.chip.now < until, f"no session: {answer}"

@@ -11,7 +11,7 @@ REST, OUTPUT, SWITCH, SPEED, LINE_SWITCH = 0x40, 0x80, 0x01, 0x04, 0x02
 LINE = 0x80 << 24
 STEEP = 100  # the byte of a slope of 49,152: from 20,000 words a second it takes 559 to stop
 NEW, STANDS, RUNS, STOPPED, BROKEN = range(5)
-NOTHING, SILENT, WORD, ASKED, TOUCHED, INPUT, DEAD = range(7)
+NOTHING, SILENT, WORD, ASKED, TOUCHED, INPUT, DEAD, HUNG = range(8)
 
 
 def stuffed(body: bytes) -> bytes:
@@ -44,9 +44,10 @@ def words_frame(session: int, first: int, *words: tuple[int, int]) -> bytes:
     return framed(struct.pack("<BII", 1, session, first) + b"".join(word(*each) for each in words))
 
 
-def begin_frame(session: int, stops: int = 0, low: int = 0, halts: int = 0) -> bytes:
+def begin_frame(session: int, stops: int = 0, low: int = 0, halts: int = 0, debounce_us: int = 0,
+                token: int = TOKEN) -> bytes:
     """A frame that ends a session and begins the next."""
-    return framed(struct.pack("<BIIHHHQ", 2, session, TOKEN, stops, halts, low, MARK))
+    return framed(struct.pack("<BIIHHHHQ", 2, session, token, stops, halts, low, debounce_us, MARK))
 
 
 def stop_frame(session: int, at_once: int = 0) -> bytes:

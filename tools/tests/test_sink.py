@@ -15,8 +15,8 @@ sys.path.insert(0, str(Path(__file__).resolve().parent))
 
 from player_support import SANITIZERS, built, has_sanitizers  # noqa: E402
 from session_support import TOOLS  # noqa: E402
-from sink_frames import (ANSWER, ASKED, BROKEN, DEAD, INPUT, LEAST, LINE, LINE_SWITCH, MARK, MS, NEW,  # noqa: E402
-                         NOTHING, OUTPUT, REST, RUNS, SILENT, STANDS, STEEP, STOPPED, SWITCH, TOKEN, TOUCHED, WORD,
+from sink_frames import (ANSWER, ASKED, BROKEN, DEAD, HUNG, INPUT, LEAST, LINE, LINE_SWITCH, MARK, MS,  # noqa: E402
+                         NEW, NOTHING, OUTPUT, REST, RUNS, SILENT, STANDS, STEEP, STOPPED, SWITCH, TOKEN, TOUCHED, WORD,
                          Answer, answers, begin_frame, framed, slope_of, steep, stop_frame, switches, unstuffed, word,
                          words_frame)
 from sink_support import bench  # noqa: E402
@@ -551,6 +551,58 @@ class Faults(SinkTest):
             self.assertEqual(answer.inputs & 4, 4)
             self.assertLessEqual(answer.made - made, 10)
             self.stopped(answer, answer.made, BROKEN, INPUT)
+
+    def test_debounce(self) -> None:
+        """An input that stops dead is heeded once it was on for debounce_us, within twice that; one look alone isn't
+        enough. In motion and at rest."""
+        for ticks, count in ((80, 800), (MS, 8), (16 * MS, 1)):
+            session = self.boot() + 1
+            self.sink.run(6, begin_frame(session - 1, stops=4, debounce_us=2000))
+            line = b"".join(words_frame(session, at, *[(ticks, 1)] * 40, (LEAST, REST)) for at in range(0, 820, 41))
+            self.sink.run(5, line)
+            self.sink.ask("inputs 4")
+            self.assertEqual(self.sink.last(1, b"").state if self.sink.run(1)[1] else RUNS, RUNS)
+            self.sink.ask("inputs 0")
+            answer = self.sink.last(6)
+            self.assertEqual((answer.state, answer.fault), (RUNS, NOTHING), ticks)
+            at = self.sink.now
+            self.sink.ask("inputs 4")
+            events, line = self.sink.run(10)
+            off = next(event[0] for event in events if len(event) == 7) - at
+            self.assertTrue(2 * MS <= off <= 5 * MS, (ticks, off))
+            self.assertEqual(answers(line)[-1].fault, INPUT)
+            self.sink.ask("inputs 0")
+
+    def test_hung(self) -> None:
+        """The main loop doesn't come by any more: the timer alone brings the motors to rest, by the slopes."""
+        session = self.began()
+        words = [steep(400, 1)] * 2000  # 20,000 a second, from which a stop takes 559 words and 56 ms
+        line = b"".join(words_frame(session, at + 2, *words[at:at + 48]) for at in range(0, len(words), 48))
+        self.sink.run(20, line)
+        self.sink.ask("hang 130")
+        at = self.sink.now
+        events, _ = self.sink.run(129)
+        steps = [event for event in events if len(event) == 3]
+        gaps = [after[0] - event[0] for event, after in zip(steps, steps[1:])]
+        slope, left = slope_of(STEEP << 24), math.ceil(2**21 / 400) ** 2
+        begun = len(gaps) - gaps[::-1].index(400)
+        self.assertTrue(20 * MS <= steps[begun][0] - at < 22 * MS, steps[begun][0] - at)
+        self.assertEqual(gaps[begun:begun + 555],
+                         [math.ceil(2**21 / math.isqrt(left - n * slope)) for n in range(1, 556)])
+        self.assertLess(len(gaps), begun + 562)
+        self.assertTrue(is_off(events[-1]))
+        answer = self.sink.last(10)
+        self.assertEqual(answer[3:5], (STOPPED, HUNG))
+        self.stopped(answer, answer.made, STOPPED, HUNG)
+
+    def test_comes_by(self) -> None:
+        """A main loop that is late for less than 20 ms is no fault."""
+        session = self.began()
+        words = [(400, 1)] * 1000
+        line = b"".join(words_frame(session, at + 2, *words[at:at + 48]) for at in range(0, len(words), 48))
+        self.sink.run(5, line)
+        self.sink.ask("hang 18")
+        self.assertEqual(self.sink.last(26)[3:5], (RUNS, NOTHING))
 
     def test_halts(self) -> None:
         """An input that brings it to rest: by the slopes, and it says after how many words it came on."""

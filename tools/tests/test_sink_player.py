@@ -146,7 +146,8 @@ class Whole(InC, OverSink, unittest.TestCase):
         wrong = {"line = 3\n": f"sink: line takes {path}", f'line = "{"x" * 256}"\n': f"sink: line takes {path}",
                  "baud = 115200\n": f"sink: line is missing: {path}",
                  'line = "x"\nbaud = 9600\n': "sink: baud takes one of the rates of a serial line, 115200 to 4000000",
-                 'line = "x"\nrate = 1\n': "sink has a key that isn't line or baud: rate"}
+                 'line = "x"\ndebounce_us = 10001\n': "sink: debounce_us takes a whole number from 0 to 10000",
+                 'line = "x"\nrate = 1\n': "sink has a key that isn't line, baud or debounce_us: rate"}
         for text, said in wrong.items():
             Path("motion.toml").write_text(f"{MOTION}[sink]\n{text}")
             self.assertEqual(self.refused(*self.words()), f"motion.toml: {said}", text)
