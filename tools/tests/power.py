@@ -27,7 +27,7 @@ import time
 import zlib
 from collections import Counter
 from contextlib import suppress
-from dataclasses import dataclass, field
+from dataclasses import dataclass, field, replace
 from pathlib import Path
 
 HERE = Path(__file__).resolve().parent
@@ -361,10 +361,9 @@ def mark_lasting(calls: list[Call]) -> None:
     waiting: list[Call] = []
     for call in calls:
         if call.op == SYNC and call.ended:
-            waited = [each for each in waiting if each.ended and each.ended <= call.begun]
-            for each in waited:
-                each.is_lasting = not call.failed
-            waiting = [each for each in waiting if each not in waited]
+            for each in waiting:
+                each.is_lasting = not call.failed and 0 < each.ended <= call.begun
+            waiting = [each for each in waiting if not 0 < each.ended <= call.begun]
         elif call.op != SYNC and not call.failed:
             waiting.append(call)
 
@@ -582,7 +581,8 @@ class Tools:
     player: str
     preload: str
     consoles: Consoles
-    sink: str = ""
+    sink: str
+    wrong_sink: str  # says that it made one line more
 
 
 class Unjudged(Exception):
@@ -648,9 +648,9 @@ class Shop:
         return HEAD.unpack(self.head)[4] != 0
 
     @property
-    def is_lost(self) -> bool:
-        """Whether all lost it by a deed."""
-        return HEAD.unpack(self.head)[5] != 0
+    def has_lost(self) -> bool:
+        """Whether power was lost, or one process was killed."""
+        return self.is_off or self.killed or HEAD.unpack(self.head)[5] != 0
 
     def processes(self) -> list[int]:
         """Those that are still there, by the folder in which they work."""
@@ -745,9 +745,9 @@ class Shop:
         while self.processes() and time.monotonic() < until:
             time.sleep(0.002)
 
-    def lose(self, keeps: dict[str, str], chance: random.Random) -> None:
-        """Makes of the files what the disk kept of them."""
-        calls = read_log(self.log)
+    def lose(self, keeps: dict[str, str], chance: random.Random) -> bool:
+        """Makes of the files what the disk kept of them; whether that is another state than that of the kill."""
+        calls, is_other = read_log(self.log), False
         for which, name in enumerate(FILES):
             before = self.before[name]
             if before is None:
@@ -760,9 +760,11 @@ class Shop:
                 self._is_synced(left_of(before, calls[which], "none", chance, False))
             if keeps[name] != "all":
                 left = left_of(before, calls[which], keeps[name], chance, name == "out")
+                is_other = is_other or left != now
                 with (self.folder / name).open("r+b") as file:
                     file.write(left)
                     file.truncate(len(left))
+        return is_other
 
 
     def _is_synced(self, lasting: bytes) -> None:
@@ -1066,27 +1068,39 @@ CALLS = ("ngc mill.dev write {} kill", "ngc mill.dev sync {} kill", "ngc out wri
          "console out write 1 kill", "console out sync 1 kill")
 
 
-def plan(chance: random.Random, moves: int, kept: tuple[str, ...], fails: int, over: str) -> Plan:
-    """A loss of power by chance, in a job of so many moves; `fails` is the weight of calls that fail."""
-    found = Plan()
-    weights = (0, 0, 30, 65, 5, fails) if over == "sink" else (30, 25, 30, 10, 5, fails)
-    kind = chance.choices(("line", "motors", "call", "seconds", "alone", "fail"), weights)[0]
+@dataclass
+class Options:
+    """How power is lost: at most so often in a chain; `kept` are what the disk keeps by chance, `fails` is the weight of
+    calls that fail, beside 100 losses, `over` what OUT is. Without moments each loss is at a line, or a call."""
+
+    losses: int = 5
+    kept: tuple[str, ...] = ("all", "none", "first", "torn")
+    fails: int = 15
+    over: str = "file"
+    has_moments: bool = True
+
+
+def plan(chance: random.Random, moves: int, options: Options) -> Plan:
+    """A loss of power by chance, in a job of so many moves."""
+    found, at_pins, at_moment = Plan(), 55 * (options.over != "sink"), 15 * options.has_moments
+    kind = chance.choices(("line", "motors", "call", "seconds", "alone", "fail"),
+                          (at_pins, at_pins, 60, 4 * at_moment, at_moment, options.fails))[0]
     if kind in ("line", "motors"):
-        found.line = 1 + int(chance.random() ** 2 * moves)
+        found.line = 1 + int(chance.random() ** 3 * moves)
         found.is_all = kind == "line"
     elif kind in ("call", "fail"):
         text = chance.choice(CALLS if kind == "call" else FAILS)
         found.fails = kind == "fail"
-        found.deeds = text.format(1 + int(chance.random() ** 3 * (moves if "out write" in text else 120)))
+        found.deeds = text.format(1 + int(chance.random() ** 3 * (moves if "out write" in text else 80)))
     else:
-        found.seconds = chance.uniform(0, 1.5)
+        found.seconds = chance.uniform(0, 1.2)
         found.alone = chance.choice(("ngc", "console", "player")) if kind == "alone" else ""
     if not found.alone:
-        out = chance.choice(kept)
-        found.keeps = {"mill.dev": chance.choice([each for each in kept if each not in ("torn", "hole")] + ["any"]),
-                       "out": out, "position": chance.choice(("all", "all", "none"))}
+        whole = [each for each in options.kept if each not in ("torn", "hole")]
+        found.keeps = {"mill.dev": chance.choice([*whole, "any"]), "out": chance.choice(options.kept),
+                       "position": chance.choice(("all", "all", "none"))}
         found.sink_dies = chance.random() < 0.3
-        if chance.random() < 0.15 and over != "sink":
+        if chance.random() < 0.15 and options.over != "sink":
             found.coasts = tuple(chance.randint(-30, 30) for _ in range(3))
     return found
 
@@ -1097,7 +1111,7 @@ class Found:
 
     chains: int = 0
     losses: int = 0
-    states: int = 0
+    states: int = 0  # of the disk, which were others than those of the kill
     back: int = 0
     again: int = 0
     unjudged: int = 0
@@ -1114,7 +1128,7 @@ class Chain:
         self.tools, self.folder, self.job, self.chance, self.plans = tools, folder, job, chance, plans
         self.plant = plant
         self.ledger, self.told, self.shown = Ledger(job.uncut, is_of_sink=job.over == "sink"), [], []
-        self.lost = 0
+        self.lost = self.states = 0
         (folder / "machine.toml").write_text(MACHINE)
         (folder / "settings.toml").write_text(SETTINGS)
         (folder / "part.ngc").write_bytes(job.text)
@@ -1161,9 +1175,9 @@ class Chain:
             person.work()
         except Lost:
             pass
-        is_lost = shop.is_off or shop.is_lost or shop.killed
-        if person.ended and not is_lost or how.alone and not person.leaves:
+        if person.ended and not shop.has_lost or how.alone and not person.leaves:
             shop.close()
+        is_lost = shop.has_lost
         shop.kill()
         if self.sink and not person.ended:
             self.sink.rest()
@@ -1181,7 +1195,7 @@ class Chain:
         """What power left: the disk loses what it loses, the motors coast; where they stand, if that is measured."""
         if not measures or how.alone or how.fails:
             self.lost += 1
-            shop.lose(how.keeps, self.chance)
+            self.states += shop.lose(how.keeps, self.chance)
             if self.sink and how.sink_dies:
                 made = self.sink.lines()
                 self.sink.end()
@@ -1217,7 +1231,7 @@ class Chain:
 
 
 PLANTS = {"record-behind": "", "place-off": "", "way-short": "player pins write 9 skip",
-          "spindle-off": "player pins write 1 still+"}
+          "spindle-off": "player pins write 1 still+", "sink-more": ""}
 """Faults, with the deeds of the session after the loss of power."""
 
 
@@ -1231,6 +1245,8 @@ def plant_in_record(folder: Path, plant: str) -> None:
         steps = after(steps, line, -1)
     elif plant == "place-off":
         steps = (steps[0] + 1, *steps[1:])
+    else:
+        return
     whole = b"".join(line + b"\n" for line in lines)
     inode, born, _ = record["file"].split()
     record |= {"lines": str(len(lines)), "bytes": str(len(whole)),
@@ -1243,15 +1259,20 @@ def try_plant(tools: Tools, plant: str, seed: int) -> str:
     """What the judge finds of a planted fault, in long moves; nothing, if it finds none."""
     chance = random.Random(seed)
     text = b"G17 G21 G90 G94\nM3 S1000\nG1 X0.8 F1200\nG1 Y0.8\nG1 X0 Z-0.4\nG1 Y0\nM2\n"
-    job = Job(text, run_uncut(tools.ngc, SETTINGS, text, []))
-    plans = [Plan(line=800 * chance.randint(0, 3) + chance.randint(300, 700), is_all=False),
-             Plan(deeds=PLANTS.get(plant, ""))]
+    over = "sink" if plant == "sink-more" else "file"
+    job = Job(text, run_uncut(tools.ngc, SETTINGS, text, []), over=over, has_ramps=over == "sink")
+    at = 800 * chance.randint(0, 3) + chance.randint(300, 700)
+    lost = Plan(deeds=f"ngc out write {at} kill") if over == "sink" else Plan(line=at, is_all=False)
+    plans = [lost, Plan(deeds=PLANTS.get(plant, ""))]
+    tools = replace(tools, sink=tools.wrong_sink) if plant == "sink-more" else tools
     with tempfile.TemporaryDirectory(prefix="ngc-power-", dir=memory()) as name:
         chain = Chain(tools, Path(name).resolve(), job, chance, plans, plant)
         try:
             chain.run()
         except Wrong as wrong:
             return str(wrong)
+        finally:
+            chain.close()
     return ""
 
 
@@ -1274,15 +1295,14 @@ def program(chance: random.Random, blocks: int) -> tuple[bytes, list[bytes]]:
     return "".join(line + "\n" for line in [*lines, "G0 Z0.3", "G0 X0 Y0", "M2"]).encode(), typed
 
 
-def try_chain(tools: Tools, seed: int, losses: int, kept: tuple[str, ...], fails: int, over: str,
-              found: Found) -> list[str]:
+def try_chain(tools: Tools, seed: int, options: Options, found: Found) -> list[str]:
     """Runs the chain of a seed; what was said, if it is wrong."""
     chance = random.Random(seed)
     text, typed = program(chance, chance.randint(3, 14))
-    job = Job(text, run_uncut(tools.ngc, SETTINGS, text, typed), typed, over,
-              over == "sink" or chance.random() < 0.3)
+    has_ramps = options.over == "sink" or chance.random() < 0.3
+    job = Job(text, run_uncut(tools.ngc, SETTINGS, text, typed), typed, options.over, has_ramps)
+    plans = [plan(chance, len(job.uncut.moves), options) for _ in range(chance.randint(1, options.losses))]
     with tempfile.TemporaryDirectory(prefix="ngc-power-", dir=memory()) as name:
-        plans = [plan(chance, len(job.uncut.moves), kept, fails, over) for _ in range(chance.randint(min(1, losses), losses))]
         chain = Chain(tools, Path(name).resolve(), job, chance, plans)
         found.chains += 1
         try:
@@ -1295,6 +1315,7 @@ def try_chain(tools: Tools, seed: int, losses: int, kept: tuple[str, ...], fails
         finally:
             chain.close()
             found.losses += chain.lost
+            found.states += chain.states
             found.back += chain.ledger.back
             found.again += chain.ledger.again
             found.shown += [f"seed {seed}: {text}" for text in chain.shown]
@@ -1304,11 +1325,17 @@ def try_chain(tools: Tools, seed: int, losses: int, kept: tuple[str, ...], fails
 def make_tools(ngc: str) -> Tools:
     """Builds the programs."""
     sys.path.insert(0, str(HERE))
-    from player_support import built, made
+    from player_support import built, builds, made
     from sink_support import PARTS, SINK
     preload = made("power_disk.so", "cc", "-shared", "-fPIC", "-O2", str(HERE / "power_disk.c"))
-    sink = built("-std=c99", "-O2", "-I", str(SINK), sources=PARTS)
-    return Tools(ngc, built("-O2"), preload, Consoles(preload), sink)
+    wrong, right = Path(builds(), "wrong_sink.c"), "now.lines = sink->lines;"
+    text = (SINK / "sink.c").read_text()
+    if right not in text:
+        raise Wrong(f"the sink has no {right}")
+    wrong.write_text(text.replace(right, "now.lines = sink->lines + (sink->lines > 40);"))
+    parts = tuple(wrong if part.name == "sink.c" else part for part in PARTS)
+    sinks = [built("-std=c99", "-O2", "-I", str(SINK), sources=each) for each in (PARTS, parts)]
+    return Tools(ngc, built("-O2"), preload, Consoles(preload), *sinks)
 
 
 def kind_of(text: str) -> str:
@@ -1326,11 +1353,13 @@ def main() -> int:
     parser.add_argument("--losses", type=int, default=5)
     parser.add_argument("--kept", default="all,none,first,torn", help="of all,none,first,torn,any,hole")
     parser.add_argument("--over", choices=("file", "pipe", "sink"), default="file")
-    parser.add_argument("--fails", type=int, default=0, help="the weight of calls that fail, beside 100 losses")
+    parser.add_argument("--calls", action="store_true", help="power is lost at lines and calls alone, at no moment")
+    parser.add_argument("--fails", type=int, default=15, help="the weight of calls that fail, beside 100 losses")
     parser.add_argument("--plant", choices=PLANTS, help="a fault that the judge has to find in each chain")
     parser.add_argument("--keep", type=Path, help="where what was said of wrong chains is kept")
     given = parser.parse_args()
     begun, found, tools = time.monotonic(), Found(), make_tools(given.ngc)
+    options = Options(given.losses, tuple(given.kept.split(",")), given.fails, given.over, not given.calls)
     for seed in range(given.seed, given.seed + given.chains):
         if given.plant:
             found.wrong.append(try_plant(tools, given.plant, seed) or "NOT FOUND")
@@ -1338,7 +1367,7 @@ def main() -> int:
             continue
         if time.monotonic() > begun + given.seconds:
             break
-        said = try_chain(tools, seed, given.losses, tuple(given.kept.split(",")), given.fails, given.over, found)
+        said = try_chain(tools, seed, options, found)
         if said and given.keep:
             (given.keep / f"seed-{seed}.txt").write_text("\n".join(said))
         if said:
@@ -1346,7 +1375,7 @@ def main() -> int:
         if found.chains % 50 == 0:
             print(f"{found.losses} losses in {found.chains} chains, {time.monotonic() - begun:.0f} s", flush=True)
     tools.consoles.close()
-    print(f"{found.losses} losses of power in {found.chains} chains, {time.monotonic() - begun:.0f} s; {found.back} pulses"
+    print(f"{found.losses} losses of power, {found.states} states of the disk, {found.chains} chains, {time.monotonic() - begun:.0f} s; {found.back} pulses"
           f" back, {found.again} moves made again, {found.unjudged} chains aren't judged; {len(found.wrong)} chains are wrong, {len(found.shown)} places and questions are")
     for kind, count in Counter(map(kind_of, [*found.wrong, *found.shown])).items():
         print(f"{count} times: {kind}")
