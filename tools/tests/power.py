@@ -41,6 +41,7 @@ QUESTIONS = (
     (r"yes goes on with the cut", "cuts"),
     (r"Does the spindle turn, and is the right tool in\?", "cuts"),
     (r"go on all the same\? yes goes on", "asks"),
+    (r"yes gives it up, anything else keeps|yes drops them, anything else keeps", "keep"),
     (r"half-done.*ends the session|yes ends|yes alone ends", "yes"),
 )
 
@@ -117,7 +118,9 @@ class Person:
             shown = re.findall(r"The motors are there: X (\S+) Y (\S+) Z (\S+)\.", text)
             if shown and steps_of(shown[-1]) != self.ledger.steps:
                 self.shown.append(f"shown is {shown[-1]}, and the motors stand at {self.ledger.steps}")
-        return "600" if deed == "feed" and "No feed is known" in text else "" if deed == "feed" else "yes"
+        if deed == "feed":
+            return "600" if "No feed is known" in text else ""
+        return "no" if deed == "keep" else "yes"
 
     def finds_path(self) -> None:
         """Motors that were measured may stand on the path all the same, where the record has them, or at the goal."""
@@ -176,6 +179,9 @@ class Person:
         if self.at_start:
             self.at_start, self.opening = False, text
             return "status"
+        if "stop begins another session" in text:
+            self.at_start, self.cutting, self.phase, self.before = True, False, "still", self.ledger.made
+            return "stop"
         self.phase = "still"
         self.tries += 1
         if self.tries > 30:

@@ -445,15 +445,13 @@ class Shop:
         self.killed = True
 
     def close(self) -> None:
-        """Waits for the end of all."""
-        with suppress(subprocess.TimeoutExpired):
-            self.player.wait(PATIENCE_S)
+        """Waits for the end of all, for some seconds."""
         for file in (self.into, self.out_of):
             if file >= 0:
                 os.close(file)
         self.into = self.out_of = -1
-        until = time.monotonic() + PATIENCE_S
-        while self.processes() and time.monotonic() < until:
+        until = time.monotonic() + PATIENCE_S / 4
+        while (self.player.poll() is None or self.processes()) and time.monotonic() < until:
             time.sleep(0.002)
 
     def lose(self, keeps: dict[str, str], chance: random.Random) -> bool:
