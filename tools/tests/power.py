@@ -1,14 +1,15 @@
 #!/usr/bin/env python3
 """Loses power by the hundred, and judges what the motors made, by what docs/RECOVERY.md, OUTPUT.md and SESSION.md say.
 
-    power.py --ngc PATH [--seed N] [--chains N] [--seconds S] [--losses N] [--over file|pipe] [--keep FOLDER]
+    power.py --ngc PATH [--over file|pipe|sink] [--seconds S] [--chains N] [--losses N] [--plant NAME] [--keep FOLDER]
 
-A chain is a job over a file that tools/player follows. Power is lost in it up to five times: at a line of the pins, at
-a moment, or before a call of `ngc`, the console or the player; for all at once, or for the motors first, or one process
-is killed alone. Of what wasn't synced the disk keeps any part (`power_disk.c`). A person follows what the console
-proposes, measures where the motors stand, and answers by that alone. The ledger follows each line of the pins: the job
-has to be made move by move, with the outputs of the uncut run, each move where its whole steps lead, once, but for what
-goes back over its own path. Nothing of the tools' own code has a part in it."""
+A chain is a job that tools/player carries out, over a file, a named pipe, or a file and a step sink. Power is lost in
+it up to five times: at a line of the pins, at a moment, or before a call of `ngc`, the console or the player; for all
+at once, or for the motors first, or one process is killed alone; and calls fail. Of what wasn't synced the disk keeps
+any part (`power_disk.c`). A person follows what the console proposes, measures where the motors stand, and answers by
+that alone. The ledger follows each line of the pins: the job has to be made move by move, with the outputs of the uncut
+run, each move where its whole steps lead, once, but for what goes back over its own path. No code of the tools has a
+part in the judgement."""
 import argparse
 import os
 import random
@@ -63,6 +64,7 @@ class Person:
         self.measures = self.leaves = self.cutting = self.ended = False
         self.was_free = False
         self.shown: list[str] = []
+        self.asked: list[str] = []
         self.has_typed: set[int] = set()  # before these moves
         self.errands: list[str] = []  # lines of the person's own that come next
 
@@ -109,7 +111,7 @@ class Person:
             _, *self.errands = self.back_by_hand()
             return "no"
         if deed == "asks" and "doesn't tell any more" in text:
-            self.shown.append("asked is what is known: " + text.strip().splitlines()[-2])
+            self.asked.append("asked is what is known: " + text.strip().splitlines()[-2])
         elif deed == "goes":
             self.phase = "way"
             self.finds_path()
@@ -359,7 +361,8 @@ class Found:
     lost: int = 0
     unjudged: int = 0
     wrong: list[str] = field(default_factory=list)
-    shown: list[str] = field(default_factory=list)  # places that aren't those of the motors, questions for nothing
+    shown: list[str] = field(default_factory=list)  # places that aren't those of the motors
+    asked: list[str] = field(default_factory=list)  # what is known
 
 
 class Chain:
@@ -370,7 +373,10 @@ class Chain:
         """`plans` are how power is lost, one after the other; behind the first one a fault is planted."""
         self.tools, self.folder, self.job, self.chance, self.plans = tools, folder, job, chance, plans
         self.plant = plant
-        self.ledger, self.told, self.shown = Ledger(job.uncut, is_of_sink=job.over == "sink"), [], []
+        self.ledger = Ledger(job.uncut, is_of_sink=job.over == "sink")
+        self.told: list[str] = []
+        self.shown: list[str] = []
+        self.asked: list[str] = []
         self.lost = self.states = 0
         (folder / "machine.toml").write_text(MACHINE)
         (folder / "settings.toml").write_text(FIRST)
@@ -397,6 +403,7 @@ class Chain:
             finally:
                 shop.kill()
                 self.shown += person.shown
+                self.asked += person.asked
                 self.told.append(f"{time.monotonic() - shop.begun:.2f} s: {shop.said}")
             if is_over:
                 return
@@ -562,6 +569,7 @@ def try_chain(tools: Tools, seed: int, options: Options, found: Found) -> list[s
             found.again += chain.ledger.again
             found.lost += chain.ledger.lost
             found.shown += [f"seed {seed}: {text}" for text in chain.shown]
+            found.asked += [f"seed {seed}: {text}" for text in chain.asked]
     return []
 
 
@@ -634,8 +642,8 @@ def main() -> int:
     print(f"{found.losses} losses of power, {found.states} states of the disk, {found.chains} chains,"
           f" {time.monotonic() - begun:.0f} s; {found.back} pulses back, {found.again} moves made again,"
           f" {found.lost} moves lost over a pipe; {found.unjudged} chains aren't judged; {len(found.wrong)} are wrong,"
-          f" {len(found.shown)} places and questions are")
-    for kind, count in Counter(map(kind_of, [*found.wrong, *found.shown])).items():
+          f" {len(found.shown)} places shown are; {len(found.asked)} questions were for nothing")
+    for kind, count in Counter(map(kind_of, [*found.wrong, *found.shown, *found.asked])).items():
         print(f"{count} times: {kind}")
     return int(bool(found.wrong))
 
