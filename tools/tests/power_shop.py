@@ -152,18 +152,19 @@ while True:
     text, files, _, _ = socket.recv_fds(control, 65536, 3)
     if not text:
         os._exit(0)
+    folder, given, words = json.loads(text)
+    os.chdir(folder)  # what is killed is known by it
     child = os.fork()
     if child == 0:
-        folder, given, words = json.loads(text)
         for at in range(3):
             os.dup2(files[at], at)
         for file in (*files, control.fileno()):
             os.close(file)
         signal.signal(signal.SIGCHLD, signal.SIG_DFL)
         sys.stdin, sys.stdout, sys.stderr = os.fdopen(0), os.fdopen(1, "w"), os.fdopen(2, "w")
-        os.chdir(folder)
         os.environ.update(given)
         os._exit(main(words))
+    os.chdir("/")
     for file in files:
         os.close(file)
     control.send(str(child).encode())
