@@ -176,6 +176,9 @@ class Person:
             self.entries, place, at, kind, segment = read_status(text)
             self.to = self.target(place, steps_of(at), kind, segment)
             self.ledger.loses(self.to, self.job.ahead)
+            if not self.is_left(self.opening) and not self.trusts and self.is_elsewhere(text):
+                self.measures = self.leaves = True
+                return "quit"
             if self.ledger.is_through() and not self.is_left(self.opening):
                 return self.ends(at, kind)
         if self.at_start:
@@ -202,6 +205,11 @@ class Person:
     def is_left(text: str) -> bool:
         """Whether the console says that something is half-done, or left in OUT."""
         return "power was lost, or" in text or "lines stand in OUT" in text
+
+    def is_elsewhere(self, text: str) -> bool:
+        """Whether the motors aren't where the player says."""
+        said = re.findall(r"^the motors are at X (\S+) Y (\S+) Z (\S+), ", text, re.MULTILINE)
+        return bool(said) and steps_of(said[-1]) != self.ledger.steps
 
     def runs(self, text: str) -> str:
         """The program begins, or goes on."""
@@ -471,6 +479,8 @@ class Chain:
             raise Wrong(f"it ends with {ledger.made} of {len(self.job.uncut.moves)} moves made, {ledger.outputs}")
         if shop.player.returncode != 0:
             raise Wrong(f"the player's status is {shop.player.returncode}: {(self.folder / 'said').read_text()}")
+        if ledger.lost and ledger.steps != self.job.uncut.points[-1]:
+            return
         if steps_of(record["reference"].split()) != ledger.steps:
             raise Wrong(f"the record says {record['reference']}, and the motors stand at {ledger.steps}")
         if ledger.is_by_hand or self.job.over == "pipe":
