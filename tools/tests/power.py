@@ -26,8 +26,10 @@ from pathlib import Path
 sys.path.insert(0, str(Path(__file__).resolve().parent))
 
 from player_support import built, builds, made  # noqa: E402
-from power_path import Ledger, Legs, Steps, Wrong, after, memory, read_status, run_uncut, steps_of  # noqa: E402
-from power_shop import FILES, HERE, MACHINE, Consoles, Job, Lost, Shop, Sink, Tools, Unjudged, record_of  # noqa: E402
+from power_path import (Ledger, Legs, Steps, Unjudged, Wrong, after, memory, read_status, run_over,  # noqa: E402
+                        run_uncut, steps_of)
+from power_shop import (FILES, HERE, MACHINE, Call, Consoles, Job, Lost, Shop, Sink, Tools, read_log,  # noqa: E402
+                        record_of)
 from session_support import FIRST  # noqa: E402
 from sink_support import PARTS, SINK  # noqa: E402
 
@@ -62,7 +64,7 @@ class Person:
         self.before = ledger.made
         self.opening, self.tries, self.at_start = "", 0, True
         self.measures = self.leaves = self.cutting = self.ended = False
-        self.was_free = False
+        self.was_free = self.has_told = False
         self.shown: list[str] = []
         self.asked: list[str] = []
         self.has_typed: set[int] = set()  # before these moves
@@ -173,8 +175,9 @@ class Person:
         if self.leaves:
             return "quit"
         if "status entries" in text:
-            self.entries, place, at, kind, segment = read_status(text)
-            self.to = self.target(place, steps_of(at), kind, segment)
+            status = read_status(text)
+            self.entries, _, at, kind, _ = status
+            self.to = self.job.uncut.comes_next(*status)
             self.ledger.loses(self.to, self.job.ahead)
             if not self.is_left(self.opening) and not self.trusts and self.is_elsewhere(text):
                 self.measures = self.leaves = True
@@ -266,23 +269,12 @@ class Person:
             self.shop.hold_at = time.monotonic() + self.chance.uniform(0, 0.5)
         return "run"
 
-    def target(self, place: int, at: Steps, kind: str, segment: int) -> int:
-        """The move that comes next by a status; at one place that before a typed line, or behind it."""
-        uncut = self.job.uncut
-        if kind != "none":
-            if kind == "mdi":
-                place = min((each for of, each, _ in uncut.begins if of == "mdi" and each >= place), default=place)
-            if (kind, place, segment) not in uncut.begins:
-                raise Unjudged("a line of the person's own is half-done")
-            return uncut.begins[kind, place, segment]
-        if place == 0:
-            return len(uncut.moves) if self.entries >= uncut.entries else 0
-        behind = uncut.begins["behind", place, 0]
-        return behind if uncut.points[behind] == at else uncut.begins["none", place, 0]
-
     def ends(self, at: tuple[str, str, str], kind: str) -> str:
         """The job is made: everything is at one place."""
-        if kind != "none" or steps_of(at) != self.ledger.steps and not self.ledger.lost:
+        if kind == "none" and steps_of(at) != self.ledger.steps and not self.has_told:
+            self.has_told, self.phase = True, "still"
+            return "reference player"
+        if kind != "none" or steps_of(at) != self.ledger.steps:
             raise Wrong(f"ngc says {at}, {kind}, and the motors stand at {self.ledger.steps}")
         self.ended = True
         return "quit"
@@ -323,13 +315,15 @@ CALLS = ("ngc mill.dev write {} kill", "ngc mill.dev sync {} kill", "ngc out wri
 @dataclass
 class Options:
     """How power is lost: at most so often in a chain. `kept` are what the disk keeps by chance, `fails` is the weight
-    of calls that fail, beside 100 losses, `over` what OUT is. Without moments each loss is at a line, or a call."""
+    of calls that fail, beside 100 losses, `over` what OUT is. Without moments each loss is at a line, or a call. So many
+    `states` of the disk are judged of each loss, beside the one that the job goes on with."""
 
     losses: int = 5
     kept: tuple[str, ...] = ("all", "none", "first", "torn")
     fails: int = 15
     over: str = "file"
     has_moments: bool = True
+    states: int = 5
 
 
 def plan(chance: random.Random, moves: int, options: Options) -> Plan:
@@ -377,10 +371,11 @@ class Chain:
     """A job from its beginning to its end, over losses of power."""
 
     def __init__(self, tools: Tools, folder: Path, job: Job, chance: random.Random, plans: list[Plan],
-                 plant: str = "") -> None:
-        """`plans` are how power is lost, one after the other; behind the first one a fault is planted."""
+                 plant: str = "", each: int = 0) -> None:
+        """`plans` are how power is lost, one after the other; behind the first one a fault is planted. So many more
+        states of the disk are judged of each."""
         self.tools, self.folder, self.job, self.chance, self.plans = tools, folder, job, chance, plans
-        self.plant = plant
+        self.plant, self.each = plant, each
         self.ledger = Ledger(job.uncut, is_of_sink=job.over == "sink")
         self.told: list[str] = []
         self.shown: list[str] = []
@@ -453,7 +448,10 @@ class Chain:
         """What power left: the disk loses what it loses, the motors coast; where they stand, if that is measured."""
         if not measures or how.alone or how.fails:
             self.lost += 1
-            self.states += shop.lose(how.keeps, self.chance)
+            calls = read_log(shop.log)
+            if self.job.over != "pipe":
+                self.judge_states(shop, calls)
+            self.states += shop.lose(calls, how.keeps, self.chance)
             if self.sink and how.sink_dies:
                 made = self.sink.lines()
                 self.sink.end()
@@ -472,6 +470,20 @@ class Chain:
             return None
         return self.ledger.steps if self.chance.random() < 0.7 else None
 
+    def judge_states(self, shop: Shop, calls: list[list[Call]]) -> None:
+        """Of more states of the disk: what the device takes for done, or open, isn't less than what was made, and OUT
+        has all that leads to the motors. Raises Wrong."""
+        ledger, uncut = self.ledger, self.job.uncut
+        for _ in range(self.each if not ledger.is_by_hand else 0):
+            self.states += 1
+            device, out = shop.state(calls, self.chance)
+            to = uncut.comes_next(*read_status(run_over(self.tools.ngc, self.folder, device)))
+            if ledger.made > uncut.ends_before(to):
+                raise Wrong(f"{ledger.made} moves are made, and the device would go on from {to}")
+            moves = sum(line[:2] in (b"P ", b"D ") for line in out.split(b"\n")[:-1])
+            if ledger.on is not None and moves < ledger.on:
+                raise Wrong(f"the motors are behind move {ledger.on}, and OUT has {moves}")
+
     def ends(self, shop: Shop) -> None:
         """Everything is made, and at one place."""
         ledger, record = self.ledger, record_of(self.folder)
@@ -479,8 +491,6 @@ class Chain:
             raise Wrong(f"it ends with {ledger.made} of {len(self.job.uncut.moves)} moves made, {ledger.outputs}")
         if shop.player.returncode != 0:
             raise Wrong(f"the player's status is {shop.player.returncode}: {(self.folder / 'said').read_text()}")
-        if ledger.lost and ledger.steps != self.job.uncut.points[-1]:
-            return
         if steps_of(record["reference"].split()) != ledger.steps:
             raise Wrong(f"the record says {record['reference']}, and the motors stand at {ledger.steps}")
         if ledger.is_by_hand or self.job.over == "pipe":
@@ -562,7 +572,7 @@ def try_chain(tools: Tools, seed: int, options: Options, found: Found) -> list[s
     job = Job(text, run_uncut(tools.ngc, FIRST, text, typed), typed, options.over, has_ramps)
     plans = [plan(chance, len(job.uncut.moves), options) for _ in range(chance.randint(1, options.losses))]
     with tempfile.TemporaryDirectory(prefix="ngc-power-", dir=memory()) as name:
-        chain = Chain(tools, Path(name).resolve(), job, chance, plans)
+        chain = Chain(tools, Path(name).resolve(), job, chance, plans, each=options.states)
         found.chains += 1
         try:
             chain.run()
@@ -613,6 +623,7 @@ def words() -> argparse.Namespace:
     parser.add_argument("--over", choices=("file", "pipe", "sink"), default="file")
     parser.add_argument("--calls", action="store_true", help="power is lost at lines and calls alone, at no moment")
     parser.add_argument("--fails", type=int, default=15, help="the weight of calls that fail, beside 100 losses")
+    parser.add_argument("--states", type=int, default=5, help="more states of the disk that are judged of each loss")
     parser.add_argument("--plant", choices=PLANTS, help="a fault that the judge has to find in each chain")
     parser.add_argument("--keep", type=Path, help="a folder, where what was said of wrong chains is kept")
     return parser.parse_args()
@@ -646,7 +657,8 @@ def main() -> int:
         status = try_plants(tools, given)
         tools.consoles.close()
         return status
-    options = Options(given.losses, tuple(given.kept.split(",")), given.fails, given.over, not given.calls)
+    options = Options(given.losses, tuple(given.kept.split(",")), given.fails, given.over, not given.calls,
+                      given.states)
     found = tried(tools, options, given.seed, given.seconds, given.chains, given.keep)
     tools.consoles.close()
     print(f"{found.losses} losses of power, {found.states} states of the disk, {found.chains} chains,"

@@ -17,6 +17,10 @@ class Wrong(AssertionError):
     """What must not be."""
 
 
+class Unjudged(Exception):
+    """The judge doesn't know what has to be."""
+
+
 @dataclass
 class Uncut:
     """The program as it runs uncut. A move is a pulse or a wait; `outputs` are those that are on in each, `points` the
@@ -38,6 +42,24 @@ class Uncut:
         self.moves.append(line)
         self.outputs.append(self.last)
         self.points.append(after(self.points[-1], line))
+
+    def comes_next(self, entries: int, place: int, at: tuple[str, ...], kind: str, segment: int) -> int:
+        """The move that comes next by a status; at one place that before a typed line, or behind it. Raises
+        Unjudged."""
+        if kind == "none" and place == 0:
+            return len(self.moves) if entries >= self.entries else 0
+        if kind == "none":
+            behind = self.begins["behind", place, 0]
+            return behind if self.points[behind] == steps_of(at) else self.begins["none", place, 0]
+        if kind == "mdi":
+            place = min((each for of, each, _ in self.begins if of == "mdi" and each >= place), default=place)
+        if (kind, place, segment) not in self.begins:
+            raise Unjudged("a line of the person's own is half-done")
+        return self.begins[kind, place, segment]
+
+    def ends_before(self, move: int) -> int:
+        """Where the segment ends that begins with a move."""
+        return min((each for each in self.begins.values() if each > move), default=len(self.moves))
 
     def is_within_one(self, begin: int, end: int) -> bool:
         """Whether no segment begins between two moves."""
@@ -106,6 +128,16 @@ def run_ngc(ngc: str, folder: Path, commands: bytes) -> str:
     subprocess.run([ngc, "format", folder / "device"], check=True)
     words = [ngc, "run", folder / "device", folder / "settings", folder / "out"]
     return subprocess.run(words, input=commands, capture_output=True, check=True).stdout.decode()
+
+
+def run_over(ngc: str, folder: Path, device: bytes) -> str:
+    """The status of `ngc run` over such a device, by the settings of a folder. Raises Wrong."""
+    (folder / "state.dev").write_bytes(device)
+    done = subprocess.run([ngc, "run", "state.dev", "settings.toml", "state.out"], input=b"status\nquit\n", cwd=folder,
+                          capture_output=True)
+    if done.returncode:
+        raise Wrong(f"ngc run ends with status {done.returncode} over a state of the device: {done.stdout}")
+    return done.stdout.decode()
 
 
 def mark_segments(uncut: Uncut, said: str, moves: list[int]) -> None:

@@ -199,8 +199,8 @@ class Consoles:
 
 @dataclass
 class Job:
-    """A program, its uncut run, and what is typed at its stops. `over` is a file, a pipe, or a file and a step sink. With
-    ramps the motors follow `machine.toml`, are jogged at stops, held, and go at other rates."""
+    """A program, its uncut run, and what is typed at its stops. `over` is a file, a pipe, or a file and a step sink.
+    With ramps the motors follow `machine.toml`, are jogged at stops, held, and go at other rates."""
 
     text: bytes
     uncut: Uncut
@@ -295,10 +295,6 @@ class Tools:
     consoles: Consoles
     sink: str
     wrong_sink: str  # says that it made one line more
-
-
-class Unjudged(Exception):
-    """The judge doesn't know what has to be."""
 
 
 class Lost(Exception):
@@ -455,9 +451,15 @@ class Shop:
         while (self.player.poll() is None or self.processes()) and time.monotonic() < until:
             time.sleep(0.002)
 
-    def lose(self, keeps: dict[str, str], chance: random.Random) -> bool:
+    def state(self, calls: list[list[Call]], chance: random.Random) -> tuple[bytes, bytes]:
+        """A device and an OUT that the disk may have kept."""
+        kept = chance.choice(("none", "first", "any", "any")), chance.choice(("none", "first", "torn"))
+        device, out = self.before["mill.dev"], self.before["out"]
+        return left_of(device, calls[0], kept[0], chance, False), left_of(out, calls[1], kept[1], chance, True)
+
+    def lose(self, calls: list[list[Call]], keeps: dict[str, str], chance: random.Random) -> bool:
         """Makes of the files what the disk kept of them; whether that is another state than that of the kill."""
-        calls, is_other = read_log(self.log), False
+        is_other = False
         for which, name in enumerate(FILES):
             before = self.before[name]
             if before is None:
@@ -475,7 +477,6 @@ class Shop:
                     file.write(left)
                     file.truncate(len(left))
         return is_other
-
 
     def _is_synced(self, lasting: bytes) -> None:
         """All that the motors did stands in OUT after a loss of power. Raises Wrong."""
