@@ -402,6 +402,8 @@ class Shop:
             if 0 < self.hold_at < time.monotonic():
                 os.kill(self.console, signal.SIGINT)
                 self.hold_at = 0.0
+            if "Ctrl-C three times ends ngc" in said and self.player.poll() is not None:
+                self.hold_at = time.monotonic()  # again and again, since nobody reads OUT any more
             if time.monotonic() > until:
                 raise Wrong(f"no prompt for {PATIENCE_S} s")
             if select.select([self.out_of], [], [], 0.01)[0]:
