@@ -435,6 +435,8 @@ class Chain:
         if self.sink and not person.ended:
             self.sink.rest()
         person.follow()
+        if "nobody reads this pipe yet" in shop.said:
+            person.leaves = True
         if self.sink and not person.ended and (self.folder / "said").read_text().endswith("--at X Y Z tells it\n"):
             person.leaves = person.measures = True
         if not (is_lost or person.leaves or person.ended or how.fails):
