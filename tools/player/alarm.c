@@ -148,8 +148,7 @@ bool alarm_look(struct play *play) {
     return false;
 }
 
-/* Lets go of all lines in hand: they would be carried out from another place. */
-static void drop_lines(struct player *player) {
+void alarm_drop_lines(struct player *player) {
     size_t part = 0;
     player_lock(player);
     source_take_all(&player->source);
@@ -217,7 +216,7 @@ bool alarm_wait(struct play *play) {
     bool goes_on = false;
     begin_rest(play);
     while (!goes_on && !is_over(play)) {
-        drop_lines(player);
+        alarm_drop_lines(player);
         look_at_rest(play);
         enum end end = manual_is_there(player) ? do_manual(play) : AT_OUTS_END;
         if (end == FAILED) {

@@ -24,6 +24,9 @@ came with lines in hand, so that no more line of the session is carried out, and
 DOOR, SPINDLE, OTHER = "door", "spindle", "other"
 """What holds motors that nobody told to hold from here."""
 NOT_NOTED = "what OUT has isn't noted beside the device, by which lines are told that are lost with the power"
+_BROKE_OFF = """\
+the player carries out no more line of this session, and says why at its own terminal: as where its record can't be
+kept, on a full disk. Once that is mended, stop begins another session, which goes on as after a loss of power"""
 _LEAST_ROOM = 4096  # bytes: a page of a file
 _MACHINE_S = 0.3  # a player that tells its inputs does so in that time; others are deaf for that question
 
@@ -118,7 +121,8 @@ class Session:
 
     def take(self, report: Report) -> None:
         """Takes what the player says."""
-        was_alarm, before, self.seen = self.is_in(ALARM), self.seen, report
+        was_alarm, was_broken = self.is_in(ALARM), self.is_in(ALARM, BROKEN)
+        before, self.seen = self.seen, report
         if not report.is_held:
             self.has_opened = self.has_failed = False
         elif before is not None and not before.is_held:
@@ -126,6 +130,8 @@ class Session:
         self.face.moved(report)
         if self.is_in(ALARM) and not was_alarm:
             self.on_alarm()
+        if self.is_in(BROKEN) and not was_broken:
+            self.face.say(_BROKE_OFF, WARNING)
 
     def see_machine(self, machine: MoveReport | None) -> None:
         """Takes what it says of moves without lines, and of its inputs."""

@@ -87,8 +87,9 @@ _REPORT = re.compile(rf"carried (\d+) received (\d+) ({_WORDS}|waits tool (\d{{1
                      r" outputs (S \d \S+ \d \d \d+ \d+)(?: again (S \d \S+ \d \d \d+ \d+))? percent (\d+)"
                      r" spindle (\d+) wants (\d+) out (.*)",
                      re.DOTALL)
-MOVED = "moved"
-"""What a report says behind a move without lines, until the player is told that `ngc` knows where the machine is."""
+MOVED, BROKEN = "moved", "broken"
+"""What a report says behind a move without lines, until the player is told that `ngc` knows where the machine is, and
+where no more line of this session is carried out."""
 _POINT = r"none|\S+ \S+ \S+"
 _MACHINE = re.compile(rf"does (stands|(?:home|jog|seek) \S+) homed ([XYZ]+|none) alarm (\w+) on (\S+)"
                       rf" touched ({_POINT}) ended (\d+) (.*)", re.DOTALL)
