@@ -112,6 +112,7 @@ static void begin_alarm(struct play *play, uint32_t hits) {
     player->alarm = is_stop ? EMERGENCY_STOP : LIMITS;
     player->stopped = alarm_word(player->alarm);
     player->homed = 0;
+    player->is_sure = false;
     player_unlock(player);
     because(&play->why, "%s is on, after line %" PRIu64 ": the motors stopped at once;", what, player->lines);
 }

@@ -43,6 +43,9 @@ By the record the motors stand at {at}, behind line {line} of OUT.
 and a motor that turned went on for a while. Where steps may be lost, answer no: home the machine, and start
 the player anew with --at X Y Z.
 Do they stand there? yes goes on, anything else ends: """
+SURE = """\
+The motors stand at {at}, behind line {line} of OUT: that was told since the player began, by a person, a home or the
+step sink"""
 NO_LINES = """\
 Without lines of OUT legs alone lead on, from {at}, where the motors stand by the record.
 What was handed out and not carried out is never cut then, and is cut off OUT. yes goes on, anything else ends: """
@@ -267,6 +270,9 @@ class Recover:
         if confirmed_nm == tuple(map(nanometres, report.at.split())):
             return True
         at, line = axes(report.at.split()), report.carried
+        if self.session.meter.link.is_sure():
+            self.session.face.say(SURE.format(at=at, line=line))
+            return True
         return self.session.agrees(STANDS.format(at=at, line=line, past=self.past().words()))
 
     def past(self) -> Past:

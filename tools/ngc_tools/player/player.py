@@ -38,6 +38,7 @@ class Player(Goes):
         self.is_off = begun.is_off
         self.path_nm = begun.path_nm
         self.screws = self.backlash.known(begun.screws)
+        self.is_sure = False  # where the motors are was told by a person since it began
         self.is_broken = False  # no more line of this session is carried out
         self.is_untold = False  # the motors moved without lines, and nobody said since that `ngc` knows where they are
         self.counts = Counts()
@@ -126,6 +127,7 @@ class Player(Goes):
             position = Position(self.position.step_nm, at_nm)
             is_behind = self.source.received != self.lines and position.steps != self.position.steps
             if not is_behind and not self.errand:
+                self.is_sure = self.is_sure or position.steps != self.position.steps
                 told = zip(self.position.steps, position.steps, self.screws)
                 self.screws = [screw if was == now else UNKNOWN for was, now, screw in told]
                 self._leave_path(self.position.nm)
