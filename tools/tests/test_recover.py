@@ -1213,12 +1213,30 @@ class EndsWhereItBegan(WithOperator):
         self.assertEqual(Path("mill.dev.out").read_bytes(), before)
         operator.console.ask("tool 1 0.5")
         operator.console.load(b"M2\n")  # begins it anew
-        operator.session.passed(replace(operator.console.status(), half="program"))
+        operator.session.passed(replace(operator.console.status(), half="mdi"))
         self.assertEqual(Path("mill.dev.out").read_bytes(), before)
         operator.session.passed(operator.console.status())
         note, device = link.noted(), Device.read("mill.dev")
         self.assertEqual((note.epoch, note.records, note.entries, note.size, note.begins),
                          (device.epoch, 0, device.state.entries, 11, 11))
+
+    def test_as_left(self) -> None:
+        """Over any number of power ons `run` goes on with the next line of a program without a question, as long as
+        nothing else was done since; a line of one's own that moved is still known after them."""
+        self.device()
+        operator, face = self.begun("")
+        operator.load("a program", b"G21 G90\nG0 X0.003\nM0\nG0 X0.006\nM0\nG0 X0.009\nM2\n")
+        operator.do("run")
+        for typed, questions in (("", []), ("G0 Y0.002", ["go on all the same"])):
+            operator.do(typed)
+            for _ in range(3):
+                operator.console.kill()
+                self.player.kill()
+                self.player.communicate()
+                operator, face = self.operate("yes")
+            operator.do("run")
+            self.assertEqual([said.split("?")[0] for said, _ in face.asked], questions, face.said)
+        self.assertEqual(operator.look()[1].at.split()[0], "0.009000")
 
     def test_another_out(self) -> None:
         """An OUT that was emptied, as at the start of a day, or that is another one, has lost nothing."""

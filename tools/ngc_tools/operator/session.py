@@ -73,6 +73,7 @@ class Session:
     gone: bool = False
     on_alarm: Callable[[], None] = lambda: None
     machine: MoveReport | None = None
+    noted: int = -1  # so many entries there were as it was noted what OUT has
     is_deaf: bool = False  # the player doesn't tell its inputs
     has_opened: bool = False  # the door was open since the motors are held
     has_failed: bool = False  # they came to be held as they waited for the spindle's speed
@@ -105,12 +106,17 @@ class Session:
             with suppress(NoAnswer):  # the next question says it
                 self.meter.link.passed(status)
             if status.half == "none":
-                self.noting(partial(self.meter.link.note_end, True))
+                self.noting(partial(self.meter.link.note_end, not self.own, True))
 
-    def note_out(self, status: Status) -> None:
-        """Notes what OUT, a file, has where no block is under way."""
-        if status.half == "none" and self.meter and isinstance(self.meter.link, SyncedLink):
-            self.noting(self.meter.link.note_end)
+    def note_out(self, as_left: Callable[[], bool]) -> None:
+        """Notes what OUT, a file, has as a command is done, if no block is under way and something is an entry since.
+        `as_left` says whether nothing was done since the program was left for its next line."""
+        if not self.meter or not isinstance(self.meter.link, SyncedLink) or self.meter.link.notes is None:
+            return
+        status = self.console.status()
+        if status.half == "none" and status.entries != self.noted:
+            self.noted = status.entries
+            self.noting(partial(self.meter.link.note_end, as_left()))
 
     def noting(self, note: Callable[[], None]) -> None:
         """Has it noted what OUT has; says once why that can't be."""
