@@ -85,6 +85,7 @@ static bool begin_record(struct player *player, const struct options *options, s
     player->lines = record.lines;
     player->bytes = record.bytes;
     player->is_off = goes_on && record.is_off;
+    player->is_sure = options->has_place;
     atomic_store(&player->is_untold, record.is_off && !options->has_place);
     player->told_at[0] = INT64_MIN; /* which is no place */
     player->outputs = record.outputs;

@@ -81,12 +81,9 @@ static bool begin_threads(pthread_t *keeper, pthread_t *answers, struct cause *w
 /* The last record. */
 static bool keep_last(const char *position) {
     static struct record last;
-    int error = atomic_load(&player.record_error);
     player.is_over_sink = false;
-    if (error == 0) {
-        player_record(&player, &last);
-        error = keeper_write(&player.keeper, &last);
-    }
+    player_record(&player, &last);
+    int error = keeper_write(&player.keeper, &last);
     if (error != 0) {
         say("player: %s: %s", position, strerror(error));
     }

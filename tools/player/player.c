@@ -142,7 +142,7 @@ static void keep(struct player *player) {
 void *record_keep(void *shared) {
     struct player *player = shared;
     const struct timespec pause = {0, KEEPS_NS};
-    while (!atomic_load(&player->over) && atomic_load(&player->record_error) == 0) {
+    while (!atomic_load(&player->over)) {
         keep(player);
         nanosleep(&pause, NULL);
     }

@@ -49,6 +49,7 @@ struct player {
     bool has_again;       /* .. doesn't say itself what is on */
     unsigned homed;      /* the axes that were homed since it began and no alarm came; bit 0 is X */
     bool is_off;         /* the motors left the path of OUT by a move without lines, and no line came since */
+    bool is_sure;        /* where they are was told by a person, or by the sink, since it began */
     bool has_path;       /* the motors left the path of OUT, and it is known where .. */
     int64_t path[3];     /* .. in steps: there the lines lead that are carried out */
     int64_t told_at[3];  /* where `ngc` took the motors to be as they moved without lines, in steps */

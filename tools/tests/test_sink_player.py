@@ -222,6 +222,19 @@ class Stops(InC, OverSink, unittest.TestCase):
         Path("out").write_text(LONG * 15)
         self.assertLess(excess(self.timed(self.check_made(made)), (200_000,) * 3), 4)
 
+    def test_killed_and_sure(self) -> None:
+        """After that the sink has told where the motors are, so no person has to be asked; a player that ended by
+        itself leaves that to the record."""
+        sink = self.serve(HASTY_MS)
+        self.kill(sink)
+        words = ("--follow", "--progress", "progress", *self.words())
+        child = self.begin(*words)
+        self.assertTrue(self.linked().is_sure())
+        child.terminate()
+        child.communicate()
+        self.begin(*words)
+        self.assertFalse(self.linked().is_sure())
+
     def kill(self, sink: ServedSink) -> None:
         """Kills a player over 60,000 lines in the midst of them."""
         Path("position").unlink(missing_ok=True)

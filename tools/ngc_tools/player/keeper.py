@@ -102,7 +102,7 @@ class Keeper:
         self.worst_ms = 0.0
         self._found_ms = found_ms
         self.failed: OSError | None = None
-        self._file = file
+        self._file, self.path = file, file.path
         self._standing = standing
         self._end = threading.Event()
         self.kept: Record | None = None  # what stands on the disk
@@ -115,8 +115,6 @@ class Keeper:
         """Syncs the last record. Raises OSError if a write or a sync failed."""
         self._end.set()
         self._thread.join()
-        if self.failed:
-            raise self.failed
         self._keep()
 
     def _work(self) -> None:
@@ -126,7 +124,8 @@ class Keeper:
                 was_newer = self._keep()
             except OSError as error:
                 self.failed = error
-                return
+                continue
+            self.failed = None
             if was_newer:
                 self.worst_ms = max(self.worst_ms, (time.monotonic() - self._kept_s) * 1000)
             self._kept_s = taken
