@@ -941,8 +941,8 @@ class Given(unittest.TestCase):
         session.face, session.stand = PageFace(), SimpleNamespace(status=None)
         session.operator = SimpleNamespace(do=done.append, over=False)
         session.face.give_aside("percent 50")
-        session._do(SessionCommand("reference", lambda: done.append("reference"), 0, 0))
-        self.assertEqual((done, session.face.asides()), (["reference", "percent 50"], []))
+        session._do(SessionCommand("tool", lambda: done.append("tool"), 0, 0))
+        self.assertEqual((done, session.face.asides()), (["tool", "percent 50"], []))
 
     def test_late(self) -> None:
         """What is given once a command is through, while the session looks how all stands, is done then, before the
@@ -955,16 +955,16 @@ class Given(unittest.TestCase):
 
         def look() -> None:
             """Something is given, and then the next command."""
-            if done == ["reference"]:
+            if done == ["tool"]:
                 session.tell("single on")
                 session._next = SessionCommand("run", lambda: done.append("run"), 0, 0)
             elif "run" in done:
                 session.over.set()
 
-        session._look, session._see_end, session._look_at_way = look, lambda *_: None, lambda _: None
-        session.give("reference", lambda: done.append("reference"))
+        session._look, session._see_end, session._see_place = look, lambda *_: None, lambda _: None
+        session.give("tool", lambda: done.append("tool"))
         session._work()
-        self.assertEqual(done, ["reference", "single on", "run"])
+        self.assertEqual(done, ["tool", "single on", "run"])
 
     def test_finished(self) -> None:
         """A program that ran to its end isn't finished any more once another run, a move or a load is given, though

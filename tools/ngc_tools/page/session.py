@@ -504,11 +504,16 @@ class PageSession:
             self._tell_bug(command, error)
         if self.operator.over:
             self._quit()
-        elif command.word in MOVES | {"load"}:
+            return
+        if command.word in MOVES | {"load"}:
             self._see_end(command, before)
-        if not self.over.is_set() and command.word in MOVES | {"reference"}:
-            self._see_told(command.word)
-        if command.word in WITHOUT_LINES | {"reference"}:
+        if command.word in MOVES | {"reference"}:
+            self._see_place(command.word)
+
+    def _see_place(self, word: str) -> None:
+        """Sees what a command makes known of where the motors are."""
+        self._see_told(word)
+        if word in WITHOUT_LINES | {"reference"}:
             self._look_at_way()
 
     def _look_at_way(self) -> None:
