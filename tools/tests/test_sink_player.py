@@ -12,7 +12,7 @@ sys.path.insert(0, str(Path(__file__).resolve().parent))
 from pace_support import excess, straight  # noqa: E402
 from player_support import InC, PlayerTest, Sanitized, played, record  # noqa: E402
 from session_support import FIRST, PATIENCE_S, TOOLS  # noqa: E402
-from sink_support import LATE_TICKS, TICK_NS, Made, ServedSink, changes, seen  # noqa: E402
+from sink_support import IS_CHIP, LATE_TICKS, TICK_NS, Made, ServedSink, changes, seen  # noqa: E402
 
 EXAMPLES = sorted((TOOLS.parent / "examples").glob("*.ngc"))
 COARSE = (FIRST.replace("[1000, 1000, 1000]", "[50000, 50000, 50000]").replace("[50000000]", "[50000000, 62500000, 0]")
@@ -20,7 +20,7 @@ COARSE = (FIRST.replace("[1000, 1000, 1000]", "[50000, 50000, 50000]").replace("
 FINE = FIRST.replace("[1000, 1000, 1000]", "[2500, 2500, 2500]")
 MOTION = "[motion]\naccel_mm_s2 = [500, 500, 500]\n"
 LONG = "P 1 0 0 50\n" * 4000  # 10 mm at 3,000 mm a minute: 20,000 steps a second, from which a stop takes 1,000
-PATIENT_MS, HASTY_MS = 20_000, 2
+PATIENT_MS, HASTY_MS = 20_000, 1 if IS_CHIP else 2
 RUNS = 16
 LOST = ("player: position: a lost step sink stopped the motors, and where they are isn't known: --at X Y Z tells it\n")
 
