@@ -49,7 +49,8 @@ QUESTIONS = (
 )
 
 
-FAILED = r"the player is gone|can't be (synced|written|read)|\bJ1\b|\bK5\b|Input/output error|No space left"
+FAILED = (r"the player is gone|doesn't let go of its lines|can't be (synced|written|read)|\bJ1\b|\bK5\b"
+          r"|Input/output error|No space left")
 """After these words a person ends the session, and starts both anew."""
 
 
