@@ -127,10 +127,15 @@ class Person:
             return "600" if "No feed is known" in text else ""
         return "no" if deed == "keep" else "yes"
 
+    def left_at(self) -> int:
+        """The move behind which the record has the motors; over a pipe, where lines are lost, that which comes next."""
+        if self.job.over == "pipe":
+            return self.to
+        return min(record_move(self.shop.folder), len(self.job.uncut.moves))
+
     def finds_path(self) -> None:
         """Motors that were measured may stand on the path all the same, where the record has them, or at the goal."""
-        left = record_move(self.shop.folder) if self.job.over != "pipe" else self.to
-        for move in (self.to, left):
+        for move in (self.to, self.left_at()):
             if self.ledger.on is None and not self.ledger.legs and self.job.uncut.points[move] == self.ledger.steps:
                 self.ledger.on = move
 
@@ -138,7 +143,7 @@ class Person:
         """How far up legs go; they have to lead to where the record has the motors, or to where the cut begins."""
         *at, low, high = found.groups()
         points = self.job.uncut.points
-        left = record_move(self.shop.folder) if self.job.over != "pipe" else self.to
+        left = self.left_at()
         moves = [move for move in (left, self.to) if points[move] == steps_of(at)]
         if not moves and self.ledger.is_by_hand:
             raise Unjudged("where the path was left is of a line of the person's own")
