@@ -321,7 +321,7 @@ CALLS = ("ngc mill.dev write {} kill", "ngc mill.dev sync {} kill", "ngc out wri
 @dataclass
 class Options:
     """How power is lost: at most so often in a chain. `kept` are what the disk keeps by chance, `fails` is the weight
-    of calls that fail, beside 100 losses, `over` what OUT is. Without moments each loss is at a line, or a call. So many
+    of calls that fail, beside 100 losses, `over` what OUT is. Without moments each loss is at a line or a call. So many
     `states` of the disk are judged of each loss, beside the one that the job goes on with."""
 
     losses: int = 5
@@ -509,7 +509,7 @@ class Chain:
 
 
 PLANTS = {"record-behind": "", "place-off": "", "way-short": "player pins write 9 skip",
-          "spindle-off": "player pins write 1 still+", "sink-more": ""}
+          "spindle-off": "player pins write 1 still+", "sink-more": "", "sync-lies": ""}
 """Faults, with the deeds of the session after the loss of power."""
 
 
@@ -540,7 +540,8 @@ def try_plant(tools: Tools, plant: str, seed: int) -> str:
     over = "sink" if plant == "sink-more" else "file"
     job = Job(text, run_uncut(tools.ngc, FIRST, text, []), over=over, has_ramps=over == "sink")
     at = 800 * chance.randint(0, 3) + chance.randint(300, 700)
-    lost = Plan(deeds=f"ngc out write {at} kill") if over == "sink" else Plan(line=at, is_all=False)
+    deeds = f"ngc out write {at} kill" if over == "sink" else "console out sync 1 lie+" if plant == "sync-lies" else ""
+    lost = Plan(deeds=deeds, line=0 if over == "sink" else at, is_all=False)
     plans = [lost, Plan(deeds=PLANTS.get(plant, ""))]
     tools = replace(tools, sink=tools.wrong_sink) if plant == "sink-more" else tools
     with tempfile.TemporaryDirectory(prefix="ngc-power-", dir=memory()) as name:
