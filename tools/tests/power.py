@@ -49,7 +49,8 @@ QUESTIONS = (
 )
 
 
-FAILED = r"the player is gone|can't be (synced|written|read)|\bJ1\b|\bK5\b|Input/output error|No space left"
+FAILED = (r"the player is gone|doesn't let go of its lines|can't be (synced|written|read)|\bJ1\b|\bK5\b"
+          r"|Input/output error|No space left")
 """After these words a person ends the session, and starts both anew."""
 
 
@@ -126,10 +127,15 @@ class Person:
             return "600" if "No feed is known" in text else ""
         return "no" if deed == "keep" else "yes"
 
+    def left_at(self) -> int:
+        """The move behind which the record has the motors; over a pipe, where lines are lost, that which comes next."""
+        if self.job.over == "pipe":
+            return self.to
+        return min(record_move(self.shop.folder), len(self.job.uncut.moves))
+
     def finds_path(self) -> None:
         """Motors that were measured may stand on the path all the same, where the record has them, or at the goal."""
-        left = record_move(self.shop.folder) if self.job.over != "pipe" else self.to
-        for move in (self.to, left):
+        for move in (self.to, self.left_at()):
             if self.ledger.on is None and not self.ledger.legs and self.job.uncut.points[move] == self.ledger.steps:
                 self.ledger.on = move
 
@@ -137,7 +143,7 @@ class Person:
         """How far up legs go; they have to lead to where the record has the motors, or to where the cut begins."""
         *at, low, high = found.groups()
         points = self.job.uncut.points
-        left = record_move(self.shop.folder) if self.job.over != "pipe" else self.to
+        left = self.left_at()
         moves = [move for move in (left, self.to) if points[move] == steps_of(at)]
         if not moves and self.ledger.is_by_hand:
             raise Unjudged("where the path was left is of a line of the person's own")
@@ -315,7 +321,7 @@ CALLS = ("ngc mill.dev write {} kill", "ngc mill.dev sync {} kill", "ngc out wri
 @dataclass
 class Options:
     """How power is lost: at most so often in a chain. `kept` are what the disk keeps by chance, `fails` is the weight
-    of calls that fail, beside 100 losses, `over` what OUT is. Without moments each loss is at a line, or a call. So many
+    of calls that fail, beside 100 losses, `over` what OUT is. Without moments each loss is at a line or a call. So many
     `states` of the disk are judged of each loss, beside the one that the job goes on with."""
 
     losses: int = 5
@@ -503,7 +509,7 @@ class Chain:
 
 
 PLANTS = {"record-behind": "", "place-off": "", "way-short": "player pins write 9 skip",
-          "spindle-off": "player pins write 1 still+", "sink-more": ""}
+          "spindle-off": "player pins write 1 still+", "sink-more": "", "sync-lies": ""}
 """Faults, with the deeds of the session after the loss of power."""
 
 
@@ -534,7 +540,8 @@ def try_plant(tools: Tools, plant: str, seed: int) -> str:
     over = "sink" if plant == "sink-more" else "file"
     job = Job(text, run_uncut(tools.ngc, FIRST, text, []), over=over, has_ramps=over == "sink")
     at = 800 * chance.randint(0, 3) + chance.randint(300, 700)
-    lost = Plan(deeds=f"ngc out write {at} kill") if over == "sink" else Plan(line=at, is_all=False)
+    deeds = f"ngc out write {at} kill" if over == "sink" else "console out sync 1 lie+" if plant == "sync-lies" else ""
+    lost = Plan(deeds=deeds, line=0 if over == "sink" else at, is_all=False)
     plans = [lost, Plan(deeds=PLANTS.get(plant, ""))]
     tools = replace(tools, sink=tools.wrong_sink) if plant == "sink-more" else tools
     with tempfile.TemporaryDirectory(prefix="ngc-power-", dir=memory()) as name:

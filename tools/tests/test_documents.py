@@ -247,11 +247,12 @@ class Tools(Documents):
     def test_plug(self) -> None:
         """Their words, and a moment of each."""
         _, tried = self.chapter("TOOLS.md", "The plug")
-        for synopsis, more in tried:
+        moment = "--moments 1 --blocks 10"
+        own = ((moment, "1 moments in "), (f"{moment} --cut", "1 moments in "), ("--chains 1", " 1 chains, "))
+        for (synopsis, more), (words, said) in zip(tried, own, strict=True):
             program, wanted = synopsis.split()[0], set(re.findall(r"--[a-z-]+", synopsis + more))
             self.assertEqual(wanted - set(re.findall(r"--[a-z-]+", self.shell(f"{program} --help"))), set())
-            own = "--cut" if "--cut" in wanted else ""
-            self.assertIn("1 moments in ", self.shell(f"{program} --ngc {ngc()} --moments 1 --blocks 10 {own}"))
+            self.assertIn(said, self.shell(f"{program} --ngc {ngc()} {words}"))
 
     def test_page(self) -> None:
         """The options of the page; tests/test_page.py has the rest."""

@@ -81,7 +81,7 @@ class Power(unittest.TestCase):
         """Each planted fault is found, where the motors aren't or what isn't on, and nothing where none is planted."""
         for plant in power.PLANTS:
             found = power.try_plant(self.tools, plant, 1)
-            self.assertRegex(found, "motors stand at|is made with|legs lead|is at its end", plant)
+            self.assertRegex(found, "motors stand at|is made with|legs lead|is at its end|are on the disk", plant)
         self.assertEqual(power.try_plant(self.tools, "", 1), "")
 
     def judged(self, over: str, share: float, seed: int) -> None:
