@@ -1,6 +1,6 @@
 /* The player for motors: carries out the lines of OUT, each in its time, and keeps what was carried out.
  *
- *     cc -std=c11 -O2 -pthread *.c ../sink/sender.c ../sink/wire.c -o player
+ *     make
  *
  * docs/TOOLS.md says what it does: it is ngc-player, but for --spindle and --live. What drives the motors is
  * pins.c, which a builder replaces. Nothing is allocated once it plays. */

@@ -184,6 +184,12 @@ enum end end_of_out(struct play *play) {
     return stop_at_line(play, &what);
 }
 
+bool read_taken(const struct play *play, const char *text, size_t size, struct line *line, struct cause *why) {
+    size_t length = size - (text[size - 1] == '\n');
+    bool keeps_times = !play->options->is_untimed || play->options->times != NULL;
+    return line_read(text, length, play->least_us, line, why) && (!keeps_times || line_fits_clock(line, why));
+}
+
 /* How long a line lasts, in nanoseconds, as OUT says. */
 static uint64_t lasts_ns(const struct line *line) {
     uint64_t us = line->kind == 'S' ? 0 : line->us;
@@ -209,8 +215,7 @@ static enum end carry_out_all(struct play *play) {
         if (size == 0) {
             return end_of_out(play);
         }
-        size_t length = size - (text[size - 1] == '\n');
-        if (!line_read(text, length, play->least_us, &line, &what)) {
+        if (!read_taken(play, text, size, &line, &what)) {
             return stop_at_line(play, &what);
         }
         if (!is_ready(play, &line)) {

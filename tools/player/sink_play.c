@@ -14,7 +14,8 @@ static struct sink_inputs session; /* which inputs the sink heeds */
 
 static struct sink_inputs inputs_of(const struct play *play, uint32_t stops, uint32_t halts, uint32_t turned) {
     const struct sink_inputs inputs = {(uint16_t)stops, (uint16_t)halts,
-                                       (uint16_t)(play->machine.inputs.low ^ turned)};
+                                       (uint16_t)(play->machine.inputs.low ^ turned),
+                                       (uint16_t)play->machine.sink.debounce_us};
     return inputs;
 }
 

@@ -36,7 +36,7 @@ from ngc_tools.ngc.handed_out import Finder, FileRecord, _only  # noqa: E402
 from ngc_tools.operator.meter import Meter  # noqa: E402
 from ngc_tools.operator.operator import Operator  # noqa: E402
 from ngc_tools.operator.past import along_out, by_rate  # noqa: E402
-from ngc_tools.operator.recovery import OutFound, Recovery  # noqa: E402
+from ngc_tools.operator.recovery import Looking, OutFound, Recovery  # noqa: E402
 from ngc_tools.operator.sentences import GO_ON, LOOK, LOOK_AGAIN, LOOK_SWITCHED, SWITCHED_THERE  # noqa: E402
 from ngc_tools.operator.synced import SyncedLink  # noqa: E402
 from ngc_tools.player.source import Source  # noqa: E402
@@ -437,6 +437,66 @@ class Finding(InFolder):
                          (wanted, uncut.at(wanted), False))
         self.assertEqual(whole.splitlines(), uncut.lines[:whole.count(b"\n")])
         self.assertGreaterEqual(len(whole), found.size)
+        self.try_whole(uncut, chance, lines, wanted)
+
+    def try_whole(self, uncut: object, chance: random.Random, lines: list[bytes], wanted: int) -> None:
+        """The same where nothing of OUT is lost, as within a session."""
+        carried = chance.randint(max(0, len(lines) - 150), len(lines))
+        Path("c.out").write_bytes(b"".join(lines))
+        finder = Finder(ngc(), "settings.toml", Path("c.dev").read_bytes(), is_whole=True)
+        size, (x, y, z) = sum(map(len, lines[:carried])), uncut.at(carried)
+        found = finder.find("c.out", FileRecord(size, (x, y, z)))
+        self.assertEqual((b"".join(lines)[:found.size].count(b"\n"), found.steps, found.missing, found.is_off),
+                         (wanted, uncut.at(wanted), b"", False))
+
+    def test_whole(self) -> None:
+        """Where nothing of OUT is lost the session's work isn't done again: the open segment's own lines tell where it
+        begins, and where nothing is open, that is at the end."""
+        self.device()
+        console = Console(ngc(), "mill.dev", "first.toml", "out")
+        self.addCleanup(console.kill)
+        console.load(b"G21 G90 G94\nG1 X0.5 F60\nX0\nX0.03\nM2\n")
+        console.ask("start")
+        for count, half, begins, x in ((80, "program", 0, 0), (500, "none", 500, 500), (600, "program", 500, 500),
+                                       (1012, "program", 1000, 0)):
+            while Path("out").read_bytes().count(b"\n") < count or console.status().half != half:
+                console.ask("tick 1")
+            lines = Path("out").read_bytes().splitlines(True)
+            self.assertEqual(len(lines), count)
+            stands, size = sum(int(line.split()[1]) for line in lines), sum(map(len, lines))
+            finder = Finder(ngc(), "first.toml", Path("mill.dev").read_bytes(), is_whole=True)
+            with patch.object(Finder, "_by_log", side_effect=AssertionError("it is done again")):
+                for y in (0, 9):  # on the path, and off it
+                    found = finder.find("out", FileRecord(size, (stands, y, 0)))
+                    self.assertEqual((found.size, found.steps, found.missing, found.is_off),
+                                     (sum(map(len, lines[:begins])), (x, 0, 0), b"", y != 0), count)
+
+    def test_outputs(self) -> None:
+        """What was on where the segment begins is known without a search in OUT for the switch, which may be an hour
+        back; one within the segment counts."""
+        self.device()
+        text = "G21 G90 G94\nM3 S100\nG1 X0.5 F60\nG86 X0.6 Z-0.1 R0.1 P1\nM2\n"
+        console = Console(ngc(), "mill.dev", "first.toml", "out")
+        self.addCleanup(console.kill)
+        console.load(text.encode())
+        console.ask("start")
+        for count in (300, 900):
+            while Path("out").read_bytes().count(b"\n") < count:
+                console.ask("tick 1")
+            with open("out", "rb") as file, patch("ngc_tools.operator.recovery.switched_at",
+                                                  side_effect=AssertionError("OUT is searched")):
+                size = len(Path("out").read_bytes())
+                at_nm = self.led_to(Path("out").read_bytes())
+                looking = Looking(ngc(), "first.toml", Path("mill.dev").read_bytes(), is_whole=True)
+                found = looking.look("out", file.fileno(), count, size, at_nm, OFF)
+            self.assertEqual((found.problem, found.outputs.spindle, found.outputs.speed), ("", 1, 100 * 10**6), count)
+
+    @staticmethod
+    def led_to(text: bytes) -> tuple[int, int, int]:
+        """Where lines lead, in nm: by hand, a step of 1 um each."""
+        pulses = [list(map(int, line.split()[1:4])) for line in text.splitlines() if line.startswith(b"P")]
+        x, y, z = (1000 * sum(axis) for axis in zip(*pulses))
+        return x, y, z
 
     def test_short(self) -> None:
         """Where less was handed out than the bytes by which a place is known, the search comes to its end: by hand, OUT

@@ -3,7 +3,8 @@
 The device's log tells it. `ngc run` does again, over a copy, what the session did since its last command, and hands out
 the same lines: those before the open segment, and then the segment's own. OUT ends with a beginning of them, and how
 long that is says where in OUT the segment begins, or how much of OUT was lost. Where the log tells nothing any more, as
-after a second power on, the segment's own lines and the point at which it begins tell it."""
+after a second power on, the segment's own lines and the point at which it begins tell it; so they do where nothing of
+OUT is lost, as within a session, since what was handed out before may be an hour's work."""
 import mmap
 import os
 from collections.abc import Callable, Iterator
@@ -91,6 +92,17 @@ class NeverCut:
     least: int
 
 
+@dataclass(frozen=True, slots=True)
+class _InWhole:
+    """An OUT of so many bytes has all that was handed out, and leads to `ends`. The open segment begins behind its
+    first `begin` bytes, at `steps`."""
+
+    size: int
+    begin: int
+    steps: Steps
+    ends: Steps
+
+
 class _Text(Copy):
     """A copy that keeps all that is handed out."""
 
@@ -109,12 +121,14 @@ class _Text(Copy):
 class Finder:
     """Finds it, with `ngc` and the settings of the session."""
 
-    def __init__(self, ngc: str, settings: str | Path, image: bytes, note: OutNote | None = None) -> None:
+    def __init__(self, ngc: str, settings: str | Path, image: bytes, note: OutNote | None = None,
+                 is_whole: bool = False) -> None:
         """`image` is the device as the session left it, or as it stood since, `note` what was noted of OUT beside it.
-        Raises NoDevice, BadSettings, OSError."""
-        self.ngc, self.settings, self.image, self.note = ngc, settings, image, note
+        `is_whole`: OUT has all that was handed out. Raises NoDevice, BadSettings, OSError."""
+        self.ngc, self.settings, self.image, self.note, self.is_whole = ngc, settings, image, note, is_whole
         self.step_nm = Settings.read(settings).step_nm
         self.device = Device(image)
+        self._in_whole: _InWhole | None = None
 
     def find(self, out: str | Path, kept: FileRecord) -> SegmentBeginning:
         """Where the open segment begins. Raises CannotTell, which names what doesn't belong together, CommandRefused,
@@ -126,8 +140,33 @@ class Finder:
                 raise CannotTell(f"{out} has {text.rfind(bytes([10])) + 1:,} bytes of whole lines, and the record counts"
                                  f" {kept.size:,}: they don't belong together")
             size = end_of_lines(text, kept.size)  # behind a hole nothing tells where it leads
-            found = self._by_note(text, size, kept) if self.note and self._is_noted(file.fileno()) else None
-            return found or self._found(text, size, kept.ends(text[kept.size:size]), str(out))
+            ends = kept.ends(text[kept.size:size])
+            found = self._by_end(text, size, ends[0]) if self.is_whole else None
+            if found is None and self.note and self._is_noted(file.fileno()):
+                found = self._by_note(text, size, kept)
+            return found or self._found(text, size, ends, str(out))
+
+    def _by_end(self, text: "bytes | mmap.mmap", size: int, end: _End) -> SegmentBeginning | None:
+        """What the segment's own lines alone tell of an OUT that has all that was handed out, wherever the motors are
+        since it was looked at first; None where they don't tell it. Raises OSError."""
+        known = self._in_whole
+        if known is None or known.size != size:
+            try:
+                known = self._in_whole = self._look_at_end(text, size, end.steps)
+            except (CannotTell, CommandRefused, Ended):
+                return None
+        return known and SegmentBeginning(known.begin, known.steps, is_off=end.is_off or end.steps != known.ends)
+
+    def _look_at_end(self, text: "bytes | mmap.mmap", size: int, ends: Steps) -> "_InWhole | None":
+        """Where in such an OUT the open segment begins, or nothing is open; None where the place of the motors, and the
+        lines with which OUT ends, don't say it. Raises as `find`."""
+        if not self.device.state.half:
+            point = tuple(map(rounded, self.device.state.point_nm, self.step_nm))
+            is_there = self.device.state.point_known and point == ends
+            return _InWhole(size, size, ends, ends) if is_there else None
+        own = self._own()
+        counts = [count for count in _places(own.own, own.start, ends) if _is_end(text, size, own.own, count)]
+        return _InWhole(size, size - counts[0], own.start, ends) if len(counts) == 1 else None
 
     def _is_noted(self, file: int) -> bool:
         """Whether the note speaks of this file."""

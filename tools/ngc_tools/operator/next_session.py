@@ -31,14 +31,15 @@ class NextSession:
         NoAnswer, Ended, OSError."""
         session, console = self.session, self.session.console
         link = session.meter.link if session.meter else None
+        is_whole = isinstance(link, SyncedLink) and link.is_following  # nothing is lost within a session
         console.ask("hold")
         self.let_go()
         if status := console.quit():
             raise Ended(status, [])
         found = _stored(console.device)
         if isinstance(link, SyncedLink):
-            look = OutFound.cut_off if drops else OutFound.of
-            self.recover.found = look(console.ngc, console.settings, link, found)
+            given = console.ngc, console.settings, link, found
+            self.recover.found = OutFound.cut_off(*given) if drops else OutFound.of(*given, is_whole)
         console.start()
         console.status()
         for name in ("optional", "delete"):

@@ -343,7 +343,10 @@ class Operator:
             return
         if self.console.status().half == "none":
             self.left.keep()
+        is_still = self.recover.is_still()
         self.places.reference(typed.rest.lower().split(), typed.anyway)
+        if is_still:
+            self.recover.still()
         if typed.rest.lower() != "player":
             self.moves.touched = None
 

@@ -93,6 +93,10 @@ class Recover:
         elif status.half != "none":
             self.session.face.say(HALF, WARNING)
 
+    def is_still(self) -> bool:
+        """Whether nothing was done since the session began but what left all as it was."""
+        return self.session.console.status().entries == self._entries
+
     def still(self) -> None:
         """What was done since the session began left what the last one left as it was."""
         self._entries = self.session.console.status().entries

@@ -88,10 +88,12 @@ class Recovery:
 class Looking:
     """Looks at OUT, with `ngc`, the settings and the device as the session left it."""
 
-    def __init__(self, ngc: str, settings: str, image: bytes, note: OutNote | None = None) -> None:
-        """`note` is what was noted of OUT beside the device. Raises NoDevice, BadSettings, OSError."""
+    def __init__(self, ngc: str, settings: str, image: bytes, note: OutNote | None = None,
+                 is_whole: bool = False) -> None:
+        """`note` is what was noted of OUT beside the device; `is_whole`: OUT has all that was handed out. Raises
+        NoDevice, BadSettings, OSError."""
         self.settings, self.path = Settings.read(settings), settings
-        self.finder = Finder(ngc, settings, image, note)
+        self.finder = Finder(ngc, settings, image, note, is_whole)
         self.device = Device(image)
 
     def look(self, out: str, file: int, lines: int, size: int, at_nm: Point, kept: Switch,
@@ -112,8 +114,11 @@ class Looking:
         return x, y, z
 
     def _outputs(self, file: int, size: int, to: int, kept: Switch) -> Switch:
-        """The outputs where the motors are. Where the switch that set them can't be read any more, they are those with
-        which the segment begins, or those handed out last, unless a switch stands between."""
+        """The outputs where the motors are. Within the segment they are those with which it begins, but for a switch in
+        it: so OUT isn't searched for one that was long ago. Before it, where the switch that set them can't be read any
+        more, they are those too, or those handed out last, unless a switch stands between."""
+        if self.device.state.half and to <= size and not is_switch_between(file, to, size):
+            return self.finder.segment(self.device.image)[1]
         found = switched_at(file, size, kept)
         if found is not None:
             return found
@@ -168,9 +173,10 @@ class OutFound:
     _at_nm: Point = (0, 0, 0)
 
     @staticmethod
-    def of(ngc: str, settings: str, link: SyncedLink, device: Device | None) -> "OutFound":
-        """Looks, and mends. The player goes on at once where no line is left. Raises NoAnswer, BadSettings, OSError."""
-        looking = Looking(ngc, settings, device.image, link.noted()) if device else None
+    def of(ngc: str, settings: str, link: SyncedLink, device: Device | None, is_whole: bool = False) -> "OutFound":
+        """Looks, and mends. The player goes on at once where no line is left. `is_whole`: OUT has all that was handed
+        out. Raises NoAnswer, BadSettings, OSError."""
+        looking = Looking(ngc, settings, device.image, link.noted(), is_whole) if device else None
         found = OutFound(link, looking, Recovery(), [])
         found.look()
         lost = found.recovery.beginning.missing if found.recovery.beginning else b""

@@ -88,9 +88,12 @@ _REPORT = re.compile(rf"carried (\d+) received (\d+) ({_WORDS}|waits tool (\d{{1
                      r" outputs (S \d \S+ \d \d \d+ \d+)(?: again (S \d \S+ \d \d \d+ \d+))? percent (\d+)"
                      r" spindle (\d+) wants (\d+) out (.*)",
                      re.DOTALL)
-MOVED, BROKEN = "moved", "broken"
-"""What a report says behind a move without lines, until the player is told that `ngc` knows where the machine is, and
-where no more line of this session is carried out."""
+UNDER_WAY = "moves"
+"""What a report says while a move without lines is under way."""
+MOVED = "moved"
+"""What a report says behind a move without lines, until the player is told that `ngc` knows where the machine is."""
+BROKEN = "broken"
+"""What a report says where no more line of this session is carried out."""
 _POINT = r"none|\S+ \S+ \S+"
 _MACHINE = re.compile(rf"does (stands|(?:home|jog|seek) \S+) homed ([XYZ]+|none) alarm (\w+) on (\S+)"
                       rf" touched ({_POINT}) ended (\d+) (.*)", re.DOTALL)
@@ -451,6 +454,15 @@ class Link:
     def stop(self) -> None:
         """Ends a move without lines, by a ramp. Raises NoAnswer."""
         self._send(b"stop")
+
+    def end_move(self) -> None:
+        """The same, and waits until it is over. Raises NoAnswer, also where it doesn't come to that."""
+        until = time.monotonic() + self.patience_s
+        while self.machine().does != "stands":
+            if time.monotonic() > until:
+                raise NoAnswer(f"{self.path}: the motors don't come to rest")
+            self.stop()
+            time.sleep(0.02)
 
     def _move(self, verb: str, what: str) -> tuple[int, str]:
         self._moves += 1
