@@ -214,8 +214,9 @@ class Player(Goes):
         """Stands where the record can't be kept, with spindle and coolant off, until it can, and another session
         follows: no more line of this one is carried out. Raises Stopped, or OSError of the pins."""
         self._turn_off()
-        self.manner.said(f"{self.source.path}: {why}; {self.keeper.path}: {self.keeper.why.strerror}; spindle and coolant"
-                         " off. Once it can, another session goes on")
+        cause = f"{self.keeper.path}: {self.keeper.why.strerror}"
+        self.manner.said(f"{self.source.path}: {why}; {cause}; spindle and coolant off. Once it can, another session"
+                         " goes on")
         self.is_broken = True
         while not (self._wants_anew and self.keeper.failed is None):
             if self.stops or self.answers.ended:
