@@ -63,7 +63,8 @@ struct player {
 
     atomic_uint worst_ms;     /* how old the record on the disk was at most while something newer was there */
     atomic_int tool;          /* the slot that a person is asked for, or NO_TOOL */
-    atomic_int record_error;  /* why the record can't be kept any more; 0 */
+    atomic_int record_error;  /* why the record can't be kept now; 0 .. */
+    atomic_int record_why;    /* .. and why it couldn't be last */
     atomic_bool is_held;      /* somebody asks for a rest */
     atomic_bool is_untold;    /* they moved without lines, and nobody said since that `ngc` knows where they are */
     atomic_bool stands_held;  /* it has come to rest for that */

@@ -44,8 +44,8 @@ static int print_lines(const struct record *record, const char *path, char whole
         snprintf(stopped, sizeof stopped, "stopped %s\n", record->stopped);
     }
     return snprintf(whole, RECORD_SIZE, "out %s\nlines %" PRIu64 "\nbytes %" PRIu64 "\noutputs %s\nreference %s\n"
-                    "%s%s%s%s%s%s%s", record->out, record->lines, record->bytes, outputs, place, mark, path, screws, age,
-                    homed, record->is_off ? "off\n" : "", stopped);
+                    "%s%s%s%s%s%s%s", record->out, record->lines, record->bytes, outputs, place, mark, path, screws,
+                    age, homed, record->is_off ? "off\n" : "", stopped);
 }
 
 void record_print(const struct record *record, char text[RECORD_SIZE]) {

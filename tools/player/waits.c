@@ -148,11 +148,11 @@ static void break_off(struct player *player) {
 
 bool await_record(struct play *play) {
     struct player *player = play->player;
-    if (player->socket < 0 || atomic_load(&player->record_error) == 0 || atomic_load(&stops) > 0 || !switch_off(play)) {
+    if (player->socket < 0 || strcmp(player->stopped, "record") != 0 || atomic_load(&stops) > 0 || !switch_off(play)) {
         return false;
     }
     say("%s: %s %s: %s; spindle and coolant off. Once it can, another session goes on", play->options->out,
-        play->why.text, play->options->position, strerror(atomic_load(&player->record_error)));
+        play->why.text, play->options->position, strerror(atomic_load(&player->record_why)));
     break_off(player);
     while (atomic_load(&stops) == 0 && !is_left(play)) {
         alarm_drop_lines(player);

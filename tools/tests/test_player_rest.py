@@ -180,8 +180,8 @@ FULL = r"""#define _GNU_SOURCE
 int fdatasync(int file) {
     struct stat what, record;
     int (*real)(int) = dlsym(RTLD_NEXT, "fdatasync");
-    if (access("full", F_OK) == 0 && fstat(file, &what) == 0 && stat("position", &record) == 0
-        && what.st_ino == record.st_ino) {
+    int is_record = fstat(file, &what) == 0 && stat("position", &record) == 0 && what.st_ino == record.st_ino;
+    if (is_record && (access("full", F_OK) == 0 || unlink("once") == 0)) {
         errno = ENOSPC;
         return -1;
     }
@@ -225,6 +225,22 @@ class FullForTheRecord:
                       " spindle and coolant off. Once it can, another session goes on\n", said)
         at = Record.read("position")
         self.assertEqual(Path("pins").read_text().count("P 1 0 0 1000"), at.lines - 1)
+
+    def test_once(self) -> None:
+        """So it is where a write fails once, and the next one doesn't: it doesn't end."""
+        Path("out").write_text(ON + "P 1 0 0 1000\n" * 9000)
+        child = self.begin("--follow", "--no-ask-tool", "--progress", "progress", "out", "first.toml", "position",
+                           env=preloaded("full", FULL))
+        link = self.linked()
+        link.synced(os.path.getsize("out"))
+        self.wait_for("it goes", lambda: link.ask().carried > 100)
+        Path("once").touch()
+        self.wait_for("it failed", lambda: not os.path.exists("once"))
+        for _ in range(20):
+            before = link.ask()
+            time.sleep(0.02)
+        self.assertTrue(before.word == "broken" or link.ask().carried > before.carried, before)
+        self.assertIsNone(child.poll())
 
     def test_ends(self) -> None:
         """Ctrl-C ends it all the same, with the record as it stands where that can be kept by then."""

@@ -712,8 +712,8 @@ class Recovering(WithOperator):
         self.assertEqual(face.said, ["recover is for what the last session left, before anything else is done"])
 
     def test_place_within_a_cycle(self) -> None:
-        """The place that is shown is that of the segment, which isn't the block's first: the way out of a hole at X0.002
-        Y0.003, from its bottom at Z-0.004."""
+        """The place that is shown is that of the segment, which isn't the block's first: the way out of a hole at
+        X0.002 Y0.003, from its bottom at Z-0.004."""
         self.device()
         text = "F60\nG81 X0.002 Y0.003 Z-0.004 R0.001\nM2\n"
         self.run_ngc(f"load {len(text)}\n{text}start\ntick 19\nquit\n")
@@ -1213,8 +1213,8 @@ class EndsWhereItBegan(WithOperator):
         self.lost(lines, count)
         operator, face = self.operate("yes", "yes", "yes")
         lost = len(lines) - count
-        self.assertIn(f"out: {lost} lines that were handed out were lost with the power, and are put back: ngc run hands"
-                      " out the same ones again", face.said)
+        self.assertIn(f"out: {lost} lines that were handed out were lost with the power, and are put back: ngc run"
+                      " hands out the same ones again", face.said)
         operator.do("run")
         self.assertIn("nothing is done: lines stand in OUT", face.said[-1])
         operator.do("recover")
@@ -1383,8 +1383,8 @@ class Holes(WithOperator):
         self.with_hole(14, 40, 1, (1000, 0, 0))
         operator, face = self.operate("yes", "yes", "yes")
         said = [said for said in face.said if said.startswith("out: ")]
-        self.assertEqual(said, ["out: behind its line 1, at byte 11, 26 bytes of zeros stood in the place of lines, which"
-                                " the disk lost. It\nis cut off there, with 6 lines behind them that no motor carried"
+        self.assertEqual(said, ["out: behind its line 1, at byte 11, 26 bytes of zeros stood in the place of lines,"
+                                " which the disk lost. It\nis cut off there, with 6 lines behind them that no motor carried"
                                 " out", "out: 2 lines that were handed out were lost with the power, and are put back:"
                                 " ngc run hands out the same ones again"])
         operator.do("recover")
@@ -1404,8 +1404,8 @@ class Holes(WithOperator):
         """Zeros at the end, where the file is as long as it was to be."""
         self.with_hole(55, 120, 4, (3000, 0, 1000))
         _, face = self.operate()
-        self.assertIn("out: behind its line 5, at byte 55, 65 bytes of zeros stood in the place of lines, which the disk"
-                      " lost. It\nis cut off there, with 0 lines behind them that no motor carried out", face.said)
+        self.assertIn("out: behind its line 5, at byte 55, 65 bytes of zeros stood in the place of lines, which the"
+                      " disk lost. It\nis cut off there, with 0 lines behind them that no motor carried out", face.said)
         self.assertEqual(Path("out").stat().st_size, 55)
 
     def test_never_cut(self) -> None:
@@ -1507,8 +1507,8 @@ class Unsynced(WithOperator):
         self.disk.fails = True
         self.operator.do("G0 X0.5")
         why = self.operator.session.meter.link.failed
-        self.assertEqual(why, "out: it can't be synced: Input/output error. What was handed out last may be lost, though"
-                         " it can be read, and no motor makes it before it is on the disk. Once the disk is well, quit,"
+        self.assertEqual(why, "out: it can't be synced: Input/output error. What was handed out last may be lost,"
+                         " though it can be read, and no motor makes it before it is on the disk. Once the disk is well, quit,"
                          " and start this again: it writes OUT again")
         self.assertIn(f"{why}; nothing more is handed out", self.face.said)
         handed_out = Path("out").read_bytes()

@@ -32,8 +32,8 @@ _PART = re.compile(rb"[PDS](?: [-0-9. ]{0,198})?")  # of a line of OUT
 
 @dataclass(frozen=True, slots=True)
 class Hole:
-    """Behind the first `at` bytes of OUT, its line `line`, zeros stood in the place of lines, `zeros` bytes of them. OUT
-    is cut off there, with `lines` lines that stood behind."""
+    """Behind the first `at` bytes of OUT, its line `line`, zeros stood in the place of lines, `zeros` bytes of them.
+    OUT is cut off there, with `lines` lines that stood behind."""
 
     at: int
     line: int

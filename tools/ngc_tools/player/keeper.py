@@ -101,7 +101,8 @@ class Keeper:
         carried out. Raises OSError or BadRecord."""
         self.worst_ms = 0.0
         self._found_ms = found_ms
-        self.failed: OSError | None = None
+        self.failed: OSError | None = None  # why it can't be kept now ..
+        self.why: OSError | None = None  # .. and why it couldn't be last
         self._file, self.path = file, file.path
         self._standing = standing
         self._end = threading.Event()
@@ -123,7 +124,7 @@ class Keeper:
             try:
                 was_newer = self._keep()
             except OSError as error:
-                self.failed = error
+                self.failed = self.why = error
                 continue
             self.failed = None
             if was_newer:

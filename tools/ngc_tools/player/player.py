@@ -213,10 +213,10 @@ class Player(Goes):
     def _await_record(self, why: Stopped) -> None:
         """Stands where the record can't be kept, with spindle and coolant off, until it can, and another session
         follows: no more line of this one is carried out. Raises Stopped, or OSError of the pins."""
-        failed = self.keeper.failed
         self._turn_off()
-        self.manner.said(f"{self.source.path}: {why}; {self.keeper.path}: {failed.strerror if failed else ''}; spindle and"
-                         " coolant off. Once it can, another session goes on")
+        cause = f"{self.keeper.path}: {self.keeper.why.strerror}"
+        self.manner.said(f"{self.source.path}: {why}; {cause}; spindle and coolant off. Once it can, another session"
+                         " goes on")
         self.is_broken = True
         while not (self._wants_anew and self.keeper.failed is None):
             if self.stops or self.answers.ended:
