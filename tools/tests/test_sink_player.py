@@ -220,7 +220,9 @@ class Stops(InC, OverSink, unittest.TestCase):
         self.assertEqual(self.run_player("--anew", *self.words()).stderr, "")
         made = [each for each in sink.end() if each.step and any(each.step)][:60_000]
         Path("out").write_text(LONG * 15)
-        self.assertLess(excess(self.timed(self.check_made(made)), (200_000,) * 3), 4)
+        ticks = self.check_made(made)
+        if not IS_CHIP:  # whose steps are up to a microsecond to and fro
+            self.assertLess(excess(self.timed(ticks), (200_000,) * 3), 4)
 
     def kill(self, sink: ServedSink) -> None:
         """Kills a player over 60,000 lines in the midst of them."""
