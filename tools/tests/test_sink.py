@@ -578,13 +578,14 @@ class Faults(SinkTest):
             self.sink.run(1)
             self.sink.ask("inputs 0")
             answer = self.sink.last(6)
-            self.assertEqual((answer.state, answer.fault), (RUNS, NOTHING), ticks)
+            self.assertEqual((answer.state, answer.fault, answer.inputs), (RUNS, NOTHING, 0), ticks)
             at = self.sink.now
             self.sink.ask("inputs 4")
             events, line = self.sink.run(10)
             off = next(event[0] for event in events if len(event) == 7) - at
             self.assertTrue(2 * MS <= off <= 5 * MS, (ticks, off))
-            self.assertEqual(answers(line)[-1].fault, INPUT)
+            told = [answer.inputs for answer in answers(line) if answer.state in (STANDS, RUNS)]
+            self.assertEqual((answers(line)[-1].fault, answers(line)[-1].inputs, set(told) - {0}), (INPUT, 4, set()))
             self.sink.ask("inputs 0")
 
     @ON_HOST
