@@ -96,14 +96,14 @@ static uint64_t real_ms(void) {
     return (uint64_t)moment.tv_sec * 1000 + (uint64_t)moment.tv_nsec / 1000000;
 }
 
-/* Whether the clock may go on by a slice: no word is late for it, or it has waited for long enough. */
+/* Whether the clock may go on by a slice: no word is late for it, or none can come, or it has waited long enough. */
 static bool may_go_on(void) {
     static struct sink sink;
     device_look(&sink);
     bool is_early = tempo > 0 && (device_now() - tempo_ticks) / SLICE_TICKS * 100 > (real_ms() - tempo_from) * tempo;
     bool runs = sink.state == SINK_RUNS;
     bool is_asked = sink.is_touched || sink.asked != FAULT_NONE;
-    bool is_in_order = runs && (is_asked || is_in_time(&sink));
+    bool is_in_order = runs && (is_asked || line_is_cut() || is_in_time(&sink));
     return !is_early && (is_in_order || real_ms() - waited >= (runs ? serves_ms : 1));
 }
 

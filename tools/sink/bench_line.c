@@ -57,6 +57,10 @@ void line_cut(uint64_t until) {
     cut_until = until;
 }
 
+bool line_is_cut(void) {
+    return device_now() < cut_until;
+}
+
 /* Whether a fault befalls a frame. */
 static bool is_faulty(void) {
     random_state = random_state * 1664525 + 1013904223;
@@ -66,7 +70,7 @@ static bool is_faulty(void) {
 /* What of a frame comes through: all of it, a part, nothing, or it with a byte changed; and how often. */
 static size_t pass(uint8_t *bytes, size_t size, int *times) {
     *times = is_faulty() ? 2 : 1;
-    if (device_now() < cut_until || is_faulty()) {
+    if (line_is_cut() || is_faulty()) {
         return 0;
     }
     if (is_faulty()) {

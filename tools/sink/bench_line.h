@@ -15,6 +15,8 @@ void line_set_faults(uint32_t seed, uint32_t rate);
 /* Nothing comes through before this tick. */
 void line_cut(uint64_t until);
 
+bool line_is_cut(void);
+
 /* Waits until so many bytes have come in all, and gives them to the device as they came. */
 void line_receive(unsigned long bytes);
 

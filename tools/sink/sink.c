@@ -179,6 +179,13 @@ static void stand(struct sink *sink, uint32_t passed) {
     }
 }
 
+/* The inputs as they are told: one that has to be on for some time to stop dead isn't on before it has stopped. */
+static uint16_t inputs_told(const struct sink *sink, uint8_t state) {
+    bool is_looked_at = state == SINK_STANDS || state == SINK_RUNS;
+    uint16_t not_heeded = is_looked_at && sink->inputs.debounce_us > 0 ? sink->inputs.stops : 0;
+    return (uint16_t)(sink_inputs(sink) & ~not_heeded);
+}
+
 /* The state is read first: with that of a fault the count is final. */
 static void answer(struct sink *sink) {
     struct sink_answer now;
@@ -187,7 +194,7 @@ static void answer(struct sink *sink) {
     now.made = sink->made;
     now.taken = sink_taken(sink)->words;
     now.session = sink->session;
-    now.inputs = sink_inputs(sink);
+    now.inputs = inputs_told(sink, now.state);
     now.lost = sink->lost;
     now.token = sink->token;
     now.touched = sink->touched;

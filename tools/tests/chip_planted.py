@@ -70,7 +70,7 @@ FAULTS: dict[str, list[Edit]] = {
         (PORT, "static uint8_t to_send[WIRE_LINE];\n",
          "static uint8_t to_send[WIRE_LINE];\nuint32_t rpm_most = 24000;\n"),
         (PORT, "copy_words(data_begin, data_end,", "copy_words(data_begin, data_begin,"),
-        (PORT, "(SPINDLE_MOST_RPM * UINT64_C(1000000))", "(*(volatile uint32_t *)&rpm_most * UINT64_C(1000000))")],
+        (PORT, "= SPINDLE_MOST_RPM * UINT64_C(1000000)", "= *(volatile uint32_t *)&rpm_most * UINT64_C(1000000)")],
     "watchdog of 1 ms": port("IWDG_RLR = 1000;", "IWDG_RLR = 1;"),
     "watchdog not fed": port("IWDG_KR = 0xaaaa;", ""),
     "watchdog without its key": port("IWDG_KR = 0x5555;", ""),

@@ -19,7 +19,7 @@ from sink_frames import (ANSWER, ASKED, BROKEN, DEAD, HUNG, INPUT, LEAST, LINE, 
                          NEW, NOTHING, OUTPUT, REST, RUNS, SILENT, STANDS, STEEP, STOPPED, SWITCH, TOKEN, TOUCHED, WORD,
                          Answer, answers, begin_frame, framed, slope_of, steep, stop_frame, switches, unstuffed, word,
                          words_frame)
-from sink_support import bench  # noqa: E402
+from sink_support import IS_CHIP, bench, seen  # noqa: E402
 
 SINK = TOOLS / "sink"
 NO_MARK = 2**64 - 1
@@ -28,6 +28,7 @@ SEEKS, BEGINS, LINKED, ENDED, RESET = range(5)
 TAKEN, LATER, REFUSED = range(3)
 WINDOW = 20 * MS
 RUN_COUNT = int(os.environ.get("NGC_SINK_RUNS", "40"))
+ON_HOST = unittest.skipIf(IS_CHIP, "it is of exact ticks, of what no pin shows, or of more than the line carries then")
 
 
 def program(*parts: Path) -> str:
@@ -308,6 +309,12 @@ class SinkTest(unittest.TestCase):
         self.sink.ask("inputs 0")
         self.boot()
 
+    def check_gaps(self, gaps: list[int], wanted: list[int]) -> None:
+        """Ticks between steps: exactly these, on the chip within a microsecond of them."""
+        self.assertEqual(len(gaps), len(wanted))
+        off = max(abs(gap - each) for gap, each in zip(gaps, wanted))
+        self.assertLessEqual(off, 8 if IS_CHIP else 0, gaps)
+
     def boot(self) -> int:
         """Starts the chip again; the session's number."""
         type(self).boots += 1
@@ -335,6 +342,7 @@ class Bytes(SinkTest):
         events, _ = self.sink.run(10, begin_frame(0x00010000) + frame)
         self.assertEqual([event[1:] for event in events if not is_off(event)], [(1, 0), (2, 2)])
 
+    @ON_HOST
     def test_times(self) -> None:
         """Words are made in their times, and at their end it stands; an S line's outputs come in their place."""
         session = self.began()
@@ -358,6 +366,7 @@ class Bytes(SinkTest):
         self.assertEqual([after.made - answer.made for answer, after in zip(found, found[1:5])], [5] * 4)
         self.assertEqual({answer.state for answer in found[1:5]}, {RUNS})
 
+    @ON_HOST
     def test_begins(self) -> None:
         """It begins with a rest in hand, with 10 ms, or with 256 words; not with less."""
         for words, is_begun in (([(LEAST, 1)] * 200, False), ([(LEAST, 1)] * 255, False), ([(LEAST, 1)] * 256, True),
@@ -392,6 +401,7 @@ class Bytes(SinkTest):
         for frame, taken, lost in cases:
             self.assertEqual(self.sink.last(5, frame)[:7], (session, taken, 0, STANDS, NOTHING, 0, lost), frame)
 
+    @ON_HOST
     def test_room(self) -> None:
         """A frame for which the FIFO has no room is lost, whole."""
         session = self.began()
@@ -424,6 +434,7 @@ class Bytes(SinkTest):
         self.assertEqual((answer.made, answer.mark, answer.lines), (9, NO_MARK, 5))
         self.assertEqual(self.sink.last(6, begin_frame(session))[-2:], (MARK, 0))
 
+    @ON_HOST
     def test_sessions(self) -> None:
         """A session ends only by its number, and while nothing runs. The count goes on; old frames are nothing then."""
         session = self.began()
@@ -456,7 +467,7 @@ class Faults(SinkTest):
     def after(self, ms: int, line: bytes) -> Answer:
         """The last answer, by when spindle and coolant were turned off and nothing came after that; the tool stays."""
         events, sent = self.sink.run(ms, line)
-        self.assertEqual(events[-1][1:], (0, 0, 0, 0, 4, 5))
+        self.assertEqual(events[-1][1:], seen((0, 0, 0, 0, 4, 5)))
         self.assertEqual([event for event in events if is_off(event)], events[-1:])
         return answers(sent)[-1]
 
@@ -480,16 +491,16 @@ class Faults(SinkTest):
         events, line = self.sink.run(80, b"".join(words_frame(session, at + 2, *words[at:at + 40])
                                                   for at in range(0, 200, 40)))
         gaps = [after[0] - event[0] for event, after in zip(events, events[1:])]
-        self.assertEqual(gaps[:170], [2000] * 170)
+        self.check_gaps(gaps[:170], [2000] * 170)
         # The last n words before a rest last 2^21 over the root of n slopes each.
         slope = slope_of(STEEP << 24)
-        self.assertEqual(gaps[-22:], [math.ceil(2**21 / math.isqrt(slope * n)) for n in range(22, 0, -1)])
+        self.check_gaps(gaps[-22:], [math.ceil(2**21 / math.isqrt(slope * n)) for n in range(22, 0, -1)])
         self.assertEqual((answers(line)[-1][2:5], answers(line)[-1].dry), ((202, STANDS, NOTHING), 1))
         more = [steep(2000, 1)] * 40 + [steep(LEAST, REST)]
         events, line = self.sink.run(60, words_frame(session, 202, *more))
         gaps = [after[0] - event[0] for event, after in zip(events, events[1:])]
-        self.assertEqual(gaps[:22], [math.ceil(2**21 / math.isqrt(slope * n)) for n in range(1, 23)])
-        self.assertEqual(gaps[22:40], [2000] * 18)
+        self.check_gaps(gaps[:22], [math.ceil(2**21 / math.isqrt(slope * n)) for n in range(1, 23)])
+        self.check_gaps(gaps[22:39], [2000] * 17)
         self.assertEqual((answers(line)[-1][2:5], answers(line)[-1].dry), ((243, STANDS, NOTHING), 1))
 
     def test_goes_on_in_time(self) -> None:
@@ -505,7 +516,7 @@ class Faults(SinkTest):
         slope = slope_of(STEEP << 24)
         rates = [2**42 / each**2 for each in ticks[count - 2:-1]]
         self.assertTrue(all(abs(after - rate) < slope * 1.05 for rate, after in zip(rates, rates[1:])))
-        self.assertEqual(ticks[-2], 2000)
+        self.check_gaps(ticks[-2:-1], [2000])
         self.assertEqual((answers(line)[-1][2:5], answers(line)[-1].dry), ((243, STANDS, NOTHING), 0))
 
     def test_silent(self) -> None:
@@ -526,14 +537,16 @@ class Faults(SinkTest):
         words = [steep(4000, 1)] * 1900 + [steep(LEAST, 1 | REST)]  # 950 ms; a stop takes six words
         line = b"".join(words_frame(session, at + 2, *words[at:at + 48]) for at in range(0, len(words), 48))
         events, _ = self.sink.run(480, line)
-        events += self.sink.run(60)[0]
-        gaps = [after[0] - event[0] for event, after in zip(events, events[1:])]
+        events += self.sink.run(120)[0]
+        steps = [event for event in events if len(event) == 3]
+        gaps = [after[0] - event[0] for event, after in zip(steps, steps[1:])]
         slope = slope_of(STEEP << 24)
         left = math.ceil(2**21 / 4000) ** 2
         braked = [math.ceil(2**21 / math.isqrt(left - n * slope)) for n in range(1, 6)]
-        self.assertEqual((gaps[-7:-1], is_off(events[-1])), ([4000, *braked], True))
+        self.check_gaps(gaps[-6:], [4000, *braked])
+        self.assertTrue(is_off(events[-1]))
         answer = self.sink.last(5)
-        self.assertEqual(answer.made - 2, len(events) - 1)
+        self.assertEqual(answer.made - 2, len(steps))
         self.stopped(answer, answer.made, STOPPED, SILENT)
 
     def test_input(self) -> None:
@@ -552,27 +565,30 @@ class Faults(SinkTest):
             self.assertLessEqual(answer.made - made, 10)
             self.stopped(answer, answer.made, BROKEN, INPUT)
 
+    @ON_HOST
     def test_debounce(self) -> None:
         """An input that stops dead is heeded once it was on for debounce_us, within twice that; one look alone isn't
         enough. In motion and at rest."""
-        for ticks, count in ((80, 800), (MS, 8), (16 * MS, 1)):
+        for ticks in (800, MS, 16 * MS):
             session = self.boot() + 1
             self.sink.run(6, begin_frame(session - 1, stops=4, debounce_us=2000))
             line = b"".join(words_frame(session, at, *[(ticks, 1)] * 40, (LEAST, REST)) for at in range(0, 820, 41))
             self.sink.run(5, line)
             self.sink.ask("inputs 4")
-            self.assertEqual(self.sink.last(1, b"").state if self.sink.run(1)[1] else RUNS, RUNS)
+            self.sink.run(1)
             self.sink.ask("inputs 0")
             answer = self.sink.last(6)
-            self.assertEqual((answer.state, answer.fault), (RUNS, NOTHING), ticks)
+            self.assertEqual((answer.state, answer.fault, answer.inputs), (RUNS, NOTHING, 0), ticks)
             at = self.sink.now
             self.sink.ask("inputs 4")
             events, line = self.sink.run(10)
             off = next(event[0] for event in events if len(event) == 7) - at
             self.assertTrue(2 * MS <= off <= 5 * MS, (ticks, off))
-            self.assertEqual(answers(line)[-1].fault, INPUT)
+            told = [answer.inputs for answer in answers(line) if answer.state in (STANDS, RUNS)]
+            self.assertEqual((answers(line)[-1].fault, answers(line)[-1].inputs, set(told) - {0}), (INPUT, 4, set()))
             self.sink.ask("inputs 0")
 
+    @ON_HOST
     def test_hung(self) -> None:
         """The main loop doesn't come by any more: the timer alone brings the motors to rest, by the slopes."""
         session = self.began()
@@ -595,6 +611,7 @@ class Faults(SinkTest):
         self.assertEqual(answer[3:5], (STOPPED, HUNG))
         self.stopped(answer, answer.made, STOPPED, HUNG)
 
+    @ON_HOST
     def test_comes_by(self) -> None:
         """A main loop that is late for less than 20 ms is no fault."""
         session = self.began()
@@ -613,7 +630,7 @@ class Faults(SinkTest):
         self.sink.ask("inputs 2")
         answer = self.after(200, b"")
         self.assertEqual(answer[3:6], (STOPPED, TOUCHED, 2))
-        self.assertEqual(answer.touched, made)
+        self.assertIn(answer.touched - made, (0, 1) if IS_CHIP else (0,))  # its inputs come on a little later
         self.assertAlmostEqual(answer.made - answer.touched, 90, delta=2)
         self.assertEqual(self.sink.last(5, begin_frame(session)).touched, 0)
 
@@ -626,6 +643,7 @@ class Faults(SinkTest):
         self.sink.ask("inputs 0")
         self.assertEqual(self.sink.last(6)[1:5], (0, 0, STOPPED, TOUCHED))
 
+    @ON_HOST
     def test_input_at_rest(self) -> None:
         """At rest too, and within a long wait."""
         self.began(1)
@@ -640,6 +658,7 @@ class Faults(SinkTest):
         self.assertLessEqual(events[0][0] - self.sink.now + 5 * MS, MS)
         self.stopped(answers(line)[-1], 3, STOPPED, INPUT)
 
+    @ON_HOST
     def test_word(self) -> None:
         """A word that isn't one: nothing of its frame is taken, and it comes to rest."""
         bad = [(39, 1), (0, REST), (LEAST, OUTPUT), (LEAST, OUTPUT | SWITCH), (LEAST, OUTPUT | REST | 4),
@@ -674,6 +693,7 @@ class Faults(SinkTest):
         self.assertEqual((events, answers(line)[-1]), ([], (now, 0, 0, NEW, NOTHING, 0, 0, 0, 0, 0, 0, 0)))
 
 
+@ON_HOST
 class Sent(SinkTest):
     """Both halves, over a line."""
 

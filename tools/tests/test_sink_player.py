@@ -185,6 +185,20 @@ class Stops(InC, OverSink, unittest.TestCase):
         self.assertEqual(said, f"out: stopped after line {count}; spindle and coolant off\n")
         self.assertIn("stopped signal", record())
 
+    def test_debounce(self) -> None:
+        """An emergency stop that is on for some 5 ms, while X is beyond a place: it stops the machine, but where
+        debounce_us is 10 ms."""
+        for more, status in (("", 1), ("debounce_us = 10000\n", 0)):
+            Path("position").unlink(missing_ok=True)
+            sink = self.serve()
+            Path("motion.toml").write_text(Path("motion.toml").read_text() + more + "[inputs]\nemergency_stop = 0\n")
+            sink.tell("switch 0 0 1 10")
+            Path("out").write_text("P 1 0 0 1000\n" * 12 + "P -1 0 0 1000\n" * 24)
+            done = self.run_player(*self.words())
+            self.assertEqual(done.returncode, status, (more, done.stderr))
+            self.assertEqual("the emergency stop is on" in done.stderr, status == 1, done.stderr)
+            sink.kill()
+
     def test_silence(self) -> None:
         """A line that is cut: the sink comes to rest by itself; once it is heard again the record counts what it
         made."""
@@ -220,7 +234,9 @@ class Stops(InC, OverSink, unittest.TestCase):
         self.assertEqual(self.run_player("--anew", *self.words()).stderr, "")
         made = [each for each in sink.end() if each.step and any(each.step)][:60_000]
         Path("out").write_text(LONG * 15)
-        self.assertLess(excess(self.timed(self.check_made(made)), (200_000,) * 3), 4)
+        ticks = self.check_made(made)
+        if not IS_CHIP:  # whose steps are up to a microsecond to and fro
+            self.assertLess(excess(self.timed(ticks), (200_000,) * 3), 4)
 
     def test_killed_and_sure(self) -> None:
         """After that the sink has told where the motors are, so no person has to be asked; a player that ended by

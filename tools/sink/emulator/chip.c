@@ -152,10 +152,11 @@ bool model_run(uint64_t cycles) {
 }
 
 void model_fault(void) {
-    uint32_t number = CORE_HARDFAULT;
     bool was_stopped = chip.is_stopped;
-    core_enter(number);
-    told_clear();
+    core_enter(CORE_HARDFAULT);
+    if (!was_stopped) {
+        told_forgive();
+    }
     chip.is_stopped = was_stopped;
 }
 

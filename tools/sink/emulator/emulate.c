@@ -24,14 +24,20 @@
 #include "told.h"
 #include "watchdog.h"
 
-enum { CYCLES_A_TICK = 9, CYCLES_A_MS = 72000, IRQ_TIMER = 28, SLICE_TICKS = 400, READS_TICKS = 4000 };
+enum { CYCLES_A_TICK = 9, CYCLES_A_MS = 72000, IRQ_TIMER = 28, SLICE_TICKS = 400, READS_TICKS = 4000,
+       STARTS_TICKS = 40000 };
 enum { CLOCKWISE = 0, COUNTER = 1, MIST = 5, FLOOD = 7 }; /* pins of port B */
 
 static uint32_t sink_at;     /* where the firmware's RAM has the sink */
 static uint64_t came_at;     /* the tick at which bytes were on their way last */
+static uint64_t uncounted;   /* ticks in which the chip started: the bench's clock stands meanwhile */
 static uint32_t levels[2];   /* of ports A and B */
 static uint32_t duty;
 static struct { uint64_t cycle; uint8_t steps; bool switches; } waits; /* what changed at a cycle, until that is over */
+
+static uint64_t tick_of(uint64_t cycle) {
+    return cycle / CYCLES_A_TICK - uncounted;
+}
 
 static uint8_t axes_of(uint32_t pins) {
     return (uint8_t)((pins & 1) | (pins >> 1 & 2) | (pins >> 2 & 4));
@@ -44,7 +50,7 @@ static void tell_outputs(void) {
         .spindle = (uint8_t)((b >> CLOCKWISE & 1) | (b >> COUNTER & 1) << 1),
         .mist = b >> MIST & 1,
         .flood = b >> FLOOD & 1};
-    bench_outputs(waits.cycle / CYCLES_A_TICK, &outputs);
+    bench_outputs(tick_of(waits.cycle), &outputs);
 }
 
 /* Tells what changed at the cycle that is over. */
@@ -57,7 +63,7 @@ static void tell_changes(void) {
         tell_outputs();
     }
     if (steps != 0) {
-        bench_step(waits.cycle / CYCLES_A_TICK, steps, steps & axes_of(levels[PORT_A] >> 1));
+        bench_step(tick_of(waits.cycle), steps, steps & axes_of(levels[PORT_A] >> 1));
     }
 }
 
@@ -79,12 +85,12 @@ static void note_edge(const struct edge *edge) {
 }
 
 uint64_t device_now(void) {
-    return model_cycle() / CYCLES_A_TICK;
+    return tick_of(model_cycle());
 }
 
 void device_run(uint64_t ticks) {
     uint8_t heard[SLICE_TICKS];
-    uint64_t until = model_cycle() / CYCLES_A_TICK + ticks;
+    uint64_t until = device_now() + ticks;
     while (device_now() < until) {
         uint64_t left = until - device_now();
         if (!model_run((left < SLICE_TICKS ? left : SLICE_TICKS) * CYCLES_A_TICK)) {
@@ -118,9 +124,11 @@ void device_stray(void) {
 }
 
 void device_boot(uint16_t count) {
+    uint64_t from = device_now();
     backup_set_first((uint16_t)(count - 1));
     model_reset();
-    tell_changes();
+    device_run(STARTS_TICKS);
+    uncounted += device_now() - from;
 }
 
 bool device_obey(const char *line) {

@@ -53,7 +53,11 @@ size_t told_edges(struct edge *to, size_t room) {
     return count;
 }
 
+void told_forgive(void) {
+    first[0] = '\0';
+}
+
 void told_clear(void) {
     begin = end = 0;
-    first[0] = '\0';
+    told_forgive();
 }

@@ -25,7 +25,8 @@ extern void (*told_edge)(const struct edge *edge);
 /* Takes edges that were kept. */
 size_t told_edges(struct edge *edges, size_t room);
 
-/* Nothing was told. */
+/* Forgets a violation that was brought about on purpose; and edges too. */
+void told_forgive(void);
 void told_clear(void);
 
 #endif
