@@ -578,7 +578,7 @@ def try_chain(tools: Tools, seed: int, options: Options, found: Found) -> list[s
     chance = random.Random(seed)
     text, typed = program(chance, chance.randint(3, 14))
     has_ramps = options.over == "sink" or chance.random() < 0.3
-    job = Job(text, run_uncut(tools.ngc, FIRST, text, typed), typed, options.over, has_ramps)
+    job = Job(text, run_uncut(tools.ngc, FIRST, text, typed), typed, options.over, has_ramps, chance.random() < 0.5)
     plans = [plan(chance, len(job.uncut.moves), options) for _ in range(chance.randint(1, options.losses))]
     with tempfile.TemporaryDirectory(prefix="ngc-power-", dir=memory()) as name:
         chain = Chain(tools, Path(name).resolve(), job, chance, plans, each=options.states)
