@@ -138,7 +138,7 @@ int main(int count, char **given) {
         return 2;
     }
     uint64_t accel = strtoull(given[2], NULL, 10);
-    const struct pace_limits limits = {.accel = {accel, accel, accel}, .half = 64, .slack = 2, .most_percent = 100};
+    const struct pace_limits limits = {.accel = {accel, accel, accel}, .half = 96, .slack = 2, .most_percent = 100};
     FILE *file = opened(given[1]);
     ticks = count == 5 ? opened(given[4]) : NULL;
     pace_begin(&pace, &limits);

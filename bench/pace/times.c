@@ -44,7 +44,7 @@ static void take(const char *text) {
 int main(int count, char **words) {
     static char text[LONGEST_LINE + 2], out[65536], in[65536];
     uint64_t accel = strtoull(words[1], NULL, 10);
-    struct pace_limits limits = {{accel, accel, accel}, {0, 0, 0}, {0, 0, 0}, 64, 2, 100};
+    struct pace_limits limits = {{accel, accel, accel}, {0, 0, 0}, {0, 0, 0}, 96, 2, 100};
     is_total = count > 2;
     setvbuf(stdout, out, _IOFBF, sizeof out);
     setvbuf(stdin, in, _IOFBF, sizeof in);

@@ -13,6 +13,7 @@
 #include <unistd.h>
 
 #include "askers.h"
+#include "home.h"
 #include "off.h"
 #include "orders.h"
 #include "player.h"
@@ -129,9 +130,18 @@ static bool is_question(const char *text, size_t size, const char *word) {
 
 /* What the record on the disk counts. */
 static int kept(struct player *player, char *text, size_t room, const char *question) {
+    char place[PLACE_ROOM];
     player_lock(player);
-    int size = snprintf(text, room, "%s lines %" PRIu64 " bytes %" PRIu64 " age %u", question, player->kept.lines,
-                        player->kept.bytes, player->kept.age_ms);
+    const struct record *kept = &player->kept;
+    int size = snprintf(text, room, "%s lines %" PRIu64 " bytes %" PRIu64 " age %u", question, kept->lines, kept->bytes,
+                        kept->age_ms);
+    if (record_leads_elsewhere(kept)) {
+        place_print(place, sizeof place, kept->path);
+        size += snprintf(text + size, room - (size_t)size, " path %s", place);
+    }
+    if (player->alarm == NO_ALARM && (player->is_sure || player->homed == ALL_AXES)) {
+        size += snprintf(text + size, room - (size_t)size, " sure");
+    }
     player_unlock(player);
     return size;
 }

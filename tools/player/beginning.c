@@ -33,6 +33,11 @@ static bool where_to_begin(const struct player *player, const struct options *op
         }
         return true;
     }
+    if (found->bytes > source_size(&player->source)) {
+        return because(why, "%s: it has %" PRIu64 " bytes, and by the record %" PRIu64 " are carried out: its end is"
+                       " lost, or it is another file. Emptied (: > OUT) it begins anew with --anew, and recover leads back by"
+                       " legs", out, source_size(&player->source), found->bytes);
+    }
     if (!holds || (found->mark.is_known && there.digest != found->mark.digest)) {
         return because(why, "%s: not the file whose first %" PRIu64 " lines are carried out; --anew begins with its"
                        " first line", out, found->lines);
@@ -46,6 +51,16 @@ static bool where_to_begin(const struct player *player, const struct options *op
         || because(why, "%s: another file than the one whose first %" PRIu64 " lines are carried out, though it begins"
                    " with the same lines; --anew begins with its first line, --restored goes on after line %" PRIu64
                    ", where it is a copy", out, found->lines, found->lines);
+}
+
+/* Where the lines lead that are carried out, by the record: where its player left the motors, unless it says another
+ * place, or they had left the path to where nobody knows. */
+static void begin_path(struct player *player, const struct record *record, bool is_known) {
+    const int64_t *nm = record->has_path ? record->path : record->nm;
+    player->has_path = is_known && (record->has_path || !record->is_off);
+    for (int axis = 0; axis < 3; axis++) {
+        player->path[axis] = in_steps(nm[axis], player->step_nm[axis]);
+    }
 }
 
 /* What was carried out before, and where the machine stands. The outputs begin as off. */
@@ -70,10 +85,13 @@ static bool begin_record(struct player *player, const struct options *options, s
     player->lines = record.lines;
     player->bytes = record.bytes;
     player->is_off = goes_on && record.is_off;
+    player->is_sure = options->has_place;
     atomic_store(&player->is_untold, record.is_off && !options->has_place);
     player->told_at[0] = INT64_MIN; /* which is no place */
     player->outputs = record.outputs;
     outputs_stop(&player->outputs);
+    bool is_of_out = is_known && strcmp(record.out, player->out) == 0;
+    begin_path(player, &record, goes_on || (is_of_out && !options->begins_anew && !player->source.is_pipe));
     for (int axis = 0; axis < 3; axis++) {
         bool has_screw = player->backlash.steps[axis] != 0 && !options->has_place;
         int64_t nm = options->has_place ? options->place_nm[axis] : record.nm[axis];

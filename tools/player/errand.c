@@ -58,7 +58,7 @@ bool wish_read(const char *text, size_t size, struct wish *wish) {
     if (wish->is_by_legs ? !read_legs(&scan, wish) : !scan_word(&scan, "along ")) {
         return false;
     }
-    if (!scan_whole(&scan, 18, &wish->bytes, NULL) || !read_feed(&scan, wish)) {
+    if (!scan_whole(&scan, 18, &wish->bytes) || !read_feed(&scan, wish)) {
         return false;
     }
     return scan_word(&scan, " ") ? read_on(&scan, wish) : scan_is_over(&scan);
@@ -130,6 +130,9 @@ bool errand_take(struct player *player, const struct wish *wish, struct cause *w
         uint64_t count = way_count_lines(source, low, is_back ? player->bytes : wish->bytes);
         errand.bytes = wish->bytes;
         errand.lines = is_back ? player->lines - count : player->lines + count;
+    }
+    if (wish->is_by_legs) {
+        player_leave_path(player);
     }
     errand.legs_lines = errand.lines < player->lines ? errand.lines : player->lines;
     errand.legs_bytes = errand.bytes < player->bytes ? errand.bytes : player->bytes;

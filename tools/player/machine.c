@@ -4,7 +4,7 @@
 
 #include "machine_keys.h"
 
-enum { HALF = 64, LEAST_ACCEL = 3, GREATEST_ACCEL = 1000000000, NM_PER_MM = 1000000, S_PER_MIN = 60 };
+enum { HALF = 96, LEAST_ACCEL = 3, GREATEST_ACCEL = 1000000000, NM_PER_MM = 1000000, S_PER_MIN = 60 };
 enum { DEFAULT_SLACK = 2, DEFAULT_PERCENT = 100, DEFAULT_AT_SPEED_S = 10, DEFAULT_AGREE_UM = 20 };
 enum { DEFAULT_BAUD = 2000000 };
 enum { MILLIONTHS = 1000000 }; /* of a turn a minute, in which speeds are */
@@ -54,6 +54,7 @@ static void read_sink(const struct content *content, struct sink_settings *sink)
         memcpy(sink->line, line->at, (size_t)(line->end - line->at));
     }
     sink->baud = (int)number_of(content, BAUD, DEFAULT_BAUD);
+    sink->debounce_us = (int)number_of(content, DEBOUNCE, 0);
 }
 
 /* What the motors allow, in steps. */

@@ -29,16 +29,13 @@ bool manual_is_there(struct player *player) {
 }
 
 void manual_leave_path(struct player *player) {
-    if (!player->is_off) {
-        memcpy(player->left_at, player->steps, sizeof player->left_at);
-        player->knows_left = true;
-        player->is_off = true;
-    }
+    player_leave_path(player);
+    player->is_off = true;
 }
 
 void manual_look_at_path(struct player *player) {
-    if (player->knows_left && memcmp(player->left_at, player->steps, sizeof player->left_at) == 0) {
-        player->is_off = false;
+    if (player->has_path && memcmp(player->path, player->steps, sizeof player->path) == 0) {
+        player_be_on_path(player);
     }
     atomic_store(&player->is_untold, memcmp(player->told_at, player->steps, sizeof player->told_at) != 0);
 }
@@ -211,7 +208,7 @@ static void report(struct player *player, const char *question, char *text, size
 static bool is_machine_question(const char *text, size_t size) {
     struct scan scan = {text, text + size};
     uint64_t number = 0;
-    return scan_word(&scan, "machine ") && scan_whole(&scan, 20, &number, NULL) && scan_is_over(&scan);
+    return scan_word(&scan, "machine ") && scan_whole(&scan, 20, &number) && scan_is_over(&scan);
 }
 
 bool manual_heed(struct player *player, const char *text, size_t size, char *answer, size_t room) {

@@ -33,7 +33,7 @@ static void count(struct play *play, const struct line *line, size_t size) {
     }
     play->player->lines++;
     play->player->bytes += size;
-    play->player->is_off = false;
+    player_be_on_path(play->player);
     player_unlock(play->player);
     play->counts.pulses += line->kind == 'P';
     play->counts.waits += line->kind == 'D';
@@ -99,6 +99,7 @@ bool take_line(struct play *play, char *line, size_t *size) {
     while (!is_there && source_read(&play->player->source, HAND_BYTES)) {
         is_there = source_next(&play->player->source, line, size);
     }
+    play->player->has_path &= !is_there; /* it leads on from where the motors are */
     player_unlock(play->player);
     if (is_there && atomic_load(&play->player->stays)) {
         atomic_store(&play->player->stays, false);
@@ -183,6 +184,12 @@ enum end end_of_out(struct play *play) {
     return stop_at_line(play, &what);
 }
 
+bool read_taken(const struct play *play, const char *text, size_t size, struct line *line, struct cause *why) {
+    size_t length = size - (text[size - 1] == '\n');
+    bool keeps_times = !play->options->is_untimed || play->options->times != NULL;
+    return line_read(text, length, play->least_us, line, why) && (!keeps_times || line_fits_clock(line, why));
+}
+
 /* How long a line lasts, in nanoseconds, as OUT says. */
 static uint64_t lasts_ns(const struct line *line) {
     uint64_t us = line->kind == 'S' ? 0 : line->us;
@@ -208,8 +215,7 @@ static enum end carry_out_all(struct play *play) {
         if (size == 0) {
             return end_of_out(play);
         }
-        size_t length = size - (text[size - 1] == '\n');
-        if (!line_read(text, length, play->least_us, &line, &what)) {
+        if (!read_taken(play, text, size, &line, &what)) {
             return stop_at_line(play, &what);
         }
         if (!is_ready(play, &line)) {
@@ -257,7 +263,7 @@ static bool goes_on_after(struct play *play) {
     if (alarm_stands(play->player)) {
         return alarm_wait(play);
     }
-    return anew_is_wanted(play->player) && anew_begin(play);
+    return anew_is_wanted(play->player) ? anew_begin(play) : await_record(play);
 }
 
 /* Carries out lines, and goes on once an alarm is over, and where another session follows. */

@@ -11,6 +11,10 @@ enum end { AT_OUTS_END, STOPPED, FAILED };
 /* Takes the next line, with its newline, if one stands in OUT. */
 bool take_line(struct play *play, char *line, size_t *size);
 
+/* Reads a line that was taken. Returns false, with the cause, for one that isn't a line, or whose time is too long for
+ * a play that keeps times. */
+bool read_taken(const struct play *play, const char *text, size_t size, struct line *line, struct cause *why);
+
 /* Waits some time for more of OUT; `has_ended` says whether it has ended. */
 enum end await_more(struct play *play, bool *has_ended);
 

@@ -36,12 +36,36 @@ void player_record(struct player *player, struct record *record) {
         record->homed[strlen(record->homed)] = player->homed >> axis & 1 ? "XYZ"[axis] : '\0';
     }
     record->is_off = player->is_off;
+    record->has_path = player->has_path;
+    for (int axis = 0; axis < 3; axis++) {
+        record->path[axis] = player->path[axis] * player->step_nm[axis];
+    }
     bool is_open = player->is_over_sink && player->stopped[0] == '\0';
     snprintf(record->stopped, sizeof record->stopped, "%s", is_open ? "killed" : player->stopped);
     unsigned worst_ms = atomic_load(&player->worst_ms);
     record->age_ms = worst_ms != 0 ? worst_ms : player->left.age_ms;
     player_unlock(player);
     record->mark = source_mark(&player->source, record->bytes);
+}
+
+void player_leave_path(struct player *player) {
+    if (!player->has_path && !player->is_off) {
+        memcpy(player->path, player->steps, sizeof player->path);
+        player->has_path = true;
+    }
+}
+
+void player_be_on_path(struct player *player) {
+    player->is_off = false;
+    player->has_path = false;
+}
+
+void player_count(struct player *player, uint64_t lines, uint64_t bytes) {
+    if (player->lines != lines || player->bytes != bytes) {
+        player_be_on_path(player);
+    }
+    player->lines = lines;
+    player->bytes = bytes;
 }
 
 void player_doing(struct player *player, char *text, size_t room) {
@@ -107,6 +131,9 @@ static void keep(struct player *player) {
     bool was_older = is_newer(&record, &player->kept);
     int error = keeper_write(&player->keeper, &record);
     player_kept(player, &record, error);
+    if (error != 0) {
+        atomic_store(&player->record_why, error);
+    }
     atomic_store(&player->record_error, error);
     int64_t age_ms = (schedule_now() - player->kept_at + NS_PER_MS - 1) / NS_PER_MS;
     player->kept_at = now;
@@ -118,7 +145,7 @@ static void keep(struct player *player) {
 void *record_keep(void *shared) {
     struct player *player = shared;
     const struct timespec pause = {0, KEEPS_NS};
-    while (!atomic_load(&player->over) && atomic_load(&player->record_error) == 0) {
+    while (!atomic_load(&player->over)) {
         keep(player);
         nanosleep(&pause, NULL);
     }

@@ -18,7 +18,8 @@ bool record_takes(const char *out, struct cause *why) {
     return true;
 }
 
-void record_print(const struct record *record, char text[RECORD_SIZE]) {
+/* All that stands in it, with the line `path` or none; how many bytes that are. */
+static int print_lines(const struct record *record, const char *path, char whole[RECORD_SIZE]) {
     char outputs[OUTPUTS_ROOM];
     char place[PLACE_ROOM];
     char mark[80] = "";
@@ -42,13 +43,28 @@ void record_print(const struct record *record, char text[RECORD_SIZE]) {
     if (record->stopped[0] != '\0') {
         snprintf(stopped, sizeof stopped, "stopped %s\n", record->stopped);
     }
+    return snprintf(whole, RECORD_SIZE, "out %s\nlines %" PRIu64 "\nbytes %" PRIu64 "\noutputs %s\nreference %s\n"
+                    "%s%s%s%s%s%s%s", record->out, record->lines, record->bytes, outputs, place, mark, path, screws,
+                    age, homed, record->is_off ? "off\n" : "", stopped);
+}
+
+void record_print(const struct record *record, char text[RECORD_SIZE]) {
     char whole[RECORD_SIZE];
-    int size = snprintf(whole, sizeof whole, "out %s\nlines %" PRIu64 "\nbytes %" PRIu64 "\noutputs %s\nreference %s\n"
-                        "%s%s%s%s%s%s", record->out, record->lines, record->bytes, outputs, place, mark, screws, age,
-                        homed, record->is_off ? "off\n" : "", stopped);
+    char place[PLACE_ROOM];
+    char path[PLACE_ROOM + 8] = "";
+    if (record_leads_elsewhere(record) && record->mark.is_known) {
+        place_print(place, sizeof place, record->path);
+        snprintf(path, sizeof path, "path %s\n", place);
+    }
+    int size = print_lines(record, path, whole);
+    size = size < RECORD_SIZE ? size : print_lines(record, "", whole);
     memset(text, ' ', RECORD_SIZE);
     memcpy(text, whole, size < RECORD_SIZE ? (size_t)size : RECORD_SIZE - 1);
     text[RECORD_SIZE - 1] = '\n';
+}
+
+bool record_leads_elsewhere(const struct record *record) {
+    return record->has_path && memcmp(record->path, record->nm, sizeof record->path) != 0;
 }
 
 /* The next line, without its newline; false where there is none. */
@@ -77,7 +93,7 @@ static bool read_out(struct scan line, struct record *record) {
 }
 
 static bool read_count(struct scan line, const char *word, uint64_t *count) {
-    return scan_word(&line, word) && scan_whole(&line, 18, count, NULL) && scan_is_over(&line);
+    return scan_word(&line, word) && scan_whole(&line, 18, count) && scan_is_over(&line);
 }
 
 static bool read_outputs(struct scan line, struct record *record) {
@@ -116,8 +132,8 @@ static bool read_reference(struct scan line, struct record *record, struct cause
 
 static bool read_mark(struct scan line, struct file_mark *mark) {
     static const char hex[] = "0123456789abcdef";
-    if (!scan_word(&line, "file ") || !scan_whole(&line, 19, &mark->inode, NULL) || !scan_word(&line, " ")
-        || !scan_whole(&line, 19, &mark->born_ns, NULL) || !scan_word(&line, " ") || line.end - line.at != 8) {
+    if (!scan_word(&line, "file ") || !scan_whole(&line, 19, &mark->inode) || !scan_word(&line, " ")
+        || !scan_whole(&line, 19, &mark->born_ns) || !scan_word(&line, " ") || line.end - line.at != 8) {
         return false;
     }
     mark->digest = 0;
@@ -132,9 +148,14 @@ static bool read_mark(struct scan line, struct file_mark *mark) {
     return true;
 }
 
+static bool read_path(struct scan line, struct record *record) {
+    record->has_path = scan_word(&line, "path ") && place_read(line.at, (size_t)(line.end - line.at), record->path);
+    return record->has_path;
+}
+
 static bool read_age(struct scan line, unsigned *age_ms) {
     uint64_t found = 0;
-    if (!scan_word(&line, "age ") || !scan_whole(&line, 4, &found, NULL) || !scan_is_over(&line) || found == 0) {
+    if (!scan_word(&line, "age ") || !scan_whole(&line, 4, &found) || !scan_is_over(&line) || found == 0) {
         return false;
     }
     *age_ms = (unsigned)found;
@@ -179,6 +200,10 @@ static int read_rest(struct scan text, struct record *record) {
     int number = 6;
     bool is_line = next_line(&text, &line);
     if (is_line && read_mark(line, &record->mark)) {
+        is_line = next_line(&text, &line);
+        number++;
+    }
+    if (is_line && read_path(line, record)) {
         is_line = next_line(&text, &line);
         number++;
     }

@@ -36,11 +36,16 @@ struct record {
     unsigned age_ms;  /* how old a record on the disk ever was as the next one came; 0 where that isn't known */
     char homed[4];    /* the axes that were homed since the player began, as "XYZ" */
     bool is_off;      /* the motors left the path of OUT by a move without lines */
+    bool has_path;    /* where the lines that are carried out lead, where the motors aren't there and it is known .. */
+    int64_t path[3];  /* .. in nanometres; it stands in the file where OUT's name leaves room */
     char stopped[16]; /* what ended the player before OUT's end, in a word; `emergency` and `limit` until it is homed */
 };
 
 /* Whether a path of OUT can stand in a record. */
 bool record_takes(const char *out, struct cause *why);
+
+/* Whether the lines that are carried out lead elsewhere than to where the machine stands, and it is known where. */
+bool record_leads_elsewhere(const struct record *record);
 
 /* Writes a record, whose path it takes, as 512 bytes. */
 void record_print(const struct record *record, char text[RECORD_SIZE]);

@@ -3,8 +3,8 @@
 
 #include <time.h>
 
-/* 73 years: no line lasts longer, and none is due later than at twice that. */
-static const int64_t most_ns = INT64_MAX / 4;
+/* No line is due later than at twice that. */
+static const int64_t most_ns = SCHEDULE_MOST_NS;
 
 int64_t schedule_now(void) {
     struct timespec now;

@@ -5,6 +5,10 @@
 #include <stdbool.h>
 #include <stdint.h>
 
+/* 73 years: a line that is longer is refused where times are kept (line_fits_clock). A pulse that a person has slowed
+ * down to more lasts so long. */
+#define SCHEDULE_MOST_NS (INT64_MAX / 4)
+
 /* In nanoseconds of the monotonic clock; of a play without times, from its start. */
 struct schedule {
     bool is_timed;

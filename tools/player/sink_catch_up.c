@@ -6,6 +6,14 @@
 #include "sink_link.h"
 #include "way.h"
 
+/* They were made from where the record has the motors. */
+static void begin_path(struct player *player) {
+    for (int axis = 0; axis < 3; axis++) {
+        player->path[axis] = in_steps(player->left.nm[axis], player->step_nm[axis]);
+    }
+    player->has_path = true;
+}
+
 /* Counts the lines up to a byte of OUT. Where the machine stands is as --at says, if it does. */
 static bool count_to(struct play *play, uint64_t to) {
     static struct way way;
@@ -13,10 +21,12 @@ static bool count_to(struct play *play, uint64_t to) {
     struct cause why;
     struct move move;
     enum step step = MOVE;
+    begin_path(player);
     way_begin(&way, &player->source, player->lines, player->bytes, to, play->least_us);
     while ((step = way_next(&way, &move, &why)) == MOVE) {
-        for (int axis = 0; axis < 3 && move.line.kind == 'P' && !play->options->has_place; axis++) {
-            player->steps[axis] += move.line.step[axis];
+        for (int axis = 0; axis < 3 && move.line.kind == 'P'; axis++) {
+            player->path[axis] += move.line.step[axis];
+            player->steps[axis] += play->options->has_place ? 0 : move.line.step[axis];
         }
         if (!play->options->has_place) {
             backlash_take(&player->backlash, player->screws, &move.line, false);

@@ -127,9 +127,7 @@ static void count(struct play *play, const struct move *move) {
     if (move->is_done && line->kind == 'S') {
         player->outputs = line->outputs;
     }
-    player->is_off = player->is_off && player->lines == move->lines;
-    player->lines = move->lines;
-    player->bytes = move->bytes;
+    player_count(player, move->lines, move->bytes);
     play->counts.pulses += move->is_done && line->kind == 'P' && !move->is_extra;
     play->counts.waits += move->is_done && line->kind == 'D';
     play->counts.switches += move->is_done && line->kind == 'S';

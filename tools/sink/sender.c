@@ -160,7 +160,8 @@ static size_t put_begin(const struct sender *sender, uint8_t *body) {
     wire_put16(body + 9, sender->inputs.stops);
     wire_put16(body + 11, sender->inputs.halts);
     wire_put16(body + 13, sender->inputs.low);
-    wire_put64(body + 15, sender->mark);
+    wire_put16(body + 15, sender->inputs.debounce_us);
+    wire_put64(body + 17, sender->mark);
     return WIRE_BEGIN;
 }
 
@@ -237,6 +238,15 @@ static void seek(struct sender *sender, const struct sink_answer *answer) {
     sender->state = answer->state == SINK_RUNS || sender->listens ? SENDER_SEEKS : SENDER_BEGINS;
 }
 
+/* Whether an answer of another session tells that the chip started again. One of a later session does. A chip that
+ * doesn't keep the number of its boot begins with an earlier one, and so may an answer that was late: that is one, or a
+ * few, and none of this session is between them. */
+static bool tells_of_reset(struct sender *sender, const struct sink_answer *answer) {
+    bool is_new = answer->state == SINK_NEW && sender->new_answers < SENDER_NEW_ANSWERS;
+    sender->new_answers = (uint8_t)(sender->new_answers + is_new);
+    return is_before(sender->session, answer->session) || sender->new_answers == SENDER_NEW_ANSWERS;
+}
+
 void sender_read(struct sender *sender, uint8_t byte) {
     size_t size = 0;
     struct sink_answer answer;
@@ -247,8 +257,9 @@ void sender_read(struct sender *sender, uint8_t byte) {
         seek(sender, &answer);
     } else if (answer.session == sender->session) {
         sender->has_heard = true;
+        sender->new_answers = 0;
         heed(sender, &answer);
-    } else if (sender->state == SENDER_LINKED && is_before(sender->session, answer.session)) {
+    } else if (sender->state == SENDER_LINKED && tells_of_reset(sender, &answer)) {
         sender->state = SENDER_RESET;
     }
 }
@@ -257,7 +268,7 @@ const char *sender_why(const struct sender *sender) {
     static const char *const faults[] = {
         "nothing", "the sink heard nothing for half a second", "the sink was sent a word that isn't one",
         "the sink was asked to stop", "an input brought the sink to rest", "an input stopped the sink dead",
-        "the sink was asked to stop dead"};
+        "the sink was asked to stop dead", "the sink's main loop hung"};
     if (sender->state == SENDER_RESET) {
         return "the sink's chip started again";
     }

@@ -19,7 +19,8 @@ enum {
     SENDER_ROOM = WIRE_FIFO, /* words given and not known to be made */
     SENDER_BEGINS_MS = 20,   /* a session's beginning is asked for again after so long */
     SENDER_SPEAKS_MS = 5,    /* with no words to send it says after so long how many it sent */
-    SENDER_DEAF_MS = 2000    /* without an answer it says that it is deaf after so long */
+    SENDER_DEAF_MS = 2000,   /* without an answer it says that it is deaf after so long */
+    SENDER_NEW_ANSWERS = 20  /* so many in a row are of a chip that started again: 100 ms */
 };
 
 enum sender_state {
@@ -56,6 +57,7 @@ struct sender {
     uint32_t heard_at;     /* ms */
     uint8_t state;         /* enum sender_state */
     bool listens;          /* it begins no session */
+    uint8_t new_answers;   /* in a row, of a chip where no session has begun */
     bool is_heard;         /* an answer came since it began to seek */
     bool has_heard;        /* one of this session came since the last sender_write */
     bool has_spoken;

@@ -59,6 +59,8 @@ enum {
     RECEIVED = 1024,             /* bytes: 5 ms */
     DIRECTION_TICKS = 40,        /* 5 us from a direction to its step */
     STEP_TICKS = 16,             /* 2 us that a step's pin is high */
+    MOST_LATE_TICKS = 240,       /* 30 us that words may be late, and are made up for */
+    APART_TICKS = 80,            /* 10 us for the main loop, before a word that is later */
     PWM_STEPS = 7200,            /* 10 kHz */
     SPINDLE_MOST_RPM = 24000,    /* at the whole of the PWM */
     TIM2_INTERRUPT = 28,
@@ -81,16 +83,32 @@ void sink_port_timer(uint32_t ticks) {
     TIM2_DIER = COMPARED;
 }
 
-/* A word that is due already, as after a change of direction, is made at once. */
+static bool is_due(void) {
+    return (uint16_t)(due - TIM2_CNT - 1) >= 0x8000;
+}
+
+/* Says when the next word is due. Words that are shorter than this handler are made later, and those behind make up for
+ * it; but for no more than MOST_LATE_TICKS, or they would come as fast as the handler can long after that, whatever
+ * their own times are. */
+static void set_due(uint32_t after) {
+    uint16_t now = (uint16_t)TIM2_CNT;
+    due = (uint16_t)(due + after);
+    uint16_t late = (uint16_t)(now - due);
+    if (late > MOST_LATE_TICKS && late < 0x8000) {
+        due = (uint16_t)(now + APART_TICKS);
+    }
+    TIM2_CCR1 = due;
+    TIM2_SR = (uint32_t)~COMPARED;
+}
+
+/* A word that is due already, as after a change of direction, is made at once. The counter says whether one is, not the
+ * interrupt: a match while this works leaves one pending even where its word is made here, and its flag cleared. */
 static void timer_handler(void) {
     uint32_t after = 1;
-    bool is_past = (TIM2_DIER & COMPARED) != 0;
-    while (after > 0 && is_past) {
-        TIM2_SR = (uint32_t)~COMPARED;
+    TIM2_SR = (uint32_t)~COMPARED;
+    while (after > 0 && (TIM2_DIER & COMPARED) != 0 && is_due()) {
         after = sink_make(&sink);
-        due = (uint16_t)(due + after);
-        TIM2_CCR1 = due;
-        is_past = (uint16_t)(due - TIM2_CNT - 1) >= 0x8000;
+        set_due(after);
     }
     TIM2_DIER = after > 0 ? TIM2_DIER : 0;
 }
@@ -123,9 +141,10 @@ void sink_port_pins(uint8_t steps, uint8_t down, const struct sink_outputs *outp
     if (steps == 0) {
         return;
     }
-    if (down != directions) {
-        directions = down;
-        A_BSRR = spread(down) << 1 | spread(7) << 17;
+    uint8_t wanted = (uint8_t)((directions & ~steps) | (down & steps)); /* an axis that doesn't step keeps its own */
+    if (wanted != directions) {
+        directions = wanted;
+        A_BSRR = spread(wanted) << 1 | spread(7) << 17;
         pause_ticks(DIRECTION_TICKS);
     }
     A_BSRR = spread(steps);

@@ -45,6 +45,11 @@ class Failed(AssertionError):
     """The browser refuses something, or nothing comes of it."""
 
 
+_GOES_ON = """fetch('loss', { method: 'POST', body: '{"goes": true}', headers: { 'Content-Type': 'application/json',
+    'X-Page': sessionStorage.page, 'X-Stamp': ngc.state.stamp } }).then(answer => answer.ok || null)"""
+"""As the page asks for it. Its module isn't used: one that Firefox's driver imports is another one, with no stamp."""
+
+
 class Browser:
     """One browser with one page."""
 
@@ -106,8 +111,9 @@ class Browser:
         self.goes_on()
 
     def goes_on(self) -> None:
-        """A job goes on where the page is lost, as it is for a while if others want the processors."""
-        self.js("import('./link.js').then(link => link.post('loss', { goes: true })).then(() => true)")
+        """A job goes on where the page is lost, as it is for a while if others want the processors. What takes too long
+        for that reason is asked for again."""
+        self.wait(_GOES_ON)
 
     def fill(self, entry: str, text: str) -> None:
         """Types into an entry, in the place of what stands there, once it is one that isn't dead."""

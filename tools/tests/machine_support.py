@@ -144,6 +144,8 @@ class MachineLink:
     """A player of the file `out`, within the process, that carries out all that stands in it and makes moves without
     lines. It is deaf for them where `knows` isn't set, as ngc-player is."""
 
+    failed = ""
+
     def __init__(self) -> None:
         self.axes = Axes()
         self.carried = 0

@@ -133,8 +133,8 @@ class Yes:
 class SlowLink(SyncedLink):
     """Syncs as a slow disk does."""
 
-    def __init__(self, path: Path, out: Path, chance: random.Random) -> None:
-        super().__init__(path, out, 5 * PATIENCE_S)
+    def __init__(self, path: Path, out: Path, chance: random.Random, device: Path) -> None:
+        super().__init__(path, out, 5 * PATIENCE_S, str(device))
         self.chance = chance
 
     def sync(self) -> None:
@@ -149,7 +149,7 @@ class Job:
     def __init__(self, folder: Path, uncut: Uncut, options: Options, chance: random.Random, result: Result) -> None:
         self.folder, self.uncut, self.options, self.chance, self.result = folder, uncut, options, chance, result
         self.made: list[bytes] = []
-        for name in ("job.dev", "out", "record"):
+        for name in ("job.dev", "job.dev.out", "out", "record"):
             (folder / name).unlink(missing_ok=True)
         subprocess.run([options.ngc, "format", folder / "job.dev"], check=True)
         (folder / "out").touch()
@@ -265,7 +265,8 @@ class Session:
         self.killed = False
         self.player = self._start_player()
         try:
-            self.link = linked(self.player, folder, lambda: SlowLink(self.socket, folder / "out", chance))
+            self.link = linked(self.player, folder, lambda: SlowLink(self.socket, folder / "out", chance,
+                                                                        folder / "job.dev"))
         except BaseException:
             self._kill_all_that_is_left()
             raise
@@ -332,6 +333,7 @@ class Session:
         status = self.console.status()
         operator = Operator(self.console, self.face, Meter(self.link, self.options.ahead))
         operator.recover.found = found
+        operator.recover.begin(status)
         if self.timer and not self.timer.is_alive() and not self.killed:
             self.timer.start()
         if status.half != "none" or found.is_left() or not found.recovery.is_there():

@@ -1,5 +1,6 @@
 """What the tools take: files alone, of which there is an end, and no more memory or dry runs than is said."""
 import os
+import re
 import resource
 import signal
 import subprocess
@@ -141,6 +142,29 @@ class Bounds(InFolder):
         self.assertIn("many.ngc: 200 refusals, and more\n", said)
         said = told(check.main, "many.ngc", "--most", "3", "--ngc", ngc())[1]
         self.assertIn("many.ngc: 3 refusals, and more\n", said)
+
+    def test_all_refusals(self) -> None:
+        """Where all of 2,000 refused lines are asked for, it stops within two seconds of processor time, and says at
+        which bound; what is asked for by a number is found."""
+        for line, counts in (("Q1\n", range(450, 501)), ("G1 X1 Y2 A3\n", range(200, 201))):
+            Path("many.ngc").write_text("F9\n" + line * 2000 + "M2\n")
+            (_, one), (said, all_s) = (self.timed(*most) for most in (("--most", "1"), ("--most", "0")))
+            self.assertLess(all_s - one, 2, line)
+            found = re.search(r"many\.ngc: (\d+) refusals, and more\n", said)
+            self.assertTrue(found and int(found[1]) in counts, said[-500:])
+            self.assertTrue(said.endswith("--most 0 stops after 200 refusals and 1,000 dry runs; --most N looks for N.\n"),
+                            said[-500:])
+        Path("many.ngc").write_text("Q1\n" * 550 + "M2\n")
+        self.assertIn("many.ngc: 550 refusals, no warnings\n", self.timed("--most", "600")[0])
+
+    def timed(self, *words: str) -> tuple[str, float]:
+        """What ngc-check says of the program, and the processor time that it and its dry runs take, in seconds."""
+        def used() -> float:
+            both = (resource.getrusage(who) for who in (resource.RUSAGE_SELF, resource.RUSAGE_CHILDREN))
+            return sum(one.ru_utime + one.ru_stime for one in both)
+        before = used()
+        said = told(check.main, "many.ngc", *words, "--ngc", ngc())[1]
+        return said, used() - before
 
     def test_many_words(self) -> None:
         """Lines of many words that are refused take many dry runs: it stops after so many."""

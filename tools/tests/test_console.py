@@ -73,6 +73,8 @@ class Consoles(InFolder):
 class FakeLink:
     """A player that says what a test has it say, once RECEIVED lines are handed out."""
 
+    failed = ""
+
     def __init__(self, *behind: int, wants: int = 0, held: int = 0) -> None:
         self.behind, self.wants, self.held = list(behind), wants, held
         self.words: list[str] = []

@@ -15,7 +15,7 @@ from types import ModuleType
 
 sys.path.insert(0, str(Path(__file__).resolve().parent))
 
-from player_support import builds  # noqa: E402
+from player_support import builds, proved  # noqa: E402
 from session_support import PATIENCE_S, TOOLS, InFolder, Terminal, ngc, told  # noqa: E402
 from test_rehearse import HOLE, OUT  # noqa: E402
 
@@ -27,7 +27,7 @@ from ngc_tools.player.source import Source  # noqa: E402
 DOCS = TOOLS.parent / "docs"
 CAM = Path(__file__).resolve().parent / "cam"
 
-_COMMAND = re.compile(r"(?:\$ )?((?:ngc|ngc-\w+|mkfifo|cc|cp|grep|sed|tail|player|exec|echo|\{|:|tools/\S+) .*?)"
+_COMMAND = re.compile(r"(?:\$ )?((?:ngc|ngc-\w+|mkfifo|make|cp|grep|sed|tail|player|exec|echo|\{|:|tools/\S+) .*?)"
                       r"(?: {2,}[(#].*)?")
 _INLINE = re.compile(r"`((?:tools/|examples/)?(?:ngc-\w+|grep|\w+\.py) [^`]*)`")
 
@@ -89,14 +89,13 @@ def spoken(block: str) -> tuple[str, list[str]]:
 @cache
 def player() -> str:
     """The path of tools/player, built as docs/TOOLS.md says."""
-    folder = Path(builds(), "documents")
+    folder = Path(builds(), "documents").absolute()
+    build = next(command for command, _ in commands(chapters("TOOLS.md")[PLAYER]) if command.startswith("make "))
+    words = [*build.split(), f"OUT={folder}", f"ARCHIVES={' '.join(proved())}"]
     folder.mkdir(exist_ok=True)
-    if not (folder / "tools").exists():
-        (folder / "tools").symlink_to(TOOLS)
-    build = next(command for command, _ in commands(chapters("TOOLS.md")[PLAYER]) if command.startswith("cc "))
-    done = subprocess.run(["bash", "-c", build], cwd=folder, capture_output=True, text=True)
+    done = subprocess.run(words, cwd=TOOLS.parent, capture_output=True, text=True)
     if done.returncode or done.stderr:
-        raise AssertionError(f"{build}\n{done.stderr}")
+        raise AssertionError(f"{words}\n{done.stderr}")
     return str(folder / "player")
 
 
@@ -375,25 +374,25 @@ class Readme(Documents):
         shutil.copy("examples/mill.ngc", "mill.ngc")
         self.text, self.tried = self.chapter("../README.md", "")
         self.sides = [[(line[:self.WIDTH].strip(), line[self.WIDTH:]) for line in block.splitlines()]
-                      for block in blocks(self.text)[:2]]
+                      for block in blocks(self.text)[:3:2]]
 
     def test_dry_run(self) -> None:
         """The program, whose comment is cut short, and the text of its dry run."""
         command = "ngc dry mill.ngc --settings mill.toml"
         self.assertIn(f"`{command}`", self.text)
-        comment, *lines = (line for line, _ in self.sides[0] if line)
+        comment, *lines = (line for line, _ in self.sides[1] if line)
         whole, *program = Path("mill.ngc").read_text().splitlines()
         self.assertTrue(whole.startswith(comment.removesuffix("..)")))
         self.assertEqual(lines, program)
-        self.assertEqual([text for _, text in self.sides[0]], self.shell(command).splitlines())
+        self.assertEqual([text for _, text in self.sides[1]], self.shell(command).splitlines())
 
     def test_resume(self) -> None:
         """The answers to what is typed, after the tutorial's loss of power; then the program goes on to its end."""
         for title in CHAPTERS["TUTORIAL.md"][1:3]:
             for command, _ in self.chapter("TUTORIAL.md", title)[1]:
                 self.shell(command if "ngc-player" not in command else "true")
-        typed = "".join(line + "\n" for line, _ in self.sides[1] if line)
-        answers = [re.split(" {2,}", text)[0] for _, text in self.sides[1]]
+        typed = "".join(line + "\n" for line, _ in self.sides[0] if line)
+        answers = [re.split(" {2,}", text)[0] for _, text in self.sides[0]]
         said = self.shell("ngc run mill.dev mill.toml out-2", text=typed).splitlines()
         self.assertEqual(said[:len(answers)], answers)
         self.assertEqual(said[-2], "idle")

@@ -80,9 +80,9 @@ class Report(MachineTest):
 
     def test_report(self) -> None:
         """In mm: from 50 mm/s at 500 mm/s2 a stop takes 50^2 / 1000 = 2.5 mm, 1,000 steps of 0.0025 mm; from 25 mm/s at
-        300 mm/s2 1.0417 mm, 417 steps. In hand are wanted 3 / 5 v^2 / a + v / 50 + 360 lines."""
+        300 mm/s2 1.0417 mm, 417 steps. In hand are wanted 3 / 5 v^2 / a + v / 50 + 520 lines."""
         Path("motion.toml").write_text("[motion]\naccel_mm_s2 = [500, 500, 300]\nrate_mm_min = [3000, 0, 1500]\n"
-                                       "start_mm_min = [60, 0, 0]\n[window]\nlines = 2000\n[wait]\nspindle_s = 4\n"
+                                       "start_mm_min = [60, 0, 0]\n[window]\nlines = 3000\n[wait]\nspindle_s = 4\n"
                                        "[backlash]\nsteps = [20, 0, 3]\n")
         status, said, wrong = self.check("--settings-only")
         self.assertEqual((status, wrong), (0, ""))
@@ -91,11 +91,11 @@ class Report(MachineTest):
     rate      X 3,000   Y any   Z 1,500 mm/min at most
     start     X 60   Y 0   Z 0 mm/min at once
     slack     X 0.005   Y 0.005   Z 0.005 mm
-    window    2,000 lines
+    window    3,000 lines
     wait      4 s for the spindle
     backlash  X 0.05   Y 0   Z 0.0075 mm, in no time with ramps
-    X Y       a traverse of 3,000 mm/min at 500 mm/s2 takes 2.5 mm, 1,000 lines, to stop; 1,960 are wanted in hand
-    Z         a traverse of 1,500 mm/min at 300 mm/s2 takes 1.042 mm, 417 lines, to stop; 1,060 are wanted in hand
+    X Y       a traverse of 3,000 mm/min at 500 mm/s2 takes 2.5 mm, 1,000 lines, to stop; 2,120 are wanted in hand
+    Z         a traverse of 1,500 mm/min at 300 mm/s2 takes 1.042 mm, 417 lines, to stop; 1,220 are wanted in hand
 motion.toml: warning: a traverse of 3,000 mm/min is slowed down along Z: rate_mm_min is 1,500 there
 """)
 
@@ -122,7 +122,7 @@ motion.toml: warning: a traverse of 3,000 mm/min is slowed down along Z: rate_mm
 
     def test_feeds(self) -> None:
         """Of a program each feed that wants more than the window is told of once: 2,400 mm a minute 3 / 5 16000^2 /
-        200000 + 320 + 360 = 1,448 lines along X and Y, 1,200 mm a minute 192 + 160 + 360 ones; not along Z where 600 is
+        200000 + 320 + 520 = 1,608 lines along X and Y, 1,200 mm a minute 192 + 160 + 520 ones; not along Z where 600 is
         the most that its motor does."""
         Path("motion.toml").write_text(MOTION + "rate_mm_min = [0, 0, 600]\n[window]\nlines = 1000\n")
         Path("part.ngc").write_text(HEAD + "G1 Z-1 F2500\nX1 F1200\nG3 X1 Y0 I1 J0 F2400\nG1 X2\nM2\n")
@@ -137,6 +137,7 @@ motion.toml: warning: a traverse of 3,000 mm/min is slowed down along Z: rate_mm
                 ("[motion]\naccel_mm_s2 = [0, 1, 1]\n", "accel_mm_s2: not three whole numbers from 1 to 1000000"),
                 (MOTION + "slack_steps = 65\n", "slack_steps: not a whole number from 1 to 64"),
                 (MOTION + "jerk = 1\n", "motion: has a key that isn't one of its five: jerk"),
+                (MOTION + "[pins]\n", "has a table that isn't one of its nine: pins"),
                 ("", "motion: missing"), ("[", "not TOML"),
                 (MOTION + "[window]\nlines = 8001\n", "window: lines takes a whole number from 0 to 8000"),
                 (MOTION + "[backlash]\nsteps = [0, 0]\n",

@@ -7,6 +7,7 @@ import subprocess
 import sys
 import time
 import unittest
+from dataclasses import replace
 from pathlib import Path
 
 sys.path.insert(0, str(Path(__file__).resolve().parent))
@@ -431,7 +432,8 @@ class Jogging(Moving):
         self.wait_for("ten lines are carried out", lambda: self.link.ask().carried == 10)
         self.assertEqual(self.how(self.link.jog("Y+", "600", "1")), "done")
         self.link.along(330)
-        self.kept("reference 0.010000 1.000000 0.000000", "off")
+        self.kept("reference 0.010000 1.000000 0.000000", "path 0.010000 0.000000 0.000000", "off")
+        self.assertEqual(self.link.leads(), "0.010000 0.000000 0.000000")
         self.assertEqual((self.link.ask().carried, self.link.ask().behind), (10, 0))
         self.link.legs("2", "0.010 0 0", 110)
         self.wait_for("legs lead back", lambda: self.at() == (0.01, 0, 0) and self.link.ask().behind == 0)
@@ -733,16 +735,23 @@ class Files(Moving):
                          (-(10**18 - 1),) * 3, FileMark(2**63 - 1, 2**63 - 1, 2**32 - 1), "emergency", 9999, "XYZ",
                          True, "998 998 998")
         self.assertEqual(Record.of_text(longest.text(), "position"), longest)
+        beside = replace(longest, out="/" + "a" * 100, path_nm=(-2_500, 0, 999_999_999_999_999_999))
+        self.assertIn(b"\npath -0.002500 0.000000 999999999999.999999\nscrews ", beside.text())
+        self.assertEqual(Record.of_text(beside.text(), "position"), beside)
+        self.assertEqual(replace(longest, path_nm=(1, 2, 3)).text(), longest.text())  # OUT's name leaves no room
+        self.assertEqual(replace(beside, path_nm=beside.at_nm).text(), replace(beside, path_nm=None).text())
         Path("position").write_bytes(longest.text())
         self.assertEqual(self.refused("axis", "first.toml", "position"),
                          "position: the emergency stop stopped the motors, and where they are isn't known: --at X Y Z"
                          " tells it")
         for lines in (("homed ",), ("homed ZX",), ("homed A",), ("off", "homed X"), ("offs",), ("screws",),
-                      ("screws + -",), ("screws + - ??",), ("screws + - 0",), ("screws 999 - +",), ("screws + 07 -",)):
+                      ("screws + -",), ("screws + - ??",), ("screws + - 0",), ("screws 999 - +",), ("screws + 07 -",),
+                      ("path 1 2",), ("path 1 2 3 4",), ("path 1 2 .",), ("path 1  2",), ("path 1 2 3.1234567",),
+                      ("screws + - +", "path 1 2 3")):
             text = sector("out /axis", "lines 0", "bytes 0", "outputs S 0 0.000000 0 0 0 0", "reference 0 0 0", *lines)
             self.assertRaises(BadRecord, Record.of_text, text, "position")
             Path("position").write_bytes(text)
-            self.assertIn("line 6 is no line of a record" if lines[0] != "off" else "line 7 is no line of a record",
+            self.assertIn(f"line {5 + len(lines)} is no line of a record",
                           self.refused("axis", "first.toml", "position"))
 
 

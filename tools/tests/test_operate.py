@@ -739,9 +739,9 @@ class Ramps(InFolder):
 
     def test_hold(self) -> None:
         """Enter brings the motors to rest within what is in hand; run lets them go on, slower; the pins get each line
-        of the job once, in order. Of 600 lines of 2 ms 360 and 500 / 50 are wanted in hand."""
+        of the job once, in order. Of 900 lines of 2 ms 520 and 500 / 50 are wanted in hand."""
         self.device()
-        Path("part.ngc").write_text("G21 G90\nM3 S500\nG1 X0.6 F30\nM5\nM2\n")
+        Path("part.ngc").write_text("G21 G90\nM3 S500\nG1 X0.9 F30\nM5\nM2\n")
         Path("motion.toml").write_text("[motion]\naccel_mm_s2 = [500, 500, 500]\n")
         os.mkfifo("axis")
         player = self.start("ngc-player", "axis", "first.toml", "position", "--machine", "motion.toml", "--pins",
@@ -762,18 +762,18 @@ class Ramps(InFolder):
         self.assertTrue(report.is_held)
         self.assertIn(f"held\r\nthe motors stand, with {report.behind} lines in hand, up to 0.", shown)
         self.assertGreater(report.behind, 0)
-        self.assertLessEqual(report.behind, 370)
+        self.assertLessEqual(report.behind, 530)
         terminal.send(b"percent 90\n")
         terminal.read_to(PROMPT)
         self.assertEqual((link.ask().carried, link.ask().percent), (report.carried, 90))
         terminal.send(b"run\n")
-        self.assertIn(b"idle; X 0.600000 ", terminal.read_to(PROMPT))
+        self.assertIn(b"idle; X 0.900000 ", terminal.read_to(PROMPT))
         self.assertEqual(link.ask().behind, 0)
         terminal.send(b"quit\n")
         terminal.read_to(b"never")
         self.assertEqual((terminal.status(), player.wait(60)), (0, 0))
         self.assertEqual(Path("pins").read_text().splitlines(), ["S 0 500.000000 0 0 0 0", "S 1 500.000000 0 0 0 0"]
-                         + ["P 1 0 0 2000"] * 600 + ["S 0 500.000000 0 0 0 0"] * 2)
+                         + ["P 1 0 0 2000"] * 900 + ["S 0 500.000000 0 0 0 0"] * 2)
 
 
 class TimesWithRamps(InFolder):

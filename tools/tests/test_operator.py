@@ -81,6 +81,8 @@ class FileLink:
     """A player of the file `out`, which has carried out all that stands in it. It takes a point by `at`, if it
     `heeds` it; it is silent for as many questions as `silent` says."""
 
+    failed = ""
+
     def __init__(self, at: str = "0 0 0") -> None:
         self.position = Position((1000, 1000, 1000), list(map(nanometres, at.split())))
         self.outputs: Switch = OFF

@@ -37,7 +37,7 @@ from ngc_tools.page.pages import LOST_S  # noqa: E402
 from ngc_tools.page.rehearse import RehearsalRequest, rehearsed  # noqa: E402
 from ngc_tools.page.session import SessionCommand, PageSession  # noqa: E402
 from ngc_tools.page.state import Pictured  # noqa: E402
-from ngc_tools.player.progress import NoAnswer  # noqa: E402
+from ngc_tools.player.progress import MoveReport, NoAnswer  # noqa: E402
 
 EXAMPLES = TOOLS.parent / "examples"
 COARSE = """step_nm = [100000, 100000, 100000]
@@ -654,8 +654,8 @@ class PowerOfFile(Served):
         stands = [round(1000 * float(number)) for number in recover["stands"]]
         self.assertEqual((said["along"][0], said["along"][-1], said["approach"]["length"], said["refused"]),
                          (stands, [2000, 0, 0], "0.000", ""))
-        self.assertEqual(page.post("recover", {"at": ["0", "0", "0"]})[0], 200)
-        state = page.asked()  # that isn't where the record has them
+        self.assertEqual(page.post("recover")[0], 200)
+        state = page.asked()  # nobody has confirmed where the record has them
         self.assertIn("Do they stand there?", state["question"]["text"])
         page.agree(state)
         state = self.look(page)
@@ -684,6 +684,31 @@ class PowerOfFile(Served):
         self.begin_player()
         self.assertEqual(page.post("restart"), (200, {}))
         page.until("it begins", lambda now: now["session"] != state["session"] and not now["ended"])
+
+    def test_measured(self) -> None:
+        """Where somebody measured another place than the record's, the player takes that, and legs lead back from it.
+        Of one outside of the travel it is said why it isn't taken, and nothing follows."""
+        page = self.page()
+        self.load(page, CUT)
+        self.cuts(page, 5)
+        self.pull()
+        self.begin()
+        page = self.page()
+        stood = page.next()["motors"]
+        self.assertEqual(page.post("recover", {"at": ["0", "0", "1001"]}), (200, {}))
+        state = page.rested()
+        self.assertEqual((state["motors"], state["question"]), (stood, None))
+        self.assertRegex(page.said(), "refused X2 OutsideTravel: .*Z")
+        measured = [stood[0], "0.250000", stood[2]]
+        self.assertEqual(page.post("recover", {"at": measured}), (200, {}))
+        state = page.asked()
+        self.assertIn("by legs then: straight up, over, and down", state["question"]["text"])
+        self.assertEqual((state["motors"], state["recover"]["way"], state["past_mm"]), (measured, None, ""))
+        self.assertIn("by the record the motors aren't on the path of OUT", page.said())
+        page.agree(state, "-5")
+        state = page.asked()  # a height that isn't taken is asked for again, with why
+        self.assertIn("Z -5 lies below Z 0.000000: legs go up first", state["question"]["text"])
+        self.assertEqual(state["motors"], measured)
 
     def look(self, page: Page) -> dict:
         """Agrees to all that is asked, up to the look at the machine; the state then, or where nothing more is asked.
@@ -830,6 +855,17 @@ class Bands(unittest.TestCase):
         self.assertEqual(self.band("run", "", False)[:2], ("Starting", "idle"))
         self.assertEqual(self.band("run", "", False, 5)[:2], ("Running", "run"))
 
+    def test_tool_change(self) -> None:
+        """What follows a tool change is told where no job runs that it is of: what the player has in hand, as after the
+        page's server was killed."""
+        for under, more in ((SimpleNamespace(word="run"), ""),
+                            (None, ". What the player has in hand, 7 lines, is carried out then")):
+            session = SimpleNamespace(ended="", stand=SimpleNamespace(gone=""), face=PageFace(), under=under)
+            report = SimpleNamespace(word="works", waits=True, tool=2, behind=7, is_held=False)
+            status = Status(3, 9, ("0", "0", "0"), False, "program", 0, "idle")
+            standing = Standing(session, status, report, "line 1 of 4", "", "", "", False, PAGE)
+            self.assertEqual(standing.band(), ("Tool change", "ask", f"Put in tool 2{more}"))
+
     def test_typed(self) -> None:
         """Before a line of one's own begins, and after it, no line of the program is told to run."""
         self.assertEqual(self.band("run", ""), ("Running", "run", "line 1 of 4"))
@@ -905,8 +941,8 @@ class Given(unittest.TestCase):
         session.face, session.stand = PageFace(), SimpleNamespace(status=None)
         session.operator = SimpleNamespace(do=done.append, over=False)
         session.face.give_aside("percent 50")
-        session._do(SessionCommand("reference", lambda: done.append("reference"), 0, 0))
-        self.assertEqual((done, session.face.asides()), (["reference", "percent 50"], []))
+        session._do(SessionCommand("tool", lambda: done.append("tool"), 0, 0))
+        self.assertEqual((done, session.face.asides()), (["tool", "percent 50"], []))
 
     def test_late(self) -> None:
         """What is given once a command is through, while the session looks how all stands, is done then, before the
@@ -919,16 +955,16 @@ class Given(unittest.TestCase):
 
         def look() -> None:
             """Something is given, and then the next command."""
-            if done == ["reference"]:
+            if done == ["tool"]:
                 session.tell("single on")
                 session._next = SessionCommand("run", lambda: done.append("run"), 0, 0)
             elif "run" in done:
                 session.over.set()
 
-        session._look, session._see_end, session._look_at_way = look, lambda *_: None, lambda _: None
-        session.give("reference", lambda: done.append("reference"))
+        session._look, session._see_end, session._see_place = look, lambda *_: None, lambda _: None
+        session.give("tool", lambda: done.append("tool"))
         session._work()
-        self.assertEqual(done, ["reference", "single on", "run"])
+        self.assertEqual(done, ["tool", "single on", "run"])
 
     def test_finished(self) -> None:
         """A program that ran to its end isn't finished any more once another run, a move or a load is given, though
@@ -973,6 +1009,18 @@ class Shown(unittest.TestCase):
         for word, entries, number in (("run", 0, 1), ("run", 3, 3), ("recover", 3, 3), ("mdi", 1, 1), ("", 3, 1)):
             self.assertEqual(self.pictured(word, entries).number, number, (word, entries))
 
+    def test_left(self) -> None:
+        """Amid homing after an alarm nobody is asked where an axis stands as long as home is the way for one: the
+        player takes no place before that."""
+        pictured = self.pictured("")
+        for homes, homed, left in (("XYZ", "", ""), ("XYZ", "Z", ""), ("XZ", "Z", ""), ("XZ", "XZ", "Y"),
+                                   (None, "Z", "XY"), ("XYZ", "XYZ", "")):
+            machine = MoveReport("stands", homed, "limits")
+            pictured.session = SimpleNamespace(homes=homes)
+            pictured.operator = SimpleNamespace(session=SimpleNamespace(machine=machine))
+            pictured.stand = SimpleNamespace(machine=machine)
+            self.assertEqual(pictured._left, left, (homes, homed))
+
     def test_until_over(self) -> None:
         """Once the work of a command has ended, and until the command has, what was under way last is told, and not
         what stood before it; where somebody is asked meanwhile, what stands then."""
@@ -998,11 +1046,22 @@ class Shown(unittest.TestCase):
                 ("works", True, 4.5, "power"), ("works", True, 5.5, "player")):
             pictured = self.pictured("")
             pictured.session.begins_at = begins_at
-            pictured.report.word, pictured.face = word, SimpleNamespace(reported_at=5.0)
+            pictured.report.word, pictured.face = word, SimpleNamespace(reported_at=5.0, view=None)
             pictured.status = replace(pictured.status, known=is_known)
             pictured.stand.gone = "it is gone"
             pictured.session.ended, pictured.session.opened = "", SimpleNamespace(left_at=4.0)
             self.assertEqual(pictured._stale()["why"], why)
+
+    def test_old(self) -> None:
+        """While something is under way a place that was told a while ago isn't shown as the place now, as where the
+        player, or this computer, stands still for a second."""
+        pictured = self.pictured("run")
+        pictured.session.begins_at, pictured.session.ended, pictured.report.word = None, "", "works"
+        view, now = UnderWay("line 1", pictured.status, ""), time.time()
+        for shown, at, stale in ((view, now - 1, {"why": "player", "at": now - 1}), (view, now, None),
+                                 (None, now - 1, None), (view, 0.0, None)):
+            pictured.face = SimpleNamespace(reported_at=at, view=shown)
+            self.assertEqual(pictured._stale(), stale, (shown, now - at))
 
     def test_finished(self) -> None:
         """Nothing is finished as long as a command is under way."""

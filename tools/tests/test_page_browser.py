@@ -560,6 +560,17 @@ class Moves(InBrowser):
         browser.wait("ngc.state.alarm === '' && ngc.state.word === 'Idle'")
         self.no_complaints()
 
+    def test_ended_in_an_alarm(self) -> None:
+        """Where `ngc` is gone nothing is asked that nobody could take: what is enabled begins another session."""
+        browser = self.browser
+        self.machine.axes.alarm("limits")
+        browser.wait("ngc.state.alarm && !document.getElementById('over').hidden")
+        for pid in self.children():
+            os.kill(pid, signal.SIGKILL)
+        browser.wait("ngc.state.word === 'Ended' && document.getElementById('over').hidden")
+        self.assertTrue(browser.js("document.getElementById('run').disabled"))
+        self.assertFalse(browser.js("document.getElementById('restart').hidden"))
+
     def test_axis_without_home(self) -> None:
         """Of an axis that can't be homed after an alarm a person writes where it stands: the entry is empty."""
         browser, axes = self.browser, self.machine.axes
@@ -652,12 +663,60 @@ class Power(InBrowser):
         browser.wait("document.getElementById('run').textContent === 'Where is it?'")
         self.assertEqual(browser.js("[ngc.state.motors[0], ngc.state.at[0]].join()"), "3.000000,0.000000")
         browser.press("Where is it?", "#run")
+        browser.wait("document.getElementById('run').disabled")  # what it opens is open
         self.look("where the machine stands")
         # in 20 ms 401 lines of 50 us at most: so many steps of each axis, 1.7321 um, rounded up
         browser.press("Where the player counts, \u00b1 0.695 mm", "#over button")
         browser.wait("ngc.state.at[0] === '3.000000' && ngc.state.at[2] === '4.000000'")
         browser.wait("document.getElementById('run').textContent === 'Run' && !document.getElementById('run').disabled")
         self.no_complaints()
+
+    def half_done(self) -> None:
+        """Power is lost in a cut, and comes back: the page asks where the machine stands."""
+        browser = self.browser
+        self.load(SLOW, 4)
+        browser.press("Run", "#run")
+        browser.wait("ngc.state.motors[0] > 0.02")
+        before = browser.js("ngc.state.session")
+        self.pull()
+        self.begin_again()
+        browser.wait(f"ngc.state?.session && ngc.state.session !== '{before}'")
+        browser.goes_on()
+        browser.press("Next", "#over button")
+
+    def gives_up(self, y: str) -> None:
+        """Writes where the machine stands, confirms it, and gives the line up."""
+        browser = self.browser
+        browser.fill("input[aria-label='Machine Y']", y)
+        for _ in range(3):
+            browser.press("Confirm", "#over button")
+        browser.press("Next", "#over button")
+        browser.wait("document.querySelector('#over details')")
+        self.assertIn("Legs alone lead back", browser.js("document.querySelector('#over .words').textContent"))
+        browser.press("Next", "#over button")
+        browser.press("Give up", "#over button")
+        browser.press("Yes, give it up", "#over button")
+        browser.wait("ngc.state.half === 'none' && !ngc.state.busy")
+
+    def test_measured(self) -> None:
+        """A place that somebody measured, other than the record's, is the machine's once the line is given up."""
+        browser = self.browser
+        self.half_done()
+        self.gives_up("0.25")
+        browser.wait("ngc.state.known && ngc.state.motors[1] === '0.250000'")
+        self.assertEqual(browser.js("ngc.state.at.join()"), browser.js("ngc.state.motors.join()"))
+        browser.press("Recover", "#run")  # lines are left in OUT
+        browser.wait("document.getElementById('run').disabled")  # what it opens is open
+        self.no_complaints()
+
+    def test_outside(self) -> None:
+        """From outside of the travel, as where home was held at a switch, a line can be given up too: nobody knows
+        then where the machine is, and why its place isn't taken is told."""
+        browser = self.browser
+        self.half_done()
+        self.gives_up("1001")
+        self.assertFalse(browser.js("ngc.state.known"))
+        self.assertIn("X2 OutsideTravel", browser.js("document.getElementById('toast').textContent"))
 
     def not_rehearsed(self) -> None:
         """Where step 1 isn't rehearsed it says why, and what can be done: on a page that watches, where it fails."""

@@ -5,14 +5,17 @@ import os
 import signal
 import subprocess
 import sys
+import threading
 import unittest
 from pathlib import Path
 
 sys.path.insert(0, str(Path(__file__).resolve().parent))
 
 from page_support import OTHER, Page, Served  # noqa: E402
-from session_support import ngc  # noqa: E402
+from session_support import PATIENCE_S, ngc  # noqa: E402
 from test_moves import AT_SPEED, DOOR, MACHINE, X_LOW, World, program  # noqa: E402
+
+from ngc_tools.player.progress import Link  # noqa: E402
 
 QUICK = MACHINE.replace("[60, 60, 60]", "[600, 600, 600]").replace("agree_um = 20", "agree_um = 1000")
 CUT = "G17 G21 G90 G94\nG0 X0 Y0 Z0\nG1 X9 F60\nM2\n"
@@ -52,6 +55,10 @@ class Known(Served):
     def begin(self) -> None:
         """Starts both."""
         self.begin_player()
+        self.serve()
+
+    def serve(self) -> None:
+        """Starts the server."""
         self.server = self.start("ngc-page", "mill.dev", "first.toml", "out", "--player", "progress", "--machine",
                                  "motion.toml", "--ngc", ngc(), "--listen", "127.0.0.1:0")
         self.address = self.server.stdout.readline().strip()
@@ -215,7 +222,7 @@ class Known(Served):
 
     def test_home_from_two_places(self) -> None:
         """Power is lost in a jog: until home is through the place isn't told as known, and one that is held amid it
-        leaves two places."""
+        leaves two places, and how far each axis that isn't homed may be off."""
         page = self.page()
         page.post("jog", {"axis": "X", "sign": 1, "rate": "600", "length": "9"})
         page.until("it jogs", lambda state: float(state["motors"][0]) > 1)
@@ -224,7 +231,8 @@ class Known(Served):
         self.begin()
         page = self.page(OTHER)
         for ends in ("hold", "home"):
-            page.until("two places are told", lambda state: state["word"] == "Two places")
+            state = page.until("two places are told", lambda state: state["word"] == "Two places")
+            self.assertEqual((float(state["past_mm"] or 0) > 0, state["past_axes"]), (True, [True] * 3))
             self.assertEqual(page.post("home", {}), (200, {}))
             state = page.until("it homes", lambda state: state["does_move"].startswith("home "))
             self.assertEqual((state["word"], state["stale"] and state["stale"]["why"]), ("Homing", "power"))
@@ -232,6 +240,29 @@ class Known(Served):
                 self.assertEqual(page.post("hold"), (200, {}))
         state = page.until("it is homed", lambda state: state["homed"] == "XYZ" and not state["busy"])
         self.assertEqual((state["word"], state["stale"], state["known"]), ("Idle", None, True))
+        self.assertEqual((state["past_mm"], state["past_axes"]), ("", [False] * 3))
+
+    def test_ended_with_its_session(self) -> None:
+        """A jog whose server is gone ends as the next session begins, though somebody goes on to ask the player how it
+        is: nobody of this session wants it."""
+        page = self.page()
+        page.post("jog", {"axis": "X", "sign": 1, "rate": "6", "length": "9"})
+        page.until("it jogs", lambda state: float(state["motors"][0]) > 0.01)
+        link, other, is_over = Link("progress", PATIENCE_S), Link("progress", PATIENCE_S), threading.Event()
+        asks = threading.Thread(target=lambda: [other.ask() for _ in iter(lambda: is_over.wait(0.1), True)])
+        asks.start()
+        try:
+            self.server.kill()
+            self.server.wait()
+            self.assertEqual(link.machine().does, "jog X+")
+            self.serve()
+            state = self.page(OTHER).next()
+            self.assertEqual((state["machine"], state["word"]), ("stands", "Two places"))
+        finally:
+            is_over.set()
+            asks.join()
+            link.close()
+            other.close()
 
     def test_not_known_yet(self) -> None:
         """Power is lost in a cut: as long as nobody said that the motors stand where the record has them, that isn't

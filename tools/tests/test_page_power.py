@@ -11,7 +11,7 @@ from unittest.mock import patch
 sys.path.insert(0, str(Path(__file__).resolve().parent))
 
 from page_support import SHORT, Page, Served  # noqa: E402
-from player_support import built  # noqa: E402
+from player_support import built, preloaded  # noqa: E402
 from session_support import TOOLS, InFolder, ngc  # noqa: E402
 
 from ngc_tools.cli.page import Opener, make_parser  # noqa: E402
@@ -100,6 +100,76 @@ class Finished(unittest.TestCase):
                              (((9_000_000, 0, 0), 400_000), [moves[0].points]),
                              (((9_000_000, 0, 0), 900_000), [])):
             self.assertEqual([move.points for move in finished(moves, lost)], points, lost)
+
+
+# A disk of OUT that is full while the file `full` is there, for `ngc` alone, behind one byte more.
+FULL = r"""#define _GNU_SOURCE
+#include <dlfcn.h>
+#include <errno.h>
+#include <string.h>
+#include <sys/stat.h>
+#include <sys/statvfs.h>
+#include <unistd.h>
+ssize_t write(int file, const void *text, size_t size) {
+    static int is_full;
+    struct stat what, out;
+    ssize_t (*real)(int, const void *, size_t) = dlsym(RTLD_NEXT, "write");
+    if (strcmp(program_invocation_short_name, "ngc") != 0 || access("full", F_OK) != 0 || fstat(file, &what) != 0
+        || stat("out", &out) != 0 || what.st_ino != out.st_ino) {
+        return real(file, text, size);
+    }
+    is_full++;
+    errno = ENOSPC;
+    return is_full > 1 ? -1 : real(file, text, 1);
+}
+int statvfs64(const char *path, struct statvfs64 *found) {
+    int (*real)(const char *, struct statvfs64 *) = dlsym(RTLD_NEXT, "statvfs64");
+    int result = real(path, found);
+    found->f_bavail = access("full", F_OK) == 0 ? 0 : found->f_bavail;
+    return result;
+}
+"""
+
+
+class FullDisk(InFolder):
+    """OUT's disk is full in the midst of a job: it is named, and once there is room again the page's button leads on,
+    with the player that goes on."""
+
+    def test_full(self) -> None:
+        """400 pulses on, and 300 back. The pins got each of them once in the end, but for what is gone back over."""
+        self.device()
+        Path("out").touch()
+        words = (*("--follow", "--untimed", "--no-ask-tool", "--pins", "pins", "--progress", "progress"), "out",
+                 "first.toml", "position")
+        player = self.start("ngc-player", *words)
+        self.wait_for("the player listens", lambda: os.path.exists("progress"))
+        with patch.dict(os.environ, preloaded("disk", FULL)):
+            server = self.start("ngc-page", "mill.dev", "first.toml", "out", "--player", "progress", "--ngc", ngc(),
+                                "--listen", "127.0.0.1:0")
+        page = Page(server.stdout.readline().strip())
+        self.addCleanup(page.close)
+        page.rested()
+        page.post("mdi", {"line": "G0 X0.4"})
+        page.until("it is there", lambda state: state["motors"][0] == "0.400000" and not state["busy"])
+        Path("full").touch()
+        page.post("mdi", {"line": "G0 X0.1"})
+        state = page.until("it is told", lambda state: state["word"] == "Device failed" and not state["busy"])
+        self.assertIn("no room is left on the disk of OUT, out", page.said())
+        self.assertTrue(Path("out").read_bytes().endswith(b"\nP"))
+        os.unlink("full")
+        self.assertEqual(page.post("restart"), (200, {}))
+        state = page.until("another session goes on", lambda state: state["half"] != "none" and not state["ended"])
+        self.assertEqual((state["motors"][0], player.poll()), ("0.400000", None))
+        page.post("recover")
+        while state["motors"][0] != "0.100000":
+            state = page.until("it asks, or is there", lambda state: state["motors"][0] == "0.100000" or (
+                state["question"] and state["question"]["id"] not in page.answered))
+            if state["question"]:
+                page.agree(state)
+        page.rested()
+        pins = Path("pins").read_text().splitlines()
+        self.assertEqual((pins.count("P 1 0 0 50"), pins.count("P -1 0 0 50")), (400, 300))
+        self.assertEqual(Path("out").read_bytes().count(b"P -1 0 0 50\n"), 300)
 
 
 class Kept(InFolder):

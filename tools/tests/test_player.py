@@ -10,6 +10,7 @@ import sys
 import time
 import unittest
 from dataclasses import replace
+from itertools import product
 from pathlib import Path
 
 sys.path.insert(0, str(Path(__file__).resolve().parent))
@@ -148,9 +149,14 @@ class Playing:
         os.rename("copy", "out")
         self.assertEqual(self.refused("out", "first.toml", "position"), another)
         other = "out: not the file whose first 100 lines are carried out; --anew begins with its first line"
-        for text in (short[11:], "D 1000000\n" * 120, long.replace("1 0", "0 1"), ""):
+        for text in ("D 1000000\n" * 120, long.replace("1 0", "0 1")):
             Path("out").write_text(text)
             self.assertEqual(self.refused("out", "first.toml", "position"), other)
+        for text in (short[11:], short[:-1], ""):
+            Path("out").write_text(text)
+            self.assertEqual(self.refused("out", "first.toml", "position"), f"out: it has {len(text)} bytes, and by the"
+                             " record 1100 are carried out: its end is lost, or it is another file. Emptied (: > OUT)"
+                             " it begins anew with --anew, and recover leads back by legs")
         Path("out").write_text(long)
         done = self.play("--untimed", "--restored")
         self.assertEqual((done.returncode, done.stdout.splitlines()[-1]), (0, "reference 0.300000 0.000000 0.000000"))
@@ -200,6 +206,19 @@ class Playing:
         done = self.play("--untimed")
         self.assertEqual((done.returncode, done.stderr, done.stdout.splitlines()[-1]),
                          (0, "", "reference 0.005000 0.000000 0.000000"))
+
+    def waits(self, us: int) -> None:
+        """A wait of so many microseconds is waited for, and what comes before it is carried out."""
+        Path("out").write_text(f"P 1 0 0 50\nD {us}\nP 1 0 0 50\n")
+        child = self.begin("--no-ask-tool", "--pins", "pins", "out", "first.toml", "position")
+        self.wait_for("it waits", lambda: os.path.exists("pins") and f"D {us}\n" in Path("pins").read_text())
+        child.send_signal(signal.SIGTERM)
+        said, _ = child.communicate(timeout=PATIENCE_S)
+        self.assertEqual(said.splitlines()[-1], "reference 0.001000 0.000000 0.000000")
+
+    def test_long_wait(self) -> None:
+        """A wait of 73 years is waited for."""
+        self.waits(2305843009213693)
 
     def test_run(self) -> None:
         """Over a named pipe, which it makes small, from `ngc run` itself."""
@@ -374,6 +393,10 @@ class Python(Playing, InProcess, PlayerTest):
         self.assertEqual(done.returncode, 0)
         self.assertIn("line 2: 0.001000 0.000000 0.000000", done.stderr)
 
+    def test_longest_wait(self) -> None:
+        """As long a wait as a line can say, 584,942 years, is waited for."""
+        self.waits(18446744073709551615)
+
     def test_narrow(self) -> None:
         """The live line has less letters than the terminal columns, so that it never wraps."""
         place = (40_550_000, 30_000_000, -5_000_000)
@@ -412,6 +435,20 @@ class C(Playing, InC, PlayerTest):
     """tools/player."""
 
     chances = 60
+
+    def test_waits_beyond_the_clock(self) -> None:
+        """A time for which its clock has no room is named, and not cut: with ramps too, and in the file of times."""
+        Path("motion.toml").write_text("[motion]\naccel_mm_s2 = [1000, 1000, 1000]\n")
+        ways = ((), ("--machine", "motion.toml"), ("--untimed", "--times", "times"))
+        for words, line in product(ways, ("D 2305843009213694", "D 18446744073709551615", "P 1 0 0 2305843009213694")):
+            Path("out").write_text(f"P 1 0 0 50\n{line}\nP 1 0 0 50\n")
+            done = self.play(*words)
+            said = (f"out:2: a time of {line.rpartition(' ')[2]} microseconds, and the player's clock has room for 73"
+                    " years, 2305843009213693; stopped, spindle and coolant off")
+            self.assertEqual((done.returncode, done.stderr.splitlines()[-1]), (1, said), words)
+            self.assertEqual(done.stdout.splitlines()[-1], "reference 0.001000 0.000000 0.000000", words)
+            Path("position").unlink()
+            Path("times").unlink(missing_ok=True)
 
     def test_builds(self) -> None:
         """It is built without a warning, by clang too where that is there."""

@@ -11,6 +11,8 @@ from player_support import InC, InProcess, PlayerTest, Sanitized, sector  # noqa
 from session_support import FIRST, ngc  # noqa: E402
 
 NO_LINE = "not a line of OUT: "
+ZEROS = ("; zeros stand where the disk lost what was written, or its room was given back: recover in ngc-operate says"
+         " what it was")
 # What stands in a line of OUT, and what is said of it.
 LINES = (
     ("", NO_LINE + "''"), ("P", NO_LINE + "'P'"), ("P 1 0 0", NO_LINE + "'P 1 0 0'"),
@@ -21,7 +23,8 @@ LINES = (
     ("P 1 0 0 050", NO_LINE + "'P 1 0 0 050'"), ("P 1 0 0 -50", NO_LINE + "'P 1 0 0 -50'"),
     ("P 1 0 0 5x", NO_LINE + "'P 1 0 0 5x'"), ("p 1 0 0 50", NO_LINE + "'p 1 0 0 50'"),
     ("P 1 0 0 50P 1 0 0 50", NO_LINE + "'P 1 0 0 50P 1 0 0 50'"), ("P 1 0 0 50\r", NO_LINE + r"'P 1 0 0 50\r'"),
-    ("P 1 0 0 50\0", NO_LINE + r"'P 1 0 0 50\x00'"), ("P 1 0 0\t50", NO_LINE + "'P 1 0 0 50'"),
+    ("P 1 0 0 50\0", NO_LINE + r"'P 1 0 0 50\x00'" + ZEROS), ("\0" * 99, NO_LINE + "'" + r"\x00" * 60 + "...'" + ZEROS),
+    ("P 1 0 0\t50", NO_LINE + "'P 1 0 0 50'"),
     ("P 1 0 0 49", "a period of 49 us, and period_us of the settings is 50"),
     ("P 1 0 0 0", "a period of 0 us, and period_us of the settings is 50"),
     ("P 1 0 0 18446744073709551616", "a time of 18446744073709551616 microseconds"),

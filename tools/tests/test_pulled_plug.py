@@ -36,13 +36,13 @@ class PulledPlug(unittest.TestCase):
         self.assertGreaterEqual(result.finished + result.ended_short, 1)
 
     def test_ramps(self) -> None:
-        """With ramps, metered by as many lines as those of F600 want: 30 for a stop, 200 and 360; and by as many as the
-        player wants, with steps of 2 um: at most those of a traverse, 240 for a stop, 400 and 360. Some are lost."""
+        """With ramps, metered by as many lines as those of F600 want: 30 for a stop, 200 and 520; and by as many as the
+        player wants, with steps of 2 um: at most those of a traverse, 240 for a stop, 400 and 520. Some are lost."""
         with tempfile.TemporaryDirectory(prefix="ngc-plug-") as folder:
             machine = Path(folder) / "machine.toml"
             machine.write_text("[motion]\naccel_mm_s2 = [2000, 2000, 2000]\n")
             other = FIRST.replace("step_nm = [1000, 1000, 1000]", "step_nm = [2000, 2000, 2000]")
-            for player, ahead, most, settings in ((None, 590, 590, FIRST), (built("-O2"), 0, 1000, other)):
+            for player, ahead, most, settings in ((None, 750, 750, FIRST), (built("-O2"), 0, 1160, other)):
                 wanted = MOMENTS // 8
                 result = pull(Options(ngc(), ahead, 4096, player, 0.3, str(machine), settings), wanted, seed=most)
                 self.assertEqual((len(result.lost), max(result.lost) <= most), (wanted, True))

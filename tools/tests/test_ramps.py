@@ -166,19 +166,19 @@ class Ramps(PlayerTest):
 
     def test_wants(self) -> None:
         """So many lines as the fastest in hand needs: 20,000 pulses a second take 1,000 to rest from. That is 1,200
-        with a fifth, 400 for 20 ms, and 360 for corners; 2,000 a second want 12, 40 and 360."""
+        with a fifth, 400 for 20 ms, and 520 for corners; 2,000 a second want 12, 40 and 520."""
         child, pipe = self.piped("--machine", "motion.toml")
-        self.assertEqual(self.asked(), (100, 360))
+        self.assertEqual(self.asked(), (100, 520))
         self.link.hold()
         os.write(pipe, b"P 1 0 0 500\n" + b"P 1 0 0 50\n" * 100 + b"P 1 0 0 500\n" * 500)
-        self.wait_for("it sees fast lines", lambda: self.asked() == (100, 1960))
+        self.wait_for("it sees fast lines", lambda: self.asked() == (100, 2120))
         for percent in (40, 101, 999):
             self.link.override(percent)
         self.link.last()
-        self.assertEqual(self.asked(), (40, 1960))
+        self.assertEqual(self.asked(), (40, 2120))
         self.link.release()
-        self.wait_for("the fast lines are carried out", lambda: self.asked() == (40, 412))
-        self.wait_for("all are", lambda: self.link.ask().carried == 601 and self.asked() == (40, 360))
+        self.wait_for("the fast lines are carried out", lambda: self.asked() == (40, 572))
+        self.wait_for("all are", lambda: self.link.ask().carried == 601 and self.asked() == (40, 520))
         self.link.end()
         os.close(pipe)
         self.assertEqual(child.wait(60), 0)
@@ -199,7 +199,7 @@ class Ramps(PlayerTest):
 
     def test_last(self) -> None:
         """Told that no more lines come for now, it comes to rest at the end of those that are there, and no sooner:
-        where more may come, the last 64 wait for what is behind them. More may come later. `end` says it too."""
+        where more may come, the last 96 wait for what is behind them. More may come later. `end` says it too."""
         Path("motion.toml").write_text("[motion]\naccel_mm_s2 = [50, 50, 50]\n")
         child, pipe = self.piped("--machine", "motion.toml", "--times", "times")
         for count, tell in ((400, self.link.last), (800, self.link.end)):
@@ -213,7 +213,7 @@ class Ramps(PlayerTest):
         os.close(pipe)
         self.assertNotIn("ran dry", child.communicate(timeout=60)[0])
         times = self.times()
-        for rest in (336, 736):  # 64 pulses before a rest there are 1,600 a second, and 400 at 4 before one
+        for rest in (304, 704):  # 96 pulses before a rest there are 1,960 a second, and 400 at 4 before one
             self.assertLess(min(after - at for at, after in zip(times[rest - 4:], times[rest - 3:rest])), 1_250_000)
         self.assertGreater(times[400] - times[399], 1_200_000)
 

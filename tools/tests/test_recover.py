@@ -1,4 +1,5 @@
 """After a loss of power: ways along OUT, in both players; what ngc-operate and ngc-rehearse find; and `recover`."""
+import errno
 import os
 import random
 import shutil
@@ -8,8 +9,11 @@ import sys
 import time
 import unittest
 from collections.abc import Callable
+from contextlib import ExitStack
+from dataclasses import replace
 from functools import partial
 from pathlib import Path
+from unittest.mock import patch
 
 sys.path.insert(0, str(Path(__file__).resolve().parent))
 
@@ -22,6 +26,8 @@ from session_support import FIRST, InFolder, ngc, told  # noqa: E402
 from ngc_tools.cli.rehearse import main as rehearse  # noqa: E402
 from ngc_tools.formats.device import Device  # noqa: E402
 from ngc_tools.formats.out import OFF, read_line  # noqa: E402
+from ngc_tools.formats.out_note import OutNote  # noqa: E402
+from ngc_tools.formats.position import Position  # noqa: E402
 from ngc_tools.formats.record import Record  # noqa: E402
 from ngc_tools.formats.settings import Settings  # noqa: E402
 from ngc_tools.ngc.carried import CannotTell  # noqa: E402
@@ -30,7 +36,7 @@ from ngc_tools.ngc.handed_out import Finder, FileRecord, _only  # noqa: E402
 from ngc_tools.operator.meter import Meter  # noqa: E402
 from ngc_tools.operator.operator import Operator  # noqa: E402
 from ngc_tools.operator.past import along_out, by_rate  # noqa: E402
-from ngc_tools.operator.recovery import OutFound, Recovery  # noqa: E402
+from ngc_tools.operator.recovery import Looking, OutFound, Recovery  # noqa: E402
 from ngc_tools.operator.sentences import GO_ON, LOOK, LOOK_AGAIN, LOOK_SWITCHED, SWITCHED_THERE  # noqa: E402
 from ngc_tools.operator.synced import SyncedLink  # noqa: E402
 from ngc_tools.player.source import Source  # noqa: E402
@@ -431,6 +437,66 @@ class Finding(InFolder):
                          (wanted, uncut.at(wanted), False))
         self.assertEqual(whole.splitlines(), uncut.lines[:whole.count(b"\n")])
         self.assertGreaterEqual(len(whole), found.size)
+        self.try_whole(uncut, chance, lines, wanted)
+
+    def try_whole(self, uncut: object, chance: random.Random, lines: list[bytes], wanted: int) -> None:
+        """The same where nothing of OUT is lost, as within a session."""
+        carried = chance.randint(max(0, len(lines) - 150), len(lines))
+        Path("c.out").write_bytes(b"".join(lines))
+        finder = Finder(ngc(), "settings.toml", Path("c.dev").read_bytes(), is_whole=True)
+        size, (x, y, z) = sum(map(len, lines[:carried])), uncut.at(carried)
+        found = finder.find("c.out", FileRecord(size, (x, y, z)))
+        self.assertEqual((b"".join(lines)[:found.size].count(b"\n"), found.steps, found.missing, found.is_off),
+                         (wanted, uncut.at(wanted), b"", False))
+
+    def test_whole(self) -> None:
+        """Where nothing of OUT is lost the session's work isn't done again: the open segment's own lines tell where it
+        begins, and where nothing is open, that is at the end."""
+        self.device()
+        console = Console(ngc(), "mill.dev", "first.toml", "out")
+        self.addCleanup(console.kill)
+        console.load(b"G21 G90 G94\nG1 X0.5 F60\nX0\nX0.03\nM2\n")
+        console.ask("start")
+        for count, half, begins, x in ((80, "program", 0, 0), (500, "none", 500, 500), (600, "program", 500, 500),
+                                       (1012, "program", 1000, 0)):
+            while Path("out").read_bytes().count(b"\n") < count or console.status().half != half:
+                console.ask("tick 1")
+            lines = Path("out").read_bytes().splitlines(True)
+            self.assertEqual(len(lines), count)
+            stands, size = sum(int(line.split()[1]) for line in lines), sum(map(len, lines))
+            finder = Finder(ngc(), "first.toml", Path("mill.dev").read_bytes(), is_whole=True)
+            with patch.object(Finder, "_by_log", side_effect=AssertionError("it is done again")):
+                for y in (0, 9):  # on the path, and off it
+                    found = finder.find("out", FileRecord(size, (stands, y, 0)))
+                    self.assertEqual((found.size, found.steps, found.missing, found.is_off),
+                                     (sum(map(len, lines[:begins])), (x, 0, 0), b"", y != 0), count)
+
+    def test_outputs(self) -> None:
+        """What was on where the segment begins is known without a search in OUT for the switch, which may be an hour
+        back; one within the segment counts."""
+        self.device()
+        text = "G21 G90 G94\nM3 S100\nG1 X0.5 F60\nG86 X0.6 Z-0.1 R0.1 P1\nM2\n"
+        console = Console(ngc(), "mill.dev", "first.toml", "out")
+        self.addCleanup(console.kill)
+        console.load(text.encode())
+        console.ask("start")
+        for count in (300, 900):
+            while Path("out").read_bytes().count(b"\n") < count:
+                console.ask("tick 1")
+            with open("out", "rb") as file, patch("ngc_tools.operator.recovery.switched_at",
+                                                  side_effect=AssertionError("OUT is searched")):
+                size = len(Path("out").read_bytes())
+                at_nm = self.led_to(Path("out").read_bytes())
+                looking = Looking(ngc(), "first.toml", Path("mill.dev").read_bytes(), is_whole=True)
+                found = looking.look("out", file.fileno(), count, size, at_nm, OFF)
+            self.assertEqual((found.problem, found.outputs.spindle, found.outputs.speed), ("", 1, 100 * 10**6), count)
+
+    @staticmethod
+    def led_to(text: bytes) -> tuple[int, int, int]:
+        """Where lines lead, in nm: by hand, a step of 1 um each."""
+        pulses = [list(map(int, line.split()[1:4])) for line in text.splitlines() if line.startswith(b"P")]
+        x, y, z = (1000 * sum(axis) for axis in zip(*pulses))
+        return x, y, z
 
     def test_short(self) -> None:
         """Where less was handed out than the bytes by which a place is known, the search comes to its end: by hand, OUT
@@ -563,8 +629,10 @@ class Typing(Yes):
         return self.holds >= 0
 
 
-class Recovering(PlayerTest):
-    """`recover` and `drop`, beyond what a pulled plug shows."""
+class WithOperator(PlayerTest):
+    """An operator over a player that follows. `noted` is the device beside which it is noted what OUT has."""
+
+    noted: str | None = None
 
     def half_done(self, out: str = "out") -> None:
         """A device of which G0 Z0.020 is open, with an OUT of its 3 lines before and 6 of its own."""
@@ -584,9 +652,10 @@ class Recovering(PlayerTest):
         self.begin("--follow", *words, "--no-ask-tool", "--pins", "pins", "--progress", "progress", out,
                    "first.toml", "position")
         self.linked()
-        link = SyncedLink("progress", out) if out == "out" else self.linked()
+        link = SyncedLink("progress", out, device=self.noted) if out == "out" else self.linked()
         self.addCleanup(link.close)
         if out == "out":
+            link.hole = link.cut_hole()
             link.cut = partial(self.cut, link.cut)
         image = Device.read("mill.dev")
         found = OutFound.of(ngc(), "first.toml", link, image) if out == "out" else None
@@ -606,6 +675,10 @@ class Recovering(PlayerTest):
     def pins(self) -> list[str]:
         """What the pins got."""
         return Path("pins").read_text().splitlines()
+
+
+class Recovering(WithOperator):
+    """`recover` and `drop`, beyond what a pulled plug shows."""
 
     def test_no(self) -> None:
         """Lines that are left forbid all that hands out more; a no to any question moves nothing."""
@@ -637,6 +710,24 @@ class Recovering(PlayerTest):
         face.said.clear()
         operator.do("recover")
         self.assertEqual(face.said, ["recover is for what the last session left, before anything else is done"])
+
+    def test_place_within_a_cycle(self) -> None:
+        """The place that is shown is that of the segment, which isn't the block's first: the way out of a hole at
+        X0.002 Y0.003, from its bottom at Z-0.004."""
+        self.device()
+        text = "F60\nG81 X0.002 Y0.003 Z-0.004 R0.001\nM2\n"
+        self.run_ngc(f"load {len(text)}\n{text}start\ntick 19\nquit\n")
+        lines = Path("out").read_text().splitlines()
+        self.assertEqual((lines.count("P 0 0 -1 1000"), lines[-1]), (5, "P 0 0 1 50"))  # of R0.001 down, and a step up
+        source = Source("out")
+        size = source.size()
+        mark = source.mark(size)
+        source.close()
+        at = Position((1000, 1000, 1000)).take_all(read_line(line, 1) for line in lines)
+        Path("position").write_bytes(Record(f"{self.folder}/out", len(lines), size, OFF, at.nm, mark).text())
+        operator, face = self.operate("yes", "yes", "yes")
+        operator.do("recover")
+        self.assertIn("The motors are there: X 0.002000 Y 0.003000 Z -0.004000.", "\n".join(face.said))
 
     def cut_off(self, out: str = "out") -> list[str]:
         """A device of which G1 Z-0.010 at 60 mm a minute is open, under a spindle that turned, at X0.003."""
@@ -873,7 +964,7 @@ class Recovering(PlayerTest):
         Path("out").write_text("P 1 0 0 50\n" * 9)
         counts = [99, 99, 23, 22]
         link = SyncedLink.__new__(SyncedLink)
-        link.__dict__.update(file=os.open("out", os.O_RDWR), patience_s=60, follow=lambda: None,
+        link.__dict__.update(file=os.open("out", os.O_RDWR), notes=None, patience_s=60, follow=lambda: None,
                              kept=lambda: (0, counts.pop(0)))
         self.addCleanup(os.close, link.file)
         OutFound(link, None, Recovery(), []).cut(22)
@@ -900,6 +991,564 @@ class Recovering(PlayerTest):
             self.assertEqual(file.read(free).strip(b"\0"), b"")
             self.assertNotIn(b"\0", file.read())
         self.assertLessEqual(there.st_blocks, before - free // 512 + 64)
+
+
+class BesideThePath(WithOperator):
+    """Where the motors aren't where the record's line leads, as once they were homed or measured: the steps of OUT tell
+    where the open segment begins, from that line on. `legs` go up to Z 0.004, over, and down."""
+
+    LEGS = ("0.004", "600", "yes", "yes")
+
+    def lost_again(self) -> None:
+        """Power is lost before anything is typed, until the device's log tells nothing any more."""
+        for _ in range(3):
+            self.run_ngc("")
+
+    def recovered(self, at: str) -> list[str]:
+        """What the pins got of `recover`, with the motors at such a place."""
+        operator, face = self.operate(*self.LEGS, words=("--untimed", "--at", *at.split()))
+        operator.do("recover")
+        self.assertFalse([said for said in face.said if "isn't the OUT" in said or "doesn't" in said])
+        return self.pins()
+
+    def test_behind(self) -> None:
+        """Behind where it begins: legs to X3, from 2 lines past it. Then its 20 lines come again."""
+        self.half_done()
+        self.record_of(5, (3000, 0, 2000))
+        self.lost_again()
+        self.assertEqual(self.recovered("0.003 0.002 0.002"),
+                         ["P 0 0 1 50"] * 2 + ["P 0 -1 0 50"] * 2 + ["P 0 0 -1 100"] * 4 + ["S 0 0.000000 0 0 0 0"]
+                         + ["P 0 0 1 50"] * 20 + ["S 0 0.000000 0 0 0 0"])
+
+    def test_before(self) -> None:
+        """Before it: legs to X2, where the path was left, and on along the line that was left."""
+        self.half_done()
+        self.record_of(2, (2000, 0, 0))
+        self.lost_again()
+        self.assertEqual(self.recovered("0.002 0.001 0")[:11],
+                         ["P 0 0 1 50"] * 4 + ["P 0 -1 0 50"] + ["P 0 0 -1 100"] * 4
+                         + ["P 1 0 0 50", "S 0 0.000000 0 0 0 0"])
+
+    def test_told_again(self) -> None:
+        """The record that a player with --at left still says where its line leads, over players. Once the motors stand
+        there, nothing but the way back is left."""
+        self.half_done()
+        self.record_of(5, (3000, 0, 2000))
+        for at in (("0.003", "0.1", "0.002"), ("0.003", "-0.2", "0.002")):
+            child = self.begin("--follow", "--untimed", "--progress", "progress", "--at", *at, "out", "first.toml",
+                               "position")
+            self.linked()
+            self.wait_for("the record has it", lambda: f"0 {at[1]}00" in Path("position").read_text())
+            child.kill()
+            child.communicate()
+            self.assertIn("\npath 0.003000 0.000000 0.002000\n", Path("position").read_text())
+        self.lost_again()
+        operator, _ = self.operate("yes", "yes", words=("--untimed", "--at", "0.003", "0", "0.002"))
+        self.assertNotIn("path", Path("position").read_text())
+        operator.do("recover")
+        self.assertEqual(self.pins()[:2], ["P 0 0 -1 50"] * 2)
+
+    def test_from_the_first_line(self) -> None:
+        """A record of no line says where the first one begins: the motors are 2 steps beside it."""
+        self.half_done()
+        self.record_of(0, (0, 0, 0))
+        self.lost_again()
+        self.assertEqual(self.recovered("0 0.002 0")[:12],
+                         ["P 0 0 1 50"] * 4 + ["P 0 -1 0 50"] * 2 + ["P 0 0 -1 100"] * 4 + ["P 1 0 0 50"] * 2)
+
+    def test_within_legs(self) -> None:
+        """Power is lost within legs too: at 1 mm a minute a step takes 60 ms."""
+        self.half_done()
+        self.record_of(5, (3000, 0, 2000))
+        self.lost_again()
+        child = self.begin("--follow", "--progress", "progress", "--at", "0.003", "0.002", "0.002", "out", "first.toml",
+                           "position")
+        self.linked().legs("0.004", "0.003 0 0", 33, "1")
+        self.wait_for("they go down", lambda: "reference 0.003000 0.000000 0.003" in Path("position").read_text())
+        child.kill()
+        child.communicate()
+        self.assertIn("\npath 0.003000 0.000000 0.002000\n", Path("position").read_text())
+        operator, _ = self.operate("yes", *self.LEGS)
+        operator.do("recover")
+        self.assertEqual(self.pins()[1:6], ["P 0 0 -1 100"] * 4 + ["S 0 0.000000 0 0 0 0"])
+
+    def all_handed_out(self) -> None:
+        """No block is half-done: all lines alike were handed out, by lines of the operator's own."""
+        self.device()
+        self.run_ngc("mdi G0 X0.003\ntick 9\nmdi G0 X0.006\ntick 9\n")
+        self.assertEqual(Path("out").read_text(), "P 1 0 0 50\n" * 6)
+        self.record_of(2, (2000, 0, 0))
+
+    def go_on_from_beside(self) -> None:
+        """The motors are 0.02 mm beside the second of these lines: by legs to it, and on."""
+        operator, face = self.operate("0.004", "600", "yes", words=("--untimed", "--at", "0.002", "0.02", "0"))
+        operator.do("recover")
+        self.assertIn("by the record the motors aren't on the path of OUT: legs lead to it, and then on along 4 lines"
+                      " of OUT", face.said)
+        self.assertEqual(self.pins(), ["P 0 0 1 50"] * 4 + ["P 0 -1 0 50"] * 20 + ["P 0 0 -1 100"] * 4
+                         + ["P 1 0 0 50"] * 4)
+
+    def test_all_handed_out(self) -> None:
+        """The device's log still tells what was handed out last."""
+        self.all_handed_out()
+        self.go_on_from_beside()
+
+    def test_all_handed_out_and_lost_again(self) -> None:
+        """Nothing but its point is left."""
+        self.all_handed_out()
+        self.lost_again()
+        self.go_on_from_beside()
+
+    def test_another_out(self) -> None:
+        """An OUT that isn't the device's is still told apart, by where its lines lead from there."""
+        self.device()
+        Path("out").write_text("P 0 0 1 50\n" * 4)
+        self.record_of(1, (0, 0, 1000))
+        operator, face = self.operate(words=("--untimed", "--at", "0", "0.02", "0.001"))
+        operator.do("recover")
+        self.assertIn("out doesn't lead to where the device has the machine: it isn't the OUT of this device, or the"
+                      " record isn't that of this OUT", face.said)
+
+
+class BesideInC(InC, BesideThePath):
+    """tools/player."""
+
+
+class Questions(WithOperator):
+    """What is asked from a cut to cutting again, as docs/RECOVERY.md counts it: with the spindle on, and all answered
+    as they lead on. `recover` is the one command."""
+
+    def cut(self, real: Callable[[int], None], size: int) -> None:
+        """Cuts OUT."""
+        real(size)
+
+    def lost(self, out: str) -> tuple[str, ...]:
+        """G1 Z-0.010 is open, under a spindle that turned; all of OUT is carried out. Where the motors are then."""
+        self.device()
+        text = "M3 S900\nG0 X0.003\nG1 Z-0.010 F60\nM2\n"
+        reader = subprocess.Popen(["cat", out], stdout=subprocess.DEVNULL) if out == "axis" else None
+        self.run_ngc(f"load {len(text)}\n{text}start\ntick 18\nquit\n", out)
+        mark, lines, size, at = None, 0, 0, Position((1000, 1000, 1000), (3000, 0, -6000))
+        if reader:
+            reader.wait()
+        else:
+            source = Source("out")
+            texts, size = Path("out").read_text().splitlines(), source.size()
+            lines, mark = len(texts), source.mark(size)
+            at = Position((1000, 1000, 1000)).take_all(read_line(text, 1) for text in texts)
+            source.close()
+        Path("position").write_bytes(Record(f"{self.folder}/{out}", lines, size, OFF, at.nm, mark).text())
+        return tuple(str(at).split())
+
+    def asked(self, out: str, *answers: str, words: tuple[str, ...] = ()) -> list[str]:
+        """The first words of each question."""
+        operator, face = self.operate(*answers, out=out, words=("--untimed", *words))
+        operator.do("recover")
+        self.assertEqual(operator.look()[0].half, "none", face.said)
+        last = [said.strip().splitlines()[-1] for said, _ in face.asked]
+        return [said.split(":")[0].split("?")[0].split(",")[0] for said in last]
+
+    def test_file(self) -> None:
+        """Along OUT; without the first one where the place was told, as by --at where the record has it."""
+        self.lost("out")
+        self.assertEqual(self.asked("out", "yes", "yes", "yes", "yes"), [
+            "Do they stand there", "on was", "yes goes there", "yes goes on with the cut"])
+
+    def test_file_told(self) -> None:
+        """The place is told to the player."""
+        at = self.lost("out")
+        self.assertEqual(self.asked("out", "yes", "yes", "yes", words=("--at", *at)), [
+            "on was", "yes goes there", "yes goes on with the cut"])
+
+    def test_pipe(self) -> None:
+        """By legs."""
+        os.mkfifo("axis")
+        self.lost("axis")
+        self.assertEqual(self.asked("axis", "yes", "0.001", "", "yes", "yes", "yes"), [
+            "Do they stand there", "by legs then", "How fast down", "on was", "yes goes there",
+            "yes goes on with the cut"])
+
+
+class QuestionsInC(InC, Questions):
+    """tools/player."""
+
+
+class EndsWhereItBegan(WithOperator):
+    """Blocks that end where they began, of which OUT lost all with the power, while the device has them as done."""
+
+    noted = "mill.dev"
+
+    def begun(self, text: str) -> tuple[Operator, Typing]:
+        """An operator with an OUT of `text`."""
+        Path("out").write_text(text)
+        self.operator, self.face = self.operate()
+        return self.operator, self.face
+
+    def lost(self, lines: list[str], count: int) -> None:
+        """Power is lost before the last line's OUT was synced: it has its first `count` lines, and all of them are
+        carried out."""
+        self.operator.console.kill()
+        if self.noted and Path("noted").exists():
+            shutil.copy("noted", "mill.dev.out")
+        self.player.kill()
+        self.player.communicate()
+        whole = "".join(f"{line}\n" for line in lines[:count])
+        Path("out").write_text(whole)
+        found = Settings.read("first.toml").step_nm
+        at = Position(found).take_all(read_line(line, 1) for line in lines[:count])
+        source = Source("out")
+        mark = source.mark(len(whole))
+        source.close()
+        record = Record(f"{self.folder}/out", count, len(whole), OFF, at.nm, mark)
+        Path("position").write_bytes(record.text())
+        Path("pins").unlink(missing_ok=True)
+
+    def begin(self, *words: str, **how: object) -> subprocess.Popen[str]:
+        """Keeps the player."""
+        self.player = super().begin(*words, **how)
+        return self.player
+
+    def brought_back(self, lines: list[str], count: int) -> None:
+        """All lines behind the first `count` are put back, which is said, and `recover` carries them out."""
+        self.lost(lines, count)
+        operator, face = self.operate("yes", "yes", "yes")
+        lost = len(lines) - count
+        self.assertIn(f"out: {lost} lines that were handed out were lost with the power, and are put back: ngc run"
+                      " hands out the same ones again", face.said)
+        operator.do("run")
+        self.assertIn("nothing is done: lines stand in OUT", face.said[-1])
+        operator.do("recover")
+        self.assertEqual(self.pins(), lines[count:])
+        self.assertEqual(face.said[-1], "the motors are where what was handed out leads: run goes on")
+
+    def keep_note(self) -> None:
+        """It is that of the moment at which power will be lost."""
+        if self.noted:
+            shutil.copy("mill.dev.out", "noted")
+
+    def lines(self) -> list[str]:
+        """Those of OUT."""
+        return Path("out").read_text().splitlines()
+
+    def test_circle(self) -> None:
+        """A circle of 0.002 mm behind 3 steps."""
+        self.device()
+        operator, _ = self.begun("")
+        operator.do("G0 X0.003")
+        self.keep_note()
+        operator.do("G2 X0.003 I0.002 F60")
+        self.assertGreater(len(self.lines()), 10)
+        self.brought_back(self.lines(), 3)
+
+    def test_without_a_note(self) -> None:
+        """The same where nothing was noted, as after `ngc run` alone: the device's log tells it."""
+        self.noted = None
+        self.test_circle()
+
+    def test_log_begun_anew(self) -> None:
+        """The device's log is full in the midst of a program, and begun anew: 1,020 records are some 500 lines."""
+        self.device()
+        operator, face = self.begun("")
+        text = "G91\n" + "G0 X0.001\nG0 X-0.001\n" * 300 + "M0\nG4 P0.01\nM0\nM2\n"
+        operator.load("long", text.encode())
+        epoch = Device.read("mill.dev").epoch
+        operator.do("run")
+        self.assertEqual(Device.read("mill.dev").epoch, epoch + 1)
+        self.keep_note()
+        operator.do("run")
+        self.assertEqual(self.lines()[-1], "D 10000", face.said)
+        Path("noted").unlink()  # it was noted within the program, before the last lines
+        note = OutNote.of_text(Path("mill.dev.out").read_bytes())
+        self.assertEqual(note.epoch, epoch + 1)
+        self.brought_back(self.lines(), 600)
+
+    def test_noted_within(self) -> None:
+        """Where the log is begun anew in the midst of a program it is noted once no block is under way."""
+        self.device()
+        operator, _ = self.begun("")
+        operator.do("G0 X0.001")
+        link = operator.session.meter.link
+        before = Path("mill.dev.out").read_bytes()
+        operator.session.passed(operator.console.status())
+        self.assertEqual(Path("mill.dev.out").read_bytes(), before)
+        operator.console.ask("tool 1 0.5")
+        operator.console.load(b"M2\n")  # begins it anew
+        operator.session.passed(replace(operator.console.status(), half="mdi"))
+        self.assertEqual(Path("mill.dev.out").read_bytes(), before)
+        operator.session.passed(operator.console.status())
+        note, device = link.noted(), Device.read("mill.dev")
+        self.assertEqual((note.epoch, note.records, note.entries, note.size, note.begins),
+                         (device.epoch, 0, device.state.entries, 11, 11))
+
+    def test_as_left(self) -> None:
+        """Over any number of power ons `run` goes on with the next line of a program without a question, as long as
+        nothing else was done since; a line of one's own that moved is still known after them."""
+        self.device()
+        operator, face = self.begun("")
+        operator.load("a program", b"G21 G90\nG0 X0.003\nM0\nG0 X0.006\nM0\nG0 X0.009\nM2\n")
+        operator.do("run")
+        for typed, questions in (("", []), ("G0 Y0.002", ["go on all the same"])):
+            operator.do(typed)
+            for _ in range(3):
+                operator.console.kill()
+                self.player.kill()
+                self.player.communicate()
+                operator, face = self.operate("yes")
+            operator.do("run")
+            self.assertEqual([said.split("?")[0] for said, _ in face.asked], questions, face.said)
+        self.assertEqual(operator.look()[1].at.split()[0], "0.009000")
+
+    def test_another_out(self) -> None:
+        """An OUT that was emptied, as at the start of a day, or that is another one, has lost nothing."""
+        self.device()
+        operator, _ = self.begun("")
+        operator.do("G2 X0 I0.002 F60")
+        lines = self.lines()
+        self.lost(lines, 0)
+        shutil.copy("out", "new")
+        for name in ("out", "new"):
+            os.replace(name, "out")
+            Path("position").unlink(missing_ok=True)
+            operator, face = self.operate()
+            self.assertEqual([said for said in face.said if "lines" in said and "behind" not in said], [])
+            operator.do("recover")
+            self.assertEqual(face.said[-1], "nothing is half-done, and nothing is left in OUT: run goes on")
+            operator.console.kill()
+            self.player.kill()
+            self.player.communicate()
+
+    def test_all_of_an_empty_out(self) -> None:
+        """An OUT that was empty as the session began, and is so again: that isn't put back without a question."""
+        self.device()
+        operator, _ = self.begun("")
+        self.keep_note()
+        operator.do("G2 X0 I0.002 F60")
+        lines = self.lines()
+        self.lost(lines, 0)
+        operator, face = self.operate("yes", "yes", "yes", "yes")
+        self.assertTrue([said for said in face.said if f"has none of the {len(lines)} lines that were handed" in said])
+        operator.do("recover")
+        self.assertEqual(self.pins(), lines)
+
+    def test_not_noted(self) -> None:
+        """Where it can't be noted that is said once, and the work goes on; what isn't a note isn't written over."""
+        self.device()
+        Path("mill.dev.out").write_text("a drawing\n")
+        operator, face = self.begun("")
+        operator.do("G0 X0.002")
+        operator.do("G0 X0.003")
+        why = ("what OUT has isn't noted beside the device, by which lines are told that are lost with the power:"
+               " [Errno 17] it isn't what is kept there, and isn't written over: 'mill.dev.out'")
+        self.assertEqual(face.said.count(why), 3)
+        self.assertEqual((Path("mill.dev.out").read_text(), len(self.lines())), ("a drawing\n", 3))
+
+    def twice(self, typed: str) -> None:
+        """A line is typed twice: OUT ends with the first one as it would with the second."""
+        self.device()
+        operator, face = self.begun("")
+        operator.do("G0 Z0.001")
+        operator.do(typed)
+        once = len(self.lines())
+        self.keep_note()
+        operator.do(typed)
+        self.assertEqual(len(self.lines()), 2 * once - 1, face.said)
+        self.brought_back(self.lines(), once)
+
+    def test_circles(self) -> None:
+        """Circles."""
+        self.twice("G2 X0 I0.002 F60")
+
+    def test_waits(self) -> None:
+        """A line of OUT each."""
+        self.twice("G4 P0.01")
+
+    def test_holes(self) -> None:
+        """Down, a wait, and up."""
+        self.twice("G82 X0 Y0 Z-0.002 R0.001 P0.001 F60")
+
+
+class Holes(WithOperator):
+    """Zeros in the place of lines that weren't synced: an append that was lost in its midst. OUT has 3 lines before the
+    open segment and 6 of its own, of 11 bytes each."""
+
+    def with_hole(self, begin: int, end: int, lines: int, at_nm: tuple[int, int, int]) -> None:
+        """Such an OUT, with zeros from a byte on, and a record of so many lines."""
+        self.half_done()
+        self.record_of(lines, at_nm)
+        text = Path("out").read_bytes()
+        Path("out").write_bytes(text[:begin].ljust(begin, b"\0") + bytes(end - begin) + text[end:])
+
+    def test_before_the_segment(self) -> None:
+        """Lines 2 and 3 are lost: behind line 1 OUT is cut off, and they are put back, since the device tells them."""
+        self.with_hole(14, 40, 1, (1000, 0, 0))
+        operator, face = self.operate("yes", "yes", "yes")
+        said = [said for said in face.said if said.startswith("out: ")]
+        self.assertEqual(said, ["out: behind its line 1, at byte 11, 26 bytes of zeros stood in the place of lines,"
+                                " which the disk lost. It\nis cut off there, with 6 lines behind them that no motor carried"
+                                " out", "out: 2 lines that were handed out were lost with the power, and are put back:"
+                                " ngc run hands out the same ones again"])
+        operator.do("recover")
+        self.assertEqual(self.pins()[:3] + self.pins()[-21:], ["P 1 0 0 50"] * 2 + ["S 0 0.000000 0 0 0 0"]
+                         + ["P 0 0 1 50"] * 20 + ["S 0 0.000000 0 0 0 0"])
+
+    def test_within_the_segment(self) -> None:
+        """Lines of the segment's own come again."""
+        self.with_hole(50, 70, 4, (3000, 0, 1000))
+        operator, face = self.operate("yes", "yes", "yes")
+        self.assertEqual(len([said for said in face.said if said.startswith("out: ") or "never cut" in said]), 1)
+        operator.do("recover")
+        self.assertEqual(self.pins(), ["P 0 0 -1 50", "S 0 0.000000 0 0 0 0"] + ["P 0 0 1 50"] * 20
+                         + ["S 0 0.000000 0 0 0 0"])
+
+    def test_at_the_end(self) -> None:
+        """Zeros at the end, where the file is as long as it was to be."""
+        self.with_hole(55, 120, 4, (3000, 0, 1000))
+        _, face = self.operate()
+        self.assertIn("out: behind its line 5, at byte 55, 65 bytes of zeros stood in the place of lines, which the"
+                      " disk lost. It\nis cut off there, with 0 lines behind them that no motor carried out", face.said)
+        self.assertEqual(Path("out").stat().st_size, 55)
+
+    def test_never_cut(self) -> None:
+        """Where the device tells it no more, after other power ons: at most 22 // 10 + 1 + 6 pulses, each of at most
+        1.733 um, are never cut."""
+        self.with_hole(11, 33, 1, (1000, 0, 0))
+        for _ in range(3):
+            self.run_ngc("")
+        _, face = self.operate()
+        self.assertIn("the device doesn't tell any more what was handed out from there on. Up to the half-done segment,"
+                      " or without one up to\nthe end, it is never cut: at most 9 lines, 0.016 mm", face.said)
+
+    def test_another_file(self) -> None:
+        """Nothing is cut off a file that has other text too, or no zeros, or that a session has."""
+        Path("out").touch()
+        self.begin("--follow", "--progress", "progress", "out", "first.toml", "position")
+        self.linked()
+        for text in (b"P 1 0 0 50\n\0\0\0G1 X1\n", b"P 1 0 0 50\nP 1\nP 1 0 0 50\n", b"P 1 0 0 50\n", b"",
+                     b"P 1 0 0 5\nP 2 0 0 50\nP 1 0 0 50\n\0"):
+            Path("out").write_bytes(text)
+            link = SyncedLink("progress", "out")
+            self.assertEqual((link.cut_hole(), Path("out").read_bytes()), (None, text))
+            link.close()
+        self.device()
+        console = Console(ngc(), "mill.dev", "first.toml", "out")
+        self.addCleanup(console.kill)
+        console.status()
+        Path("out").write_bytes(bytes(40))
+        link = SyncedLink("progress", "out")
+        self.addCleanup(link.close)
+        self.assertEqual((link.cut_hole(), Path("out").stat().st_size), (None, 40))
+
+
+class Disk:
+    """What a disk has of the file `out`, by the system calls of this process. Once it `fails`, a sync takes what it
+    couldn't write for written, as Linux does: only what is written again after that comes to the disk."""
+
+    def __init__(self) -> None:
+        self.kept = bytearray()
+        self.dropped = 0  # so many bytes are taken for written
+        self.fails = False
+        self._real = os.fdatasync, os.fsync, os.pwrite, os.ftruncate
+
+    def sync(self, real: Callable[[int], None], file: int) -> None:
+        """A sync of any file."""
+        real(file)
+        if not os.path.samestat(os.fstat(file), os.stat("out")):
+            return
+        text = Path("out").read_bytes()
+        if self.fails:
+            self.fails, self.dropped = False, len(text)
+            raise OSError(errno.EIO, os.strerror(errno.EIO))
+        self.kept += bytes(max(0, self.dropped - len(self.kept))) + text[max(self.dropped, len(self.kept)):]
+
+    def write(self, file: int, text: bytes, begin: int) -> int:
+        """A write to any file at a place."""
+        if os.path.samestat(os.fstat(file), os.stat("out")):
+            self.kept[begin:begin + len(text)] = text
+        return self._real[2](file, text, begin)
+
+    def cut(self, file: int, size: int) -> None:
+        """A cut of any file."""
+        if os.path.samestat(os.fstat(file), os.stat("out")):
+            del self.kept[size:]
+            self.dropped = min(self.dropped, size)
+        self._real[3](file, size)
+
+    def patches(self) -> ExitStack:
+        """The calls of this process, until it is closed."""
+        stack, (datasync, sync, _, _) = ExitStack(), self._real
+        stack.enter_context(patch("os.ftruncate", self.cut))
+        stack.enter_context(patch("os.fdatasync", partial(self.sync, datasync)))
+        stack.enter_context(patch("os.fsync", partial(self.sync, sync)))
+        stack.enter_context(patch("os.pwrite", self.write))
+        return stack
+
+
+class Unsynced(WithOperator):
+    """A sync of OUT that fails once: the next one succeeds, and what the first one was to write isn't on the disk."""
+
+    def setUp(self) -> None:
+        """Three lines are on the disk, and carried out."""
+        super().setUp()
+        self.device()
+        Path("out").touch()
+        self.disk = Disk()
+        self.enterContext(self.disk.patches())
+        self.player = None
+        self.operator, self.face = self.operate("yes", "yes", "yes", "yes")
+        self.operator.do("G0 X0.003")
+
+    def begin(self, *words: str, **how: object) -> subprocess.Popen[str]:
+        """Keeps the player."""
+        self.player = super().begin(*words, **how)
+        return self.player
+
+    def test_named(self) -> None:
+        """It is said, and no line is carried out, or handed out, behind what is on the disk, whatever is typed."""
+        self.disk.fails = True
+        self.operator.do("G0 X0.5")
+        why = self.operator.session.meter.link.failed
+        self.assertEqual(why, "out: it can't be synced: Input/output error. What was handed out last may be lost,"
+                         " though it can be read, and no motor makes it before it is on the disk. Once the disk is well, quit,"
+                         " and start this again: it writes OUT again")
+        self.assertIn(f"{why}; nothing more is handed out", self.face.said)
+        handed_out = Path("out").read_bytes()
+        self.assertGreater(len(handed_out), 33)
+        for line in ("continue", "run", "G0 X0", "resume", "where"):
+            self.face.said.clear()
+            self.operator.do(line)
+            self.assertTrue(why in "\n".join(self.face.said) or self.face.said[-1].startswith("refused K1"), line)
+        self.assertEqual((Path("out").read_bytes(), self.pins()), (handed_out, ["P 1 0 0 50"] * 3))
+        self.assertEqual(self.operator.session.report().at, "0.003000 0.000000 0.000000")
+
+    def test_written_again(self) -> None:
+        """The next session writes OUT again before it goes by it, and all lines are made."""
+        self.disk.fails = True
+        self.operator.do("G0 X0.5")
+        self.operator.ending.tell_player()
+        self.operator.console.quit()
+        self.player.communicate()
+        self.assertEqual((bytes(self.disk.kept), self.disk.dropped > 33), (b"P 1 0 0 50\n" * 3, True))
+        operator, face = self.operate("yes", "yes", "yes", "yes")
+        self.assertEqual(bytes(self.disk.kept), Path("out").read_bytes())
+        operator.do("recover")
+        self.assertEqual(self.pins().count("P 1 0 0 50"), 500)
+        self.assertEqual(bytes(self.disk.kept), Path("out").read_bytes())
+
+    def test_at_the_end(self) -> None:
+        """The last sync of a program fails: what isn't made isn't shown as done."""
+        link = self.operator.session.meter.link
+        real = link._tell
+
+        def tell() -> None:
+            """Fails once all is handed out."""
+            self.disk.fails = self.operator.console.status().half == "none" and link.size() > link.told
+            real()
+
+        link._tell = tell
+        self.operator.do("G0 X0.004")
+        self.assertIn(f"{link.failed}", self.face.said)
+        self.assertEqual(self.pins(), ["P 1 0 0 50"] * 3)
+        self.assertFalse(self.operator.work.await_motors())
 
 
 class PulledPlug(unittest.TestCase):

@@ -8,28 +8,22 @@ import subprocess
 import sys
 import tempfile
 import unittest
-import zlib
 from collections.abc import Iterator
 from pathlib import Path
-from typing import NamedTuple
 
 sys.path.insert(0, str(Path(__file__).resolve().parent))
 
 from player_support import SANITIZERS, built, has_sanitizers  # noqa: E402
 from session_support import TOOLS  # noqa: E402
+from sink_frames import (ANSWER, ASKED, BROKEN, DEAD, HUNG, INPUT, LEAST, LINE, LINE_SWITCH, MARK, MS,  # noqa: E402
+                         NEW, NOTHING, OUTPUT, REST, RUNS, SILENT, STANDS, STEEP, STOPPED, SWITCH, TOKEN, TOUCHED, WORD,
+                         Answer, answers, begin_frame, framed, slope_of, steep, stop_frame, switches, unstuffed, word,
+                         words_frame)
+from sink_support import bench  # noqa: E402
 
 SINK = TOOLS / "sink"
-MS = 8000  # ticks
-LEAST = 40
-TOKEN = 4_000_000_000
-MARK = 2**60 + 3
 NO_MARK = 2**64 - 1
-LINE, LINE_SWITCH = 0x80 << 24, 0x02
-REST, OUTPUT, SWITCH = 0x40, 0x80, 0x01
 FIFO = 2048
-STEEP = 100  # the byte of a slope of 49,152: from 20,000 words a second it takes 559 to stop
-NEW, STANDS, RUNS, STOPPED, BROKEN = range(5)
-NOTHING, SILENT, WORD, ASKED, TOUCHED, INPUT, DEAD = range(7)
 SEEKS, BEGINS, LINKED, ENDED, RESET = range(5)
 TAKEN, LATER, REFUSED = range(3)
 WINDOW = 20 * MS
@@ -39,86 +33,6 @@ RUN_COUNT = int(os.environ.get("NGC_SINK_RUNS", "40"))
 def program(*parts: Path) -> str:
     """The path of a program of tools/sink, with the sanitizers where there are any."""
     return built("-std=c99", *(SANITIZERS if has_sanitizers() else ("-O2",)), "-I", SINK, sources=parts)
-
-
-def stuffed(body: bytes) -> bytes:
-    """A body as it goes over the line: each zero replaced by how far it is to the next, and one at the end."""
-    return b"".join(bytes([len(run) + 1]) + run for run in body.split(b"\0")) + b"\0"
-
-
-def framed(body: bytes) -> bytes:
-    """A body with its CRC as it goes over the line."""
-    return stuffed(body + struct.pack("<I", zlib.crc32(body)))
-
-
-def word(value: int, bits: int) -> bytes:
-    """A word's five bytes."""
-    return struct.pack("<IB", value, bits)
-
-
-def steep(ticks: int, bits: int) -> tuple[int, int]:
-    """A word with a slope."""
-    return ticks | STEEP << 24, bits
-
-
-def slope_of(value: int) -> int:
-    """How much the square of the rate may change from a word to the next; 2^42 over the square of its ticks."""
-    return (8 | value >> 24 & 7) << (value >> 27 & 15)
-
-
-def words_frame(session: int, first: int, *words: tuple[int, int]) -> bytes:
-    """A frame of words."""
-    return framed(struct.pack("<BII", 1, session, first) + b"".join(word(*each) for each in words))
-
-
-def begin_frame(session: int, stops: int = 0, low: int = 0, halts: int = 0) -> bytes:
-    """A frame that ends a session and begins the next."""
-    return framed(struct.pack("<BIIHHHQ", 2, session, TOKEN, stops, halts, low, MARK))
-
-
-def stop_frame(session: int, at_once: int = 0) -> bytes:
-    """A frame that stops."""
-    return framed(struct.pack("<BIB", 3, session, at_once))
-
-
-class Answer(NamedTuple):
-    """What an answer says."""
-
-    session: int
-    taken: int
-    made: int
-    state: int
-    fault: int
-    inputs: int
-    lost: int
-    token: int
-    touched: int = 0
-    dry: int = 0
-    mark: int = 0
-    lines: int = 0
-
-
-ANSWER = "<BIIIBBHHIIHQI"
-
-
-def answers(line: bytes) -> list[Answer]:
-    """The answers of a line without damage."""
-    found = []
-    for frame in line.split(b"\0")[:-1]:
-        body = unstuffed(frame + b"\0")
-        kind, *fields, crc = struct.unpack(ANSWER + "I", body)
-        assert kind == 4 and crc == zlib.crc32(body[:-4]), frame
-        found.append(Answer(*fields))
-    return found
-
-
-def unstuffed(frame: bytes) -> bytes:
-    """The body of a frame, with its CRC."""
-    body, at = b"", 0
-    while frame[at]:
-        body += frame[at + 1:at + frame[at]] + b"\0"
-        at += frame[at]
-    return body[:-1]
 
 
 class Child:
@@ -152,7 +66,7 @@ class Sink(Child):
 
     def __init__(self) -> None:
         """Starts it with boot 1."""
-        super().__init__(program(*(SINK / name for name in ("sink_posix.c", "sink.c", "make.c", "wire.c"))), "1")
+        super().__init__(*bench())
         self.line = os.open(self.child.stdout.readline().strip(), os.O_RDWR | os.O_NOCTTY)
         self.wrote = self.read = self.now = 0
 
@@ -207,12 +121,6 @@ class Sender(Child):
     def step(self, now: int, line: bytes) -> list[bytes]:
         """The frames that it sends after these bytes came."""
         return self.tell(f"step {now} {line.hex()}")
-
-
-def switches(spindle: int, speed: int, mist: int, flood: int, selected: int, slot: int) -> list[tuple[int, int]]:
-    """The two words of outputs."""
-    value = speed >> 32 << 20 | slot << 12 | selected << 4 | flood << 3 | mist << 2 | spindle
-    return [(speed & 0xffffffff, OUTPUT | REST), (value, OUTPUT | SWITCH | REST)]
 
 
 def lasts(each: tuple[int, int]) -> int:
@@ -421,11 +329,11 @@ class Bytes(SinkTest):
         """The frame of docs/SINK.md, byte by byte."""
         text = (TOOLS.parent / "docs" / "SINK.md").read_text()
         block = text.partition("as it goes over the line:\n\n")[2].partition("\n\n")[0]
-        frame = words_frame(0x00010001, 0, steep(320, 0x01), steep(400, 0x4a))
+        frame = words_frame(0x00010001, 0, steep(320, 0x01), steep(400, 0x52))
         self.assertEqual(bytes.fromhex(block), frame)
         self.sink.ask("boot 1")
         events, _ = self.sink.run(10, begin_frame(0x00010000) + frame)
-        self.assertEqual([event[1:] for event in events if not is_off(event)], [(1, 0), (2, 1)])
+        self.assertEqual([event[1:] for event in events if not is_off(event)], [(1, 0), (2, 2)])
 
     def test_times(self) -> None:
         """Words are made in their times, and at their end it stands; an S line's outputs come in their place."""
@@ -644,6 +552,58 @@ class Faults(SinkTest):
             self.assertLessEqual(answer.made - made, 10)
             self.stopped(answer, answer.made, BROKEN, INPUT)
 
+    def test_debounce(self) -> None:
+        """An input that stops dead is heeded once it was on for debounce_us, within twice that; one look alone isn't
+        enough. In motion and at rest."""
+        for ticks, count in ((80, 800), (MS, 8), (16 * MS, 1)):
+            session = self.boot() + 1
+            self.sink.run(6, begin_frame(session - 1, stops=4, debounce_us=2000))
+            line = b"".join(words_frame(session, at, *[(ticks, 1)] * 40, (LEAST, REST)) for at in range(0, 820, 41))
+            self.sink.run(5, line)
+            self.sink.ask("inputs 4")
+            self.assertEqual(self.sink.last(1, b"").state if self.sink.run(1)[1] else RUNS, RUNS)
+            self.sink.ask("inputs 0")
+            answer = self.sink.last(6)
+            self.assertEqual((answer.state, answer.fault), (RUNS, NOTHING), ticks)
+            at = self.sink.now
+            self.sink.ask("inputs 4")
+            events, line = self.sink.run(10)
+            off = next(event[0] for event in events if len(event) == 7) - at
+            self.assertTrue(2 * MS <= off <= 5 * MS, (ticks, off))
+            self.assertEqual(answers(line)[-1].fault, INPUT)
+            self.sink.ask("inputs 0")
+
+    def test_hung(self) -> None:
+        """The main loop doesn't come by any more: the timer alone brings the motors to rest, by the slopes."""
+        session = self.began()
+        words = [steep(400, 1)] * 2000  # 20,000 a second, from which a stop takes 559 words and 56 ms
+        line = b"".join(words_frame(session, at + 2, *words[at:at + 48]) for at in range(0, len(words), 48))
+        self.sink.run(20, line)
+        self.sink.ask("hang 130")
+        at = self.sink.now
+        events, _ = self.sink.run(129)
+        steps = [event for event in events if len(event) == 3]
+        gaps = [after[0] - event[0] for event, after in zip(steps, steps[1:])]
+        slope, left = slope_of(STEEP << 24), math.ceil(2**21 / 400) ** 2
+        begun = len(gaps) - gaps[::-1].index(400)
+        self.assertTrue(20 * MS <= steps[begun][0] - at < 22 * MS, steps[begun][0] - at)
+        self.assertEqual(gaps[begun:begun + 555],
+                         [math.ceil(2**21 / math.isqrt(left - n * slope)) for n in range(1, 556)])
+        self.assertLess(len(gaps), begun + 562)
+        self.assertTrue(is_off(events[-1]))
+        answer = self.sink.last(10)
+        self.assertEqual(answer[3:5], (STOPPED, HUNG))
+        self.stopped(answer, answer.made, STOPPED, HUNG)
+
+    def test_comes_by(self) -> None:
+        """A main loop that is late for less than 20 ms is no fault."""
+        session = self.began()
+        words = [(400, 1)] * 1000
+        line = b"".join(words_frame(session, at + 2, *words[at:at + 48]) for at in range(0, len(words), 48))
+        self.sink.run(5, line)
+        self.sink.ask("hang 18")
+        self.assertEqual(self.sink.last(26)[3:5], (RUNS, NOTHING))
+
     def test_halts(self) -> None:
         """An input that brings it to rest: by the slopes, and it says after how many words it came on."""
         session = self.began(halts=2)
@@ -779,6 +739,19 @@ class Sent(SinkTest):
             session.step(5, [])
         self.assertEqual(session.ends[1:], ["the sink's chip started again"])
 
+    def test_count_lost(self) -> None:
+        """A chip that doesn't keep the number of its boot starts again, with an earlier session: the sender says so."""
+        for boot in (0, 1):
+            self.boot()
+            session = self.linked()
+            while len(session.made) < 1:
+                session.step(1, [(MS, 1)] * 400)
+            session.boot(boot)
+            until = session.now + 200
+            while not session.ends and session.now < until:
+                session.step(1, [(MS, 1)] * 400)
+            self.assertEqual(session.ends, ["the sink's chip started again"], boot)
+
     def linked(self) -> Session:
         """A session that has begun."""
         session, _ = self.session(1)
@@ -847,8 +820,11 @@ class Sent(SinkTest):
         self.assertEqual(heard(396, 390, 2)[1][:2], [396 & 255, 444 & 255])
         self.assertEqual(heard(401, 30, 2), (390, []))
         self.assertEqual(heard(5000, 4999, 2), (390, []))
-        self.sender.step(session.now, framed(struct.pack(ANSWER, 4, self.sender.session - 1, *[0] * 11)))
-        self.assertEqual(self.sender.state, LINKED)
+        of_before = framed(struct.pack(ANSWER, 4, self.sender.session - 1, *[0] * 11))
+        for _ in range(3):
+            self.sender.step(session.now, of_before * 15)
+            self.assertEqual(self.sender.state, LINKED)
+            heard(401, 390, 2)
 
     def test_any_boot(self) -> None:
         """A chip may have started any number of times."""

@@ -1,5 +1,5 @@
-"""The walk by chance over the page, at seeds that are always the same, for so many seconds as NGC_WALK_S says; and that
-it finds faults that are planted. Skipped where there is no Chromium."""
+"""The walk by chance over the page, at seeds that are always the same, for a minute and a half, or for so many seconds
+as NGC_WALK_S says; and that it finds faults that are planted. Skipped where there is no Chromium."""
 import os
 import signal
 import sys
@@ -17,8 +17,9 @@ from walk_late import Lateness  # noqa: E402
 from walk_page import Tabs  # noqa: E402
 from walk_rules import Wrong  # noqa: E402
 
-WALK_S = float(os.environ.get("NGC_WALK_S", "0"))
+WALK_S = float(os.environ.get("NGC_WALK_S", "90"))
 SHORTEN_S = 60.0
+"""So long a walk that failed is shortened; its seed and all of its steps are told before that."""
 STEPS = 40
 LONG = "G17 G21 G90 G94\nM3 S1000\nG1 X50 F200\nG1 X0\nM2\n"
 """Half a minute of cuts."""
@@ -34,7 +35,7 @@ def setUpModule() -> None:
     unittest.addModuleCleanup(LATE.close)
 
 
-@unittest.skipUnless(WALK_S, "not yet walked for an hour: NGC_WALK_S=90 walks for so many seconds")
+@unittest.skipUnless(WALK_S, "NGC_WALK_S is 0")
 class ByChance(unittest.TestCase):
     """Nothing is wrong."""
 
@@ -45,6 +46,7 @@ class ByChance(unittest.TestCase):
             seed += 1
             failure = walked(TABS, LATE, covered, seed, STEPS, until)
             if failure:
+                print(told(failure, failure.steps), file=sys.stderr, flush=True)
                 self.fail(told(failure, shortened(TABS, LATE, failure, SHORTEN_S)))
         print(f"walked by chance for {WALK_S:.0f} s: {covered}", file=sys.stderr)
         self.assertGreater(covered.checked["place"], 0)

@@ -13,6 +13,7 @@ import json
 import os
 import random
 import re
+import signal
 import sys
 import tempfile
 import time
@@ -310,7 +311,7 @@ class Walk:
             self._zero_asked(text)
             return
         was_quiet, axis = not truth.may_move, _AXIS.match(text)
-        truth.may_move = True
+        truth.may_move, truth.is_change_done = True, text.startswith("Tool")
         if axis:
             ways = {f"{axis[1]}{way}" for way in {"+": "+", "\u2212": "-", "": "+-"}[axis[2]]}
             truth.ways = ways if was_quiet else truth.ways and truth.ways | ways
@@ -758,6 +759,8 @@ def main(words: list[str]) -> int:
     parser.add_argument("--keep-on", action="store_true", help="walks on after a failure, without shortening it")
     parser.add_argument("--tell", action="store_true", help="tells each step, and how long it took")
     given = parser.parse_args(words)
+    for number_ in (signal.SIGINT, signal.SIGTERM):  # whoever ends it is told what was walked, in the background too
+        signal.signal(number_, signal.default_int_handler)
     tabs, late, covered = Tabs(chromium() or "chromium"), Lateness(), Covered(given.tell)
     try:
         return _walk_on(given, tabs, late, covered)

@@ -66,6 +66,7 @@ class Truth:
     is_zero_asked: bool = True
     without_lines: bool = False
     touched_at: float = 0.0
+    is_change_done: bool = False  # the tool is in: the player goes on with what it has in hand, its switches too
     is_recovering: bool = False
     quiet_pulses: int = 0
     homes_at: int | None = None  # how many entries Log had as home was asked for last
@@ -73,7 +74,7 @@ class Truth:
     def rest(self) -> None:
         """What was asked for is over: from now on nothing moves. Where another zero was asked for, the one that is
         shown now is it."""
-        self.may_move, self.ways, self.without_lines = False, None, False
+        self.may_move, self.ways, self.without_lines, self.is_change_done = False, None, False, False
         self.zero = None if self.is_zero_asked else self.zero
         self.is_zero_asked = False
 
@@ -139,7 +140,8 @@ class Judge:
             raise Wrong("moved unasked", f"{ways}")
         if truth.ways is not None and (others := {way: n for way, n in ways.items() if way not in truth.ways}):
             raise Wrong("moved another axis", f"{others}, asked for was {sorted(truth.ways)}")
-        if ways and truth.is_recovering and mill.turns_since > truth.touched_at:
+        is_recovery = truth.is_recovering and not truth.is_change_done
+        if ways and is_recovery and mill.turns_since > truth.touched_at:
             raise Wrong("moved before the look", f"the spindle came on, and {ways} followed without a touch")
 
     def says_rest(self, seen: Seen, now: float, is_still: bool) -> None:
@@ -177,8 +179,11 @@ class Judge:
             is_so = not self._is_known(seen) or self._was_at(wanted, unit, since, told)
         self._count("place")
         if not is_so:
+            mill = self.bench.mill
+            ago = [told - pulse.at for pulse in mill.last(mill.pulses) if _is_near(wanted, pulse.at_mm, unit)][:1]
             raise Wrong("place", f"{seen.word}: shown is {shown}, told wrong by {self.truth.offset}; the machine is at"
-                                 f" {self.bench.mill.at_mm}; it says {seen.risk!r}, {seen.past!r}")
+                                 f" {mill.at_mm}, and came there so many s before that was told: {ago}, where"
+                                 f" {told - since:.3f} are allowed; it says {seen.risk!r}, {seen.past!r}")
 
     def _is_known(self, seen: Seen) -> bool:
         """Whether the person knows where the machine is, or the page says that it does. Of a machine whose player was

@@ -5,3 +5,4 @@ mod JobWordLemmas
 mod DryRunLemmas
 mod DeviceHeaderLemmas
 mod DeviceCopyLemmas
+mod FileLifetimeLemmas

@@ -9,3 +9,4 @@ pub mod Program
 pub mod Size
 pub mod Devices
 pub mod Grow
+pub mod FileLifetime

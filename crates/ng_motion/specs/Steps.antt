@@ -52,7 +52,7 @@ pub record AreLimits (given : Given) (machine : Geometry) (limits : Limits) : Ty
   pub slack : limits.slack ≡ given.slack
   pub most_percent : limits.most_percent ≡ given.most_percent
   -- half of the pulses over which a corner is taken, at most
-  pub half : limits.half ≡ 64
+  pub half : limits.half ≡ 96
   pub rate_stays : EachStays steps_of_rate given.rate machine
   -- a pacer takes them
   pub can_be_met : CanBeMet limits

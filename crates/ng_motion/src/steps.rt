@@ -12,7 +12,7 @@ use ng_canon::{Axis, Geometry};
 use ng_pace::Limits;
 
 /// Half of the pulses over which a corner is taken, at most.
-const HALF: u64 = 64;
+const HALF: u64 = 96;
 
 /// The most that a pacer takes, in steps a second, each second.
 const GREATEST_ACCEL: u64 = 1_000_000_000;

@@ -52,6 +52,7 @@ Mend these, and check again."""
 LIKE = 10  # warnings of one kind that are shown
 MOST = 200  # refusals that are looked at, if nothing else is asked for ..
 MOST_ASKED = 5000  # .. and dry runs for them: each begins with the program's first line
+MOST_FOR_ALL = 1000  # dry runs after which no more are looked for where all are asked for, and so many are found
 
 
 def make_parser() -> argparse.ArgumentParser:
@@ -65,8 +66,8 @@ def make_parser() -> argparse.ArgumentParser:
     parser.add_argument("--block-delete", action="store_true", help="leave out the lines that begin with a slash")
     parser.add_argument("--large", action="store_true",
                         help=f"the device is large: a program may have {MOST_LARGE_PROGRAM:,} bytes")
-    parser.add_argument("--most", metavar="N", type=whole_number, help="stop after N refusals; with 0 all are"
-                        f" found, without the word {MOST}, or those of {MOST_ASKED:,} dry runs")
+    parser.add_argument("--most", metavar="N", type=whole_number, help="stop after N refusals; without the word after"
+                        f" {MOST}, or those of {MOST_ASKED:,} dry runs; with 0 {MOST_FOR_ALL:,} dry runs look for more")
     add_ngc(parser)
     return parser
 
@@ -118,11 +119,13 @@ def check(ngc: str, args: argparse.Namespace, motion: Motion | None) -> int:
         data = text.data
     lines, whole = Lines(data), Lines(data)
     most = MOST if args.most is None else args.most
-    for finding in find_all(lines, dry_run.ask, most, dry_run.is_asked_enough):
+    for finding in find_all(lines, dry_run.ask, most, lambda: dry_run.is_asked_enough(report.count)):
         report.refused(finding, dry_run.breach(lines, finding.refusal), dry_run.is_placed)
-    has_stopped = bool(most) and report.count >= most or dry_run.is_asked_enough()
+    has_stopped = bool(most) and report.count >= most or dry_run.is_asked_enough(report.count)
     more = has_stopped and dry_run.ask(b"".join(lines.all)) is not None
     report.warned([] if more else dangers(lines, dry_run.run, dry_run.conditions()), whole, more)
+    if more and not most:
+        print(f"--most 0 stops after {MOST} refusals and {MOST_FOR_ALL:,} dry runs; --most N looks for N.")
     if motion and not report.count:
         print(f"{shown(args.program)}: {dry_run.times(data)}")
     return 1 if report.count else 0
@@ -149,9 +152,10 @@ class DryRun:
         self.asked += 1
         return refusal(*self._dry(text, self.args.settings))
 
-    def is_asked_enough(self) -> bool:
-        """Whether no more refusals are looked for, unless the words say how many."""
-        return self.args.most is None and self.asked >= MOST_ASKED
+    def is_asked_enough(self, found: int) -> bool:
+        """Whether no more refusals are looked for, of which so many are found, unless the words say how many."""
+        is_for_all = self.args.most == 0 and found >= MOST and self.asked >= MOST_FOR_ALL
+        return is_for_all or not self.args.most and self.asked >= MOST_ASKED
 
     def breach(self, lines: Lines, refused: Refusal) -> str | None:
         """Which axis leaves the travel, of a line that is refused for that."""

@@ -21,10 +21,11 @@ from ngc_tools.operator.meter import LIMIT, LIMITS, Meter, check_limit
 from ngc_tools.operator.operator import Operator
 from ngc_tools.operator.recovery import OutFound
 from ngc_tools.operator.sentences import explained
+from ngc_tools.operator.session import ALARM
 from ngc_tools.operator.setter import Setter
 from ngc_tools.operator.synced import SYNCED_AT_ONCE, SYNCED_PARTS, SyncedLink
 from ngc_tools.player.machine import read_limits
-from ngc_tools.player.progress import Link, Report
+from ngc_tools.player.progress import UNDER_WAY, Link, Report
 from ngc_tools.ngc.run import find_ngc
 from ngc_tools.ngc.usable_settings import look_at_settings
 from ngc_tools.cli.terminal import AskedToEnd, Screen
@@ -117,10 +118,13 @@ def metered(args: argparse.Namespace) -> Meter | None:
     report = meter.link.ask()
     if os.path.realpath(report.out) != os.path.realpath(args.out):
         raise CannotBegin(f"{args.player}: that player reads {report.out}, not {args.out}")
+    if report.word in (UNDER_WAY, ALARM):  # nobody of this session wants what moves, as home in an alarm
+        meter.link.end_move()
     if os.path.isfile(args.out):
         meter.link.close()
-        meter.link = link = SyncedLink(args.player, args.out)
+        meter.link = link = SyncedLink(args.player, args.out, device=args.device)
         meter.parts, meter.at_once = SYNCED_PARTS, SYNCED_AT_ONCE
+        link.hole = link.cut_hole()
         if part := link.cut_part():
             print(f"{args.out}: a part of a line at its end is cut off: {part} bytes", file=sys.stderr)
     return meter

@@ -9,6 +9,7 @@ from ngc_tools.formats.device import Device, NoDevice, copied
 from ngc_tools.ngc.console import Ended
 from ngc_tools.ngc.copies import CommandRefused
 from ngc_tools.formats.lines import Program
+from ngc_tools.formats.out_note import NoteFile
 from ngc_tools.formats.settings import Settings
 from ngc_tools.formats.text import shown, shown_line
 from ngc_tools.operator.causes import rehearsed
@@ -116,8 +117,9 @@ def recovered(args: argparse.Namespace, ngc: str, image: bytes) -> Recovery:
         begun, _ = where_to_begin(record, source, False, False)
         if begun.size != record.size:
             raise OtherFile(f"{args.position} speaks of {record.out}, not of {args.out}")
-        found = Looking(ngc, args.settings, image).look(args.out, source.file, record.lines, record.size, record.at_nm,
-                                                       record.outputs)
+        looking = Looking(ngc, args.settings, image, NoteFile(args.device).read())
+        found = looking.look(args.out, source.file, record.lines, record.size, record.at_nm, record.outputs,
+                             record.path_nm)
     finally:
         source.close()
     if found.beginning is None:

@@ -1,4 +1,5 @@
 """The lines of OUT, as docs/OUTPUT.md has them: pulses, waits and switches of the outputs."""
+import mmap
 import re
 from dataclasses import dataclass
 
@@ -72,6 +73,11 @@ Line = Pulse | Dwell | Switch
 
 OFF = Switch(0, 0, False, False, 0, 0)
 
+ZEROS = ("; zeros stand where the disk lost what was written, or its room was given back: recover in ngc-operate says"
+         " what it was")
+_RUN = re.compile(rb"(?:(?:P(?: (?:-1|0|1)){3} [0-9]{1,20}|D [0-9]{1,20}"
+                  rb"|S [012] [0-9]{1,7}\.[0-9]{6} [01] [01] [0-9]{1,3} [0-9]{1,3})\n)*+")
+_AT_ONCE = 1 << 16  # bytes that are looked at, at once
 _WHOLE = rb"(0|[1-9][0-9]{0,19})"
 _PULSE = re.compile(rb"P (-1|0|1) (-1|0|1) (-1|0|1) " + _WHOLE)
 _DWELL = re.compile(rb"D " + _WHOLE)
@@ -94,9 +100,20 @@ def read_line(line: bytes | str, number: int, least_period_us: int = 1) -> Line:
         speed = int(match[2]) * 10**6 + int(match[3])
         found = Switch(int(match[1]), speed, match[4] == b"1", match[5] == b"1", int(match[6]), int(match[7]))
     if found is None:
-        raise BadLine(number, f"not a line of OUT: {quoted(text)}")
+        raise BadLine(number, f"not a line of OUT: {quoted(text)}{ZEROS if 0 in text else ''}")
     _in_range(found, number, least_period_us)
     return found
+
+
+def end_of_lines(text: "bytes | mmap.mmap", begin: int) -> int:
+    """How many bytes of a text are whole lines of OUT, from a byte on at which one begins."""
+    size, at = len(text), begin
+    while at < size:
+        end = _RUN.match(text, at, min(size, at + _AT_ONCE)).end()
+        if end == at:
+            break
+        at = end
+    return at
 
 
 def _in_range(line: Line, number: int, least_period_us: int) -> None:

@@ -23,6 +23,8 @@ _LINES = (
     ("reference X Y Z", re.compile(r"reference ([^ ]+ [^ ]+ [^ ]+)")),
 )
 _FILE = re.compile(rf"file ({_NUMBER}) ({_NUMBER}) ([0-9a-f]{{8}})")
+_NM = r"[+-]?(?:[0-9]{1,12}(?:\.[0-9]{0,6})?|\.[0-9]{1,6})"
+_PATH = re.compile(rf"path ({_NM} {_NM} {_NM})")
 _SCREW = "(?:[+?-]|[1-9][0-9]?|[1-8][0-9]{2}|9[0-8][0-9]|99[0-8])"
 _SCREWS = re.compile(rf"screws ({_SCREW} {_SCREW} {_SCREW})")
 _AGE = re.compile(r"age ([1-9][0-9]{0,3})")
@@ -59,8 +61,9 @@ class Record:
     player before OUT's end, in a word, one of ALARMS until the machine was homed. `age_ms` is how old a record on the
     disk ever was as the next one came, in whole milliseconds; 0 where that isn't known, and OLDEST_MS for more. `homed`
     are the axes that were homed since the player began, as `XYZ`; `is_off`: the motors left the path of OUT by a move
-    without lines. `screws`, as `+ - ?`, says where those of X, Y and Z are within their backlash; "" where no screw is
-    known."""
+    without lines. `path_nm` is where the lines that are carried out lead, where the motors aren't there and it is
+    known; it stands in the file where OUT's name leaves room. `screws`, as `+ - ?`, says where those of X, Y and Z are
+    within their backlash; "" where no screw is known."""
 
     out: str
     lines: int = 0
@@ -73,6 +76,7 @@ class Record:
     homed: str = ""
     is_off: bool = False
     screws: str = ""
+    path_nm: tuple[int, int, int] | None = None
 
     def text(self) -> bytes:
         """What stands in the file, 512 bytes. Raises BadRecord if the path of OUT can't stand in it."""
@@ -96,7 +100,10 @@ class Record:
             lines.append("off")
         if self.stopped:
             lines.append(f"stopped {self.stopped}")
-        return ("\n".join(lines) + "\n").encode("utf-8", "surrogateescape").ljust(SIZE - 1) + b"\n"
+        if self.mark and self.path_nm not in (None, self.at_nm):
+            path = "path " + " ".join(map(millimetres, self.path_nm))
+            lines[6:6] = [path] if _size([*lines, path]) < SIZE else []
+        return _bytes(lines).ljust(SIZE - 1) + b"\n"
 
     @staticmethod
     def of_text(text: bytes, path: str) -> "Record":
@@ -112,6 +119,16 @@ class Record:
         """Reads the file `path`. Raises BadRecord, or OSError."""
         with opened(path) as file:
             return Record.of_text(file.read(SIZE + 1), str(path))
+
+
+def _bytes(lines: list[str]) -> bytes:
+    """Lines as they stand in a file."""
+    return ("\n".join(lines) + "\n").encode("utf-8", "surrogateescape")
+
+
+def _size(lines: list[str]) -> int:
+    """How many bytes they take."""
+    return len(_bytes(lines))
 
 
 def check_path(out: str) -> None:
@@ -134,21 +151,28 @@ def _read(text: bytes) -> Record:
         if match is None:
             raise ValueError(f"line {number + 1} isn't '{form}'")
         found.append(match[1])
-    (marked, screws, aged, homed, off, stopped_by), rest = _optional(lines[len(_LINES):])
+    (marked, path, screws, aged, homed, off, stopped_by), rest = _optional(lines[len(_LINES):])
     mark = FileMark(int(marked[1]), int(marked[2]), int(marked[3], 16)) if marked else None
     if len(rest) != 2 or rest[0].strip(" ") or rest[1]:
         raise ValueError(f"line {len(lines) - len(rest) + 1} is no line of a record")
-    x, y, z = map(machine_nm, found[4].split(" "))
+    path_nm = _point(path[1]) if path else None
     outputs = read_line(found[3], 4)
     assert isinstance(outputs, Switch)
-    return Record(found[0], int(found[1]), int(found[2]), outputs, (x, y, z), mark, stopped_by[1] if stopped_by else "",
-                  int(aged[1]) if aged else 0, homed[1] if homed else "", off is not None, screws[1] if screws else "")
+    return Record(found[0], int(found[1]), int(found[2]), outputs, _point(found[4]), mark,
+                  stopped_by[1] if stopped_by else "", int(aged[1]) if aged else 0, homed[1] if homed else "",
+                  off is not None, screws[1] if screws else "", path_nm)
+
+
+def _point(text: str) -> tuple[int, int, int]:
+    """Three machine coordinates. Raises BadNumber."""
+    x, y, z = map(machine_nm, text.split(" "))
+    return x, y, z
 
 
 def _optional(lines: list[str]) -> tuple[list[re.Match[str] | None], list[str]]:
     """The lines that a record may have after its five, None for one that isn't there, and what is left."""
     found = []
-    for pattern in (_FILE, _SCREWS, _AGE, _HOMED, _OFF, _STOPPED):
+    for pattern in (_FILE, _PATH, _SCREWS, _AGE, _HOMED, _OFF, _STOPPED):
         found.append(pattern.fullmatch(lines[0]) if lines else None)
         lines = lines[1:] if found[-1] else lines
     return found, lines

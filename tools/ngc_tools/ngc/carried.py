@@ -56,13 +56,13 @@ def is_within(device: Device) -> bool:
     return bool(device.snapshot.half and device.records and device.records[0].state.opened == 1)
 
 
-def runs(device: Device, within: bool = False) -> Iterator[Run]:
-    """What a session did since its device was written anew, part by part. Raises CannotTell if its log begins within a
-    block, unless that may be."""
+def runs(device: Device, within: bool = False, begin: int = 0) -> Iterator[Run]:
+    """What a session did since its device was written anew, or from record `begin` of its log on, part by part. Raises
+    CannotTell if its log begins within a block, unless that may be."""
     if is_within(device) and not within:
         raise CannotTell("the log begins within a block: it was full; name a copy of before by --before COPY")
     states = [record.state for record in device.records]
-    number = 0
+    number = begin
     while number < len(states):
         if states[number].opened:
             last = _last(states, number)

@@ -65,7 +65,8 @@ class Console:
         """Starts it, in a process group of its own, so that Ctrl-C at the terminal doesn't end it. Raises OSError if
         `ngc` can't be started."""
         self.ngc, self.device, self.settings = str(ngc), str(device), str(settings)
-        self._words = [self.ngc, "run", self.device, self.settings, str(out)]
+        self.out = str(out)
+        self._words = [self.ngc, "run", self.device, self.settings, self.out]
         self.waiting = waiting
         self.starts: Starts = start_at_once
         self.start()

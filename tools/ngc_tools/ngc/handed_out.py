@@ -3,36 +3,56 @@
 The device's log tells it. `ngc run` does again, over a copy, what the session did since its last command, and hands out
 the same lines: those before the open segment, and then the segment's own. OUT ends with a beginning of them, and how
 long that is says where in OUT the segment begins, or how much of OUT was lost. Where the log tells nothing any more, as
-after a second power on, the segment's own lines and the point at which it begins tell it."""
+after a second power on, the segment's own lines and the point at which it begins tell it; so they do where nothing of
+OUT is lost, as within a session, since what was handed out before may be an hour's work."""
 import mmap
 import os
-from collections.abc import Iterator
+from collections.abc import Callable, Iterator
 from dataclasses import dataclass, replace
 from pathlib import Path
 
 from ngc_tools.files import opened
 from ngc_tools.formats.device import Device, State
-from ngc_tools.formats.out import LONGEST_LINE, Switch, read_line
+from ngc_tools.formats.out import LONGEST_LINE, Switch, end_of_lines, read_line
+from ngc_tools.formats.out_note import OutNote
 from ngc_tools.formats.position import nanometres, rounded
 from ngc_tools.formats.settings import Settings
 from ngc_tools.ngc.carried import CannotTell, Run, is_within, runs
 from ngc_tools.ngc.console import Ended, Status
 from ngc_tools.ngc.copies import Copy, CommandRefused, first
+from ngc_tools.player.source import born_ns
 
 Steps = tuple[int, int, int]
 _PIECE = 4096  # lines that are looked at, at once
 _HEAD = 1024  # bytes by which a place in OUT is known
 _TAIL = 65536  # the same, of what was handed out before
+_MOST_UNSYNCED = 1000  # lines: no more ticks are given at once
 _SAME: tuple[str, ...] = ()
 _DELETES = ("delete on",)
 
 
 @dataclass(frozen=True, slots=True)
 class FileRecord:
-    """A player's record of a file: the motors are at `steps`, where the first `size` bytes of OUT lead."""
+    """A player's record of a file: the motors are at `steps`, where the first `size` bytes of OUT lead. Where they
+    aren't there, and it is known, that is `path`."""
 
     size: int
     steps: Steps
+    path: Steps | None = None
+
+    def ends(self, rest: bytes) -> "list[_End]":
+        """Where OUT may lead with what stands behind those bytes, the likelier first: lines may also have been handed
+        out since from where the motors are."""
+        here = [_End(_moved(self.steps, rest), False)]
+        return here if self.path in (None, self.steps) else [_End(_moved(self.path, rest), True), *here]
+
+
+@dataclass(frozen=True, slots=True)
+class _End:
+    """OUT leads to `steps`; `is_off`: not from where the motors are."""
+
+    steps: Steps
+    is_off: bool
 
 
 @dataclass(frozen=True, slots=True)
@@ -40,13 +60,14 @@ class SegmentBeginning:
     """The first `size` bytes of OUT, with the lines `missing` behind what it has, lead to where the open segment
     begins, or to the end of what was handed out if no block is half-done. That is at `steps`. `is_off`: by the record
     the motors aren't on the path of OUT. `is_new`: OUT has none of the lines that were handed out, so it may be another
-    OUT than the session's."""
+    OUT than the session's. `is_told`: the device's log tells all of OUT that may have been lost before that."""
 
     size: int
     steps: Steps
     missing: bytes = b""
     is_off: bool = False
     is_new: bool = False
+    is_told: bool = False
 
 
 @dataclass(frozen=True, slots=True)
@@ -71,6 +92,17 @@ class NeverCut:
     least: int
 
 
+@dataclass(frozen=True, slots=True)
+class _InWhole:
+    """An OUT of so many bytes has all that was handed out, and leads to `ends`. The open segment begins behind its
+    first `begin` bytes, at `steps`."""
+
+    size: int
+    begin: int
+    steps: Steps
+    ends: Steps
+
+
 class _Text(Copy):
     """A copy that keeps all that is handed out."""
 
@@ -89,11 +121,14 @@ class _Text(Copy):
 class Finder:
     """Finds it, with `ngc` and the settings of the session."""
 
-    def __init__(self, ngc: str, settings: str | Path, image: bytes) -> None:
-        """`image` is the device as the session left it, or as it stood since. Raises NoDevice, BadSettings, OSError."""
-        self.ngc, self.settings, self.image = ngc, settings, image
+    def __init__(self, ngc: str, settings: str | Path, image: bytes, note: OutNote | None = None,
+                 is_whole: bool = False) -> None:
+        """`image` is the device as the session left it, or as it stood since, `note` what was noted of OUT beside it.
+        `is_whole`: OUT has all that was handed out. Raises NoDevice, BadSettings, OSError."""
+        self.ngc, self.settings, self.image, self.note, self.is_whole = ngc, settings, image, note, is_whole
         self.step_nm = Settings.read(settings).step_nm
         self.device = Device(image)
+        self._in_whole: _InWhole | None = None
 
     def find(self, out: str | Path, kept: FileRecord) -> SegmentBeginning:
         """Where the open segment begins. Raises CannotTell, which names what doesn't belong together, CommandRefused,
@@ -101,33 +136,137 @@ class Finder:
         with opened(out) as file:
             size = os.fstat(file.fileno()).st_size
             text = mmap.mmap(file.fileno(), 0, access=mmap.ACCESS_READ) if size else b""
-            size = text.rfind(b"\n") + 1
-            if kept.size > size:
-                raise CannotTell(f"{out} has {size:,} bytes of whole lines, and the record counts {kept.size:,}: they"
+            whole = text.rfind(b"\n") + 1
+            if kept.size > whole:
+                raise CannotTell(f"{out} has {whole:,} bytes of whole lines, and the record counts {kept.size:,}: they"
                                  " don't belong together")
-            ends = _moved(kept.steps, text[kept.size:size])
-            return self._found(text, size, ends, str(out))
+            size = end_of_lines(text, kept.size)  # behind a hole nothing tells where it leads
+            ends = kept.ends(text[kept.size:size])
+            found = self._by_end(text, size, ends[0]) if self.is_whole else None
+            if found is None and self.note and self._is_noted(file.fileno()):
+                found = self._by_note(text, size, kept)
+            return found or self._found(text, size, ends, str(out))
 
-    def _found(self, text: "bytes | mmap.mmap", size: int, ends: Steps, out: str) -> SegmentBeginning:
-        """OUT leads to `ends`, by the record."""
-        lines = self._by_log()
-        if lines is not None:
-            whole = lines.before + lines.own
-            at = _longest(text, size, whole, lines.start, ends)
-            is_off = at is None
-            if at is None:
-                at = self._off(text, size, whole, lines)
-            if at is not None:
-                return self._beginning(size, lines, at, is_off)
+    def _by_end(self, text: "bytes | mmap.mmap", size: int, end: _End) -> SegmentBeginning | None:
+        """What the segment's own lines alone tell of an OUT that has all that was handed out, wherever the motors are
+        since it was looked at first; None where they don't tell it. Raises OSError."""
+        known = self._in_whole
+        if known is None or known.size != size:
+            try:
+                known = self._in_whole = self._look_at_end(text, size, end.steps)
+            except (CannotTell, CommandRefused, Ended):
+                return None
+        return known and SegmentBeginning(known.begin, known.steps, is_off=end.is_off or end.steps != known.ends)
+
+    def _look_at_end(self, text: "bytes | mmap.mmap", size: int, ends: Steps) -> "_InWhole | None":
+        """Where in such an OUT the open segment begins, or nothing is open; None where the place of the motors, and the
+        lines with which OUT ends, don't say it. Raises as `find`."""
         if not self.device.state.half:
-            self._check_end(out, ends)
-            return SegmentBeginning(size, ends)
+            point = tuple(map(rounded, self.device.state.point_nm, self.step_nm))
+            is_there = self.device.state.point_known and point == ends
+            return _InWhole(size, size, ends, ends) if is_there else None
         own = self._own()
-        at = _shortest(text, size, own.own, own.start, ends)
-        if at is None:
+        counts = [count for count in _places(own.own, own.start, ends) if _is_end(text, size, own.own, count)]
+        return _InWhole(size, size - counts[0], own.start, ends) if len(counts) == 1 else None
+
+    def _is_noted(self, file: int) -> bool:
+        """Whether the note speaks of this file."""
+        return (self.note.inode, self.note.born_ns) == (os.fstat(file).st_ino & (2**63 - 1), born_ns(file))
+
+    def _by_note(self, text: "bytes | mmap.mmap", size: int, kept: FileRecord) -> SegmentBeginning | None:
+        """By what OUT had as it was noted, and what was handed out since; None where the log doesn't go back to that,
+        or OUT goes on in another way."""
+        note = self.note
+        device = self._noted_device()
+        if device is None or size < note.size:
+            return None
+        for how in (_SAME, _DELETES):
+            try:
+                since = self._since(device, how)
+            except (CannotTell, CommandRefused, Ended):
+                continue
+            is_emptied = since is not None and size == 0 and since.before.count(b"\n") > _MOST_UNSYNCED
+            if since is None or is_emptied:
+                return None
+            if _is_end(text, size, since.before + since.own, size - note.size, note.size):
+                return self._noted(text, size, kept, since)
+        return None
+
+    def _noted_device(self) -> Device | None:
+        """The device as its log goes back to the note; None where it doesn't."""
+        return next((each for each in self._devices(True) if self.note is not None and self.note.is_of(each)), None)
+
+    def is_all_there(self, file: int, size: int) -> bool:
+        """Whether OUT, which is open, had these bytes as it was noted, and nothing was handed out since: no block is
+        half-done."""
+        device = self._noted_device()
+        if device is None or device.state.half or not self._is_noted(file) or size != self.note.size:
+            return False
+        return not any(record.state.opened for record in device.records[self.note.records:])
+
+    def may_have_lost(self, file: int, size: int) -> bool:
+        """Whether OUT, which is open, may have lost all that was handed out last, and isn't just another one, or one
+        that was emptied."""
+        if self.note is None:
+            return size > 0
+        return self._is_noted(file) and (size > 0 or self.note.size == 0 and self._noted_device() is not None)
+
+    def _since(self, device: Device, how: tuple[str, ...]) -> _Lines | None:
+        """What was handed out since the note, None for nothing without a half-done block. Raises CannotTell,
+        CommandRefused, Ended, OSError."""
+        before, last = b"", None
+        for run in runs(device, True, self.note.records):
+            last = self._again(device, self._begun(device, run), how)
+            before += last.before
+        if last is not None:
+            return _Lines(_moved(last.start, last.before), before, last.own)
+        return _Lines(self._steps(self.segment(self.image)[0]), b"") if self.device.state.half else None
+
+    def _noted(self, text: "bytes | mmap.mmap", size: int, kept: FileRecord, since: _Lines) -> SegmentBeginning:
+        """OUT had what the note says, and goes on with what was handed out `since`, which leads to `since.start`."""
+        begins = self.note.size + len(since.before) if since.before or since.own else self.note.begins
+        missing = since.before[size - self.note.size:]
+        if begins < kept.size:
+            stands = _moved(since.start, text[begins:kept.size])
+        else:
+            stands = _moved_back(since.start, text[kept.size:min(begins, size)] + missing)
+        return SegmentBeginning(begins, since.start, missing, stands != kept.steps, size == 0 and bool(missing), True)
+
+    def _found(self, text: "bytes | mmap.mmap", size: int, ends: list[_End], out: str) -> SegmentBeginning:
+        """OUT leads to one of these, by the record."""
+        lines = self._by_log()
+        found = self._by_lines(text, size, lines, ends, _longest) if lines is not None else None
+        if found is not None:
+            return replace(found, is_told=not found.is_new)
+        if not self.device.state.half:
+            return self._at_end(out, size, ends)
+        found = self._by_lines(text, size, self._own(), ends, _shortest)
+        if found is None:
             raise CannotTell(f"{out} doesn't end with lines of the half-done block: it isn't the OUT of this device, or"
                              " the record isn't that of this OUT")
-        return self._beginning(size, own, at, False)
+        return found
+
+    def _by_lines(self, text: "bytes | mmap.mmap", size: int, lines: _Lines, ends: list[_End],
+                  beginning: "Callable[[bytes | mmap.mmap, int, bytes, Steps, Steps], int | None]"
+                  ) -> SegmentBeginning | None:
+        """The same by lines with a beginning of which OUT ends: by where they lead, else by how OUT ends alone; None
+        where it doesn't."""
+        whole = lines.before + lines.own
+        for end in ends:
+            at = beginning(text, size, whole, lines.start, end.steps)
+            if at is not None:
+                is_new = at == 0 and len(lines.before) > 0 and not self._follows(text, size, lines)
+                return self._beginning(size, lines, at, end.is_off, is_new)
+        at = self._off(text, size, whole, lines)
+        return None if at is None else self._beginning(size, lines, at, True, False)
+
+    def _follows(self, text: "bytes | mmap.mmap", size: int, lines: _Lines) -> bool:
+        """Whether OUT ends with what was handed out before these lines, by the log. Raises OSError."""
+        try:
+            ahead = self._text(lines.ahead) if lines.ahead is not None else b""
+        except (CannotTell, CommandRefused, Ended):
+            return False
+        return bool(ahead) and _is_end(text, size, ahead, len(ahead))
 
     def never_cut(self, at: list[str], ahead: int) -> NeverCut:
         """What was handed out before the half-done segment and not carried out: the motors are at `at`, in machine
@@ -162,20 +301,21 @@ class Finder:
                    lambda status: _key(status) >= (run.ends, 0)) as copy:
             return bytes(copy.text)
 
-    def _check_end(self, out: str, ends: Steps) -> None:
-        """Raises CannotTell if OUT doesn't lead to the point that the device knows."""
+    def _at_end(self, out: str, size: int, ends: list[_End]) -> SegmentBeginning:
+        """The end of OUT. Raises CannotTell if it doesn't lead to the point that the device knows."""
         state = self.device.state
         point = tuple(map(rounded, state.point_nm, self.step_nm))
-        if state.point_known and point != ends:
-            raise CannotTell(f"{out} doesn't lead to where the device has the machine: it isn't the OUT of this device,"
-                             " or the record isn't that of this OUT")
+        for end in ends:
+            if not state.point_known or point == end.steps:
+                return SegmentBeginning(size, end.steps, is_off=end.is_off)
+        raise CannotTell(f"{out} doesn't lead to where the device has the machine: it isn't the OUT of this device, or"
+                         " the record isn't that of this OUT")
 
     @staticmethod
-    def _beginning(size: int, lines: _Lines, at: int, is_off: bool) -> SegmentBeginning:
+    def _beginning(size: int, lines: _Lines, at: int, is_off: bool, is_new: bool) -> SegmentBeginning:
         """OUT ends with the first `at` bytes of the lines."""
-        before = len(lines.before)
-        return SegmentBeginning(size - at + before, _moved(lines.start, lines.before), lines.before[at:], is_off,
-                         at == 0 and before > 0)
+        return SegmentBeginning(size - at + len(lines.before), _moved(lines.start, lines.before), lines.before[at:],
+                                is_off, is_new)
 
     def _by_log(self, how: tuple[str, ...] | None = None) -> _Lines | None:
         """What the log says; None if it says nothing of what is half-done now. `how` are commands that are given
@@ -189,10 +329,11 @@ class Finder:
                 continue
         return None
 
-    def _devices(self) -> Iterator[Device]:
-        """The device, and as it stood before it was written anew, if that was the same."""
+    def _devices(self, is_empty_too: bool = False) -> Iterator[Device]:
+        """The device, where its log has records or `is_empty_too`, and as it stood before it was written anew, if that
+        was the same."""
         device = self.device
-        if device.records:
+        if device.records or is_empty_too:
             yield device
         older = device.without_header()
         if not device.records and older is not None:
@@ -222,7 +363,7 @@ class Finder:
         is_right = _key(status) == key if run.ends is None else status.entries == run.ends
         if how is not None and not more:
             is_right = is_right and _is_as_logged(again, device, run.record)
-        if not is_right or status.place != last.place:
+        if not is_right or status.place != _place_after(device, run):
             raise CannotTell("ngc run does other moves than the session did: were the settings others?")
         own = b""
         if run.ends is None:
@@ -265,6 +406,12 @@ def _same(one: State, other: State) -> bool:
         other.entries, other.place, other.half, other.half_text, other.segment)
 
 
+def _place_after(device: Device, run: Run) -> int:
+    """The place in the program at the end of a run, by the device's log."""
+    ended = [record.state.place for record in device.records if record.state.entries == run.ends]
+    return ended[0] if ended else device.state.place
+
+
 def _is_as_logged(again: Device, device: Device, begin: int) -> bool:
     """Whether what was done again is what the log of a device has from a record on."""
     return all(mine.state == record.state for mine, record in zip(again.records, device.records[begin:]))
@@ -287,6 +434,12 @@ def _moved(start: Steps, text: bytes) -> Steps:
         for axis in range(3):
             at[axis] += count * step[axis]
     return at[0], at[1], at[2]
+
+
+def _moved_back(end: Steps, text: bytes) -> Steps:
+    """Where lines began that lead to a point."""
+    x, y, z = _moved((0, 0, 0), text)
+    return end[0] - x, end[1] - y, end[2] - z
 
 
 def _places(whole: bytes, start: Steps, ends: Steps) -> Iterator[int]:
@@ -314,9 +467,12 @@ def _within(whole: bytes, begin: int, end: int, at: Steps, ends: Steps) -> Itera
             yield begin
 
 
-def _is_end(text: "bytes | mmap.mmap", size: int, whole: bytes, count: int) -> bool:
+def _is_end(text: "bytes | mmap.mmap", size: int, whole: bytes, count: int, begins: int = -1) -> bool:
     """Whether the first `size` bytes of OUT end with the first `count` bytes of the lines, as far as OUT can be read:
-    room that was given back reads as zeros."""
+    room that was given back reads as zeros. They begin where a line does, or are known to begin behind `begins`
+    bytes."""
+    if count > len(whole):
+        return False
     done = 0
     while done < count:
         piece = min(1 << 16, count - done)
@@ -328,7 +484,7 @@ def _is_end(text: "bytes | mmap.mmap", size: int, whole: bytes, count: int) -> b
             zeros = there.rfind(b"\0") + 1
             return zeros > 0 and not there[:zeros].strip(b"\0") and there[zeros:] == wanted[zeros:]
         done += piece
-    return count == size or text[size - count - 1:size - count] in (b"\n", b"\0")
+    return size - count in (0, begins) or text[size - count - 1:size - count] in (b"\n", b"\0")
 
 
 def _longest(text: "bytes | mmap.mmap", size: int, whole: bytes, start: Steps, ends: Steps) -> int | None:

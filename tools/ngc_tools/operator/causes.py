@@ -33,6 +33,8 @@ def refused(session: Session, reply: str, command: str) -> bool:
 def _cause(session: Session, code: str, command: str) -> str | None:
     """What a fault means of this command now, where more can be said than for any command."""
     word, *rest = command.split()
+    if code == "J1":
+        return session.full_disk(f"refused {code}")
     if code == "K1":
         return busy(session, session.console.status(), word)
     if code == "K2":

@@ -5,7 +5,7 @@ from ngc_tools.formats.device import Device
 from ngc_tools.formats.position import nanometres
 from ngc_tools.job.in_force import in_force_on
 from ngc_tools.ngc.console import Status
-from ngc_tools.operator.face import WHERE, axes
+from ngc_tools.operator.face import WARNING, WHERE, axes
 from ngc_tools.operator.display import offsets_words, outputs_on, outputs_words, work_words
 from ngc_tools.operator.modes import trimmed
 from ngc_tools.operator.motors import behind, manner
@@ -92,3 +92,5 @@ class Look:
         if report:
             said = [f"the motors are at {axes(report.at.split())}", behind(report, self.session.settings)]
             self.session.face.say(", ".join(said + manner(report)), WHERE)
+        if self.session.meter and self.session.meter.link.failed:
+            self.session.face.say(self.session.meter.link.failed, WARNING)

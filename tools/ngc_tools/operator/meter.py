@@ -3,7 +3,7 @@ import time
 from collections.abc import Callable
 
 from ngc_tools.failure import BadNumber
-from ngc_tools.player.progress import MOVED, Link, Report
+from ngc_tools.player.progress import MOVED, Link, NoAnswer, Report
 
 LIMIT = 100  # lines, of a player that doesn't say how many it wants
 LIMITS = range(2, 8001)  # what a player can have in hand
@@ -53,7 +53,7 @@ class Meter:
         which sees each report, says no. Raises NoAnswer if the player is gone."""
         apart_s, carried = self.look_s, -1
         while True:
-            report = self.link.ask()
+            report = self._asked()
             if not go_on(report):
                 return 0
             if report.word == MOVED:  # who asks for room has compared the points, or goes on all the same
@@ -70,7 +70,7 @@ class Meter:
     def drained(self, go_on: Callable[[Report], bool] = always) -> bool:
         """Tells the player that nothing more comes for now, and waits until it has carried out all that was handed out.
         False if `go_on` says no before, or its motors are held. Raises NoAnswer."""
-        report = self.link.ask()
+        report = self._asked()
         if report.behind:
             self.link.last()
         worked = time.monotonic()  # when it was last seen not to be held
@@ -79,5 +79,12 @@ class Meter:
             if not go_on(report) or time.monotonic() > worked + _HELD_S:
                 return False
             time.sleep(10 * self.look_s)
-            report = self.link.ask()
+            report = self._asked()
         return True
+
+    def _asked(self) -> Report:
+        """How far the player is. Raises NoAnswer, also where nothing more may be handed out, or counts as handed
+        out."""
+        if self.link.failed:
+            raise NoAnswer(self.link.failed)
+        return self.link.ask()

@@ -11,7 +11,7 @@ from ngc_tools.operator.recover import Recover
 from ngc_tools.operator.recovery import OutFound
 from ngc_tools.operator.session import BROKEN, Session
 from ngc_tools.operator.synced import SyncedLink
-from ngc_tools.player.progress import Link, NoAnswer
+from ngc_tools.player.progress import NoAnswer
 
 _PATIENCE_S = 5.0  # how long motors may take to come to rest, and a player to let go of its lines
 
@@ -31,15 +31,15 @@ class NextSession:
         NoAnswer, Ended, OSError."""
         session, console = self.session, self.session.console
         link = session.meter.link if session.meter else None
+        is_whole = isinstance(link, SyncedLink) and link.is_following  # nothing is lost within a session
         console.ask("hold")
-        if link:
-            self._lets_go(link)
+        self.let_go()
         if status := console.quit():
             raise Ended(status, [])
         found = _stored(console.device)
         if isinstance(link, SyncedLink):
-            look = OutFound.cut_off if drops else OutFound.of
-            self.recover.found = look(console.ngc, console.settings, link, found)
+            given = console.ngc, console.settings, link, found
+            self.recover.found = OutFound.cut_off(*given) if drops else OutFound.of(*given, is_whole)
         console.start()
         console.status()
         for name in ("optional", "delete"):
@@ -50,8 +50,12 @@ class NextSession:
         self.opens(found)
         self.opened(found)
 
-    def _lets_go(self, link: Link) -> None:
-        """Has the player let go. Raises NoAnswer, also where it doesn't."""
+    def let_go(self) -> None:
+        """Has the player, if there is one, let go of what it has in hand, for another session. Raises NoAnswer, also
+        where it doesn't."""
+        if self.session.meter is None:
+            return
+        link = self.session.meter.link
         link.anew()
         until = time.monotonic() + _PATIENCE_S
         while (report := link.ask()).behind or report.word == BROKEN:

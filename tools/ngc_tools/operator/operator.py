@@ -110,7 +110,8 @@ class Operator:
         say_opening(self.session, self.places, self.left, found)
         status = self.console.status()
         self.taken_up = None
-        self.recover.begin(status)
+        self.recover.begin(status, self.left.is_as_left() and status.half != "mdi")
+        self.session.noted = status.entries
         self.session.told = status.place
 
     def do(self, line: str) -> None:
@@ -127,6 +128,8 @@ class Operator:
             self._mdi(typed.line, typed.anyway)
         if typed.word in CHOSEN or are_keys(typed.line):
             self.choices.keep()
+        if not self.work.is_amid:
+            self.session.note_out(self.left.is_as_left)
 
     def load(self, name: str, text: bytes) -> bool:
         """Stores a program that people call `name`, once a dry run tried it; whether it is stored. Raises Ended."""
@@ -340,7 +343,10 @@ class Operator:
             return
         if self.console.status().half == "none":
             self.left.keep()
+        is_still = self.recover.is_still()
         self.places.reference(typed.rest.lower().split(), typed.anyway)
+        if is_still:
+            self.recover.still()
         if typed.rest.lower() != "player":
             self.moves.touched = None
 
@@ -353,7 +359,7 @@ class Operator:
             self.face.say(str(error), WARNING)
             return
         if is_there and status.half != "none":
-            self._take_up(status, True)
+            self._take_up(self.console.status(), True)
 
     def _drop(self, _: Typed) -> None:
         try:

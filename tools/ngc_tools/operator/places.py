@@ -7,7 +7,7 @@ from ngc_tools.job.figures import millimetres as rounded
 from ngc_tools.job.moves import distance
 from ngc_tools.ngc.console import Status
 from ngc_tools.operator.causes import taken
-from ngc_tools.operator.face import SAID, WARNING
+from ngc_tools.operator.face import REFUSED, SAID, WARNING
 from ngc_tools.operator.modes import point_words
 from ngc_tools.operator.numbers import nanometres_of
 from ngc_tools.operator.sentences import PLAYER_SILENT
@@ -129,4 +129,4 @@ class Places:
             self.session.face.say(str(error), WARNING)
             return
         if report and not self._same(report.at.split(), at.split()):
-            self.session.face.say(f"the player still says X Y Z {report.at}: start it anew with --at {at}", WARNING)
+            self.session.face.say(f"the player still says X Y Z {report.at}: start it anew with --at {at}", REFUSED)

@@ -4,6 +4,8 @@ The player moves them, since it has the machine's words, its pins and its record
 too. It is sent by a datagram that names bytes of OUT, and takes that only at rest with nothing in hand; where they lead
 it reads itself. So no word of a console can make it leave the lines that were handed out, but for legs, which go up
 first, and the straight line of `resume`, which goes at a feed."""
+from functools import partial
+
 from ngc_tools.formats.device import Device
 from ngc_tools.formats.machine import MOST_PERCENTS
 from ngc_tools.formats.position import Position, millimetres, nanometres
@@ -28,6 +30,9 @@ lines stand in OUT that no motor carried out, behind line {line}: recover goes o
 off, and then nothing makes them any more"""
 DROPS = """\
 {count} lines are cut off OUT, behind its line {line}, and nothing makes them any more. yes cuts them off: """
+LOST = """\
+{out} has none of the {count} lines that were handed out last, and no motor carried them out if it is the OUT of that
+session: recover asks, and puts them back. run goes on without them"""
 THERE = "the motors are where what was handed out leads: run goes on"
 NOT_THERE = "what was handed out and not carried out is cut off; reference player tells ngc where the motors are"
 ON_WAY = """\
@@ -40,6 +45,9 @@ By the record the motors stand at {at}, behind line {line} of OUT.
 and a motor that turned went on for a while. Where steps may be lost, answer no: home the machine, and start
 the player anew with --at X Y Z.
 Do they stand there? yes goes on, anything else ends: """
+SURE = """\
+The motors stand at {at}, behind line {line} of OUT: that was told since the player began, by a person, a home or the
+step sink"""
 NO_LINES = """\
 Without lines of OUT legs alone lead on, from {at}, where the motors stand by the record.
 What was handed out and not carried out is never cut then, and is cut off OUT. yes goes on, anything else ends: """
@@ -68,17 +76,26 @@ class Recover:
         self.session.face.say("nothing is done: " + left, REFUSED)
         return True
 
-    def begin(self, status: Status) -> None:
-        """Says as the session begins what is left."""
+    def begin(self, status: Status, as_left: bool = False) -> None:
+        """Says as the session begins what is left. `as_left`: nothing was done since the program was left for its next
+        line."""
         self._entries = status.entries
         if self.found is None:
             return
         for said in self.found.said:
             self.session.face.say(said, WARNING)
+        self.session.noting(partial(self.found.note, as_left))
+        beginning = self.found.recovery.beginning
         if self.found.is_left():
             self.session.face.say(LEFT.format(line=self.found.recovery.lines), WARNING)
+        elif status.half == "none" and beginning and beginning.is_new:
+            self.session.face.say(LOST.format(out=self.found.link.out, count=beginning.missing.count(b"\n")), WARNING)
         elif status.half != "none":
             self.session.face.say(HALF, WARNING)
+
+    def is_still(self) -> bool:
+        """Whether nothing was done since the session began but what left all as it was."""
+        return self.session.console.status().entries == self._entries
 
     def still(self) -> None:
         """What was done since the session began left what the last one left as it was."""
@@ -260,6 +277,9 @@ class Recover:
         if confirmed_nm == tuple(map(nanometres, report.at.split())):
             return True
         at, line = axes(report.at.split()), report.carried
+        if self.session.meter.link.is_sure():
+            self.session.face.say(SURE.format(at=at, line=line))
+            return True
         return self.session.agrees(STANDS.format(at=at, line=line, past=self.past().words()))
 
     def past(self) -> Past:

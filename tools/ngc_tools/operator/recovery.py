@@ -6,10 +6,12 @@ from collections.abc import Iterator
 from contextlib import contextmanager
 from dataclasses import dataclass
 from functools import cached_property
+from math import isqrt
 
 from ngc_tools.failure import Failure
 from ngc_tools.formats.device import Device
 from ngc_tools.formats.out import OFF, BadLine, Switch
+from ngc_tools.formats.out_note import OutNote
 from ngc_tools.formats.position import Position, nanometres
 from ngc_tools.formats.settings import Settings
 from ngc_tools.job.figures import duration
@@ -26,6 +28,12 @@ from ngc_tools.player.retrace import slowed
 from ngc_tools.player.way import Way, count_lines, is_switch_between, look, moves, switched_at
 
 Point = tuple[int, int, int]
+HOLE = """\
+{out}: behind its line {line}, at byte {at}, {zeros} bytes of zeros stood in the place of lines, which the disk lost. It
+is cut off there, with {lines} lines behind them that no motor carried out"""
+NEVER = """\
+the device doesn't tell any more what was handed out from there on. Up to the half-done segment, or without one up to
+the end, it is never cut: at most {lines} lines, {mm} mm"""
 _NO_WAY = Way(0, 0, 0, 0, 0, 0, (0, 0, 0))
 
 
@@ -80,27 +88,37 @@ class Recovery:
 class Looking:
     """Looks at OUT, with `ngc`, the settings and the device as the session left it."""
 
-    def __init__(self, ngc: str, settings: str, image: bytes) -> None:
-        """Raises NoDevice, BadSettings, OSError."""
+    def __init__(self, ngc: str, settings: str, image: bytes, note: OutNote | None = None,
+                 is_whole: bool = False) -> None:
+        """`note` is what was noted of OUT beside the device; `is_whole`: OUT has all that was handed out. Raises
+        NoDevice, BadSettings, OSError."""
         self.settings, self.path = Settings.read(settings), settings
-        self.finder = Finder(ngc, settings, image)
+        self.finder = Finder(ngc, settings, image, note, is_whole)
         self.device = Device(image)
 
-    def look(self, out: str, file: int, lines: int, size: int, at_nm: Point, kept: Switch) -> Recovery:
+    def look(self, out: str, file: int, lines: int, size: int, at_nm: Point, kept: Switch,
+             path_nm: Point | None = None) -> Recovery:
         """How it stands: a player has carried out so much of OUT, which is open, with such outputs at its end by the
-        record. Raises OSError."""
+        record; that leads to `path_nm` where the motors aren't there and it is known. Raises OSError."""
         position = Position(self.settings.step_nm, at_nm)
-        x, y, z = position.steps
+        path = None if path_nm is None else self._steps(path_nm)
         try:
-            found = self.finder.find(out, FileRecord(size, (x, y, z)))
+            found = self.finder.find(out, FileRecord(size, self._steps(at_nm), path))
             outputs = self._outputs(file, size, found.size - len(found.missing), kept)
             return self._way(file, Recovery(lines, size, at_nm, outputs, lines, found), position)
         except (CannotTell, CommandRefused, Ended, BadLine) as error:
             return Recovery(lines, size, at_nm, kept, lines, problem=Failure.said(error))
 
+    def _steps(self, at_nm: Point) -> Point:
+        x, y, z = Position(self.settings.step_nm, at_nm).steps
+        return x, y, z
+
     def _outputs(self, file: int, size: int, to: int, kept: Switch) -> Switch:
-        """The outputs where the motors are. Where the switch that set them can't be read any more, they are those with
-        which the segment begins, or those handed out last, unless a switch stands between."""
+        """The outputs where the motors are. Within the segment they are those with which it begins, but for a switch in
+        it: so OUT isn't searched for one that was long ago. Before it, where the switch that set them can't be read any
+        more, they are those too, or those handed out last, unless a switch stands between."""
+        if self.device.state.half and to <= size and not is_switch_between(file, to, size):
+            return self.finder.segment(self.device.image)[1]
         found = switched_at(file, size, kept)
         if found is not None:
             return found
@@ -108,11 +126,16 @@ class Looking:
             return kept
         return self.finder.segment(self.device.image)[1] if self.device.state.half else outputs_on(self.device.state)
 
-    def is_through(self, is_all: bool, at_nm: Point) -> bool:
-        """Whether nothing can be left, since no block is half-done, all of OUT is carried out, and the motors are where
-        the device has the machine."""
+    def may_be_through(self, is_all: bool, at_nm: Point) -> bool:
+        """Whether nothing is left but what OUT lost: no block is half-done, all of OUT is carried out, and the motors
+        are where the device has the machine."""
         state = self.device.state
         return is_all and not state.half and bool(state.point_known) and state.point_nm == at_nm
+
+    def is_through(self, file: int, size: int) -> bool:
+        """Whether OUT, which is open and has so many bytes, lost nothing, for certain."""
+        has_log = self.device.records or self.device.without_header() is not None
+        return not has_log or self.finder.is_all_there(file, size)
 
     def _way(self, file: int, recovery: Recovery, position: Position) -> Recovery:
         found, lines, size = recovery.beginning, recovery.lines, recovery.size
@@ -146,22 +169,38 @@ class OutFound:
     recovery: Recovery
     said: list[str]
     is_sent: bool = False  # the motors are on a way, and what stands behind its end isn't cut off yet
+    as_left: bool = False  # nothing was done since the program was left for its next line
     _at_nm: Point = (0, 0, 0)
 
     @staticmethod
-    def of(ngc: str, settings: str, link: SyncedLink, device: Device | None) -> "OutFound":
-        """Looks, and mends. The player goes on at once where no line is left. Raises NoAnswer, BadSettings, OSError."""
-        looking = Looking(ngc, settings, device.image) if device else None
+    def of(ngc: str, settings: str, link: SyncedLink, device: Device | None, is_whole: bool = False) -> "OutFound":
+        """Looks, and mends. The player goes on at once where no line is left. `is_whole`: OUT has all that was handed
+        out. Raises NoAnswer, BadSettings, OSError."""
+        looking = Looking(ngc, settings, device.image, link.noted(), is_whole) if device else None
         found = OutFound(link, looking, Recovery(), [])
         found.look()
         lost = found.recovery.beginning.missing if found.recovery.beginning else b""
+        found._say_hole()
         if lost and not found.recovery.beginning.is_new:
             found.put_back()
             found.said.append(f"{link.out}: {lost.count(10)} lines that were handed out were lost with the power, and"
                               " are put back: ngc run hands out the same ones again")
+        link.write_again(found.recovery.size)
         if not found.is_left():
             link.follow()
         return found
+
+    def _say_hole(self) -> None:
+        """Says what the disk lost in the midst of OUT, and what that costs."""
+        if (hole := self.link.hole) is None:
+            return
+        self.link.hole = None
+        self.said.append(HOLE.format(out=self.link.out, zeros=hole.zeros, at=hole.at, line=hole.line, lines=hole.lines))
+        beginning = self.recovery.beginning
+        if self.looking is None or beginning is None or not beginning.is_told:
+            step_nm = self.looking.settings.step_nm if self.looking else (1_000_000,) * 3
+            most = rounded(isqrt(hole.most_lines ** 2 * sum(step * step for step in step_nm)) + 500)
+            self.said.append(NEVER.format(lines=hole.most_lines, mm=most))
 
     @staticmethod
     def cut_off(ngc: str, settings: str, link: SyncedLink, device: Device | None) -> "OutFound":
@@ -173,11 +212,11 @@ class OutFound:
         found.cut(size)
         return found
 
-    def _ends_there(self, report: Report, size: int) -> None:
+    def _ends_there(self, report: Report, size: int, is_told: bool = False) -> None:
         """The motors are where OUT leads, or is to."""
         lines = report.carried
         x, y, z = map(nanometres, report.at.split())
-        end = SegmentBeginning(size, (0, 0, 0))
+        end = SegmentBeginning(size, (0, 0, 0), is_told=is_told)
         self.recovery = Recovery(lines, size, (x, y, z), report.outputs, lines, end, (x, y, z), (x, y, z), _NO_WAY)
 
     def look(self) -> None:
@@ -186,12 +225,26 @@ class OutFound:
         lines = report.carried
         x, y, z = map(nanometres, report.at.split())
         self._at_nm = (x, y, z)
-        if self.looking and self.looking.is_through(size == self.link.size(), (x, y, z)):
-            self._ends_there(report, size)
-        elif self.looking is None:
+        if self.looking is None:
             self.recovery = Recovery(lines, size, (x, y, z), report.outputs, lines, problem="the device can't be read")
-        else:
-            self.recovery = self.looking.look(self.link.out, self.link.file, lines, size, (x, y, z), report.outputs)
+            return
+        may_be_through = self.looking.may_be_through(size == self.link.size(), (x, y, z))
+        if may_be_through and self.looking.is_through(self.link.file, size):
+            self._ends_there(report, size, True)
+            return
+        path = self.link.leads().split()
+        path_nm = (nanometres(path[0]), nanometres(path[1]), nanometres(path[2])) if path else None
+        self.recovery = self.looking.look(self.link.out, self.link.file, lines, size, (x, y, z), report.outputs,
+                                          path_nm)
+        if may_be_through and not self._has_lost(size):
+            self._ends_there(report, size, self.recovery.beginning is not None and self.recovery.beginning.is_told)
+
+    def _has_lost(self, size: int) -> bool:
+        """Whether lines are lost, and not only missing since OUT is another one than that of last time."""
+        found = self.recovery.beginning
+        if found is None or not found.missing:
+            return False
+        return not found.is_new or self.looking.finder.may_have_lost(self.link.file, size)
 
     def look_again(self, report: Report) -> None:
         """Looks again if the motors aren't where they were. Raises NoAnswer, OSError."""
@@ -221,11 +274,27 @@ class OutFound:
             self.is_sent, self.link.is_following = before
             raise
 
+    def _note_cut(self, size: int) -> None:
+        """Notes that OUT is about to end behind so many bytes. Raises OSError."""
+        found = self.recovery.beginning
+        if found is None or found.size > size or found.missing:
+            self.link.forget()
+        else:
+            self.link.note(size, found.size, self.as_left)
+
+    def note(self, as_left: bool) -> None:
+        """Notes how OUT stands as a session has begun, if that is known. `as_left`: nothing was done since the program
+        was left for its next line. Raises OSError."""
+        found, size, self.as_left = self.recovery.beginning, self.link.size(), as_left
+        if found is not None and not found.missing and found.size <= size:
+            self.link.note(size, found.size, as_left)
+
     def cut(self, size: int) -> None:
         """Cuts off what stands behind so many bytes, where the motors are, and goes on from there. No record on a disk
         ever counts what OUT doesn't have. Raises NoAnswer, OSError."""
         if self.link.size() > size:
             self.link.await_kept(size)
+            self._note_cut(size)
             self.link.cut(size)
         self.is_sent = False
         self.link.follow()

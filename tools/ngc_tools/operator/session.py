@@ -1,8 +1,10 @@
 """What the parts of a person's session share: `ngc`, its device, the player, the face, and what is under way."""
+import os
 import re
 from collections.abc import Callable
 from contextlib import suppress
 from dataclasses import dataclass, field
+from functools import partial
 
 from ngc_tools.formats.device import Device, NoDevice
 from ngc_tools.formats.lines import Program
@@ -21,7 +23,21 @@ came with lines in hand, so that no more line of the session is carried out, and
 """
 DOOR, SPINDLE, OTHER = "door", "spindle", "other"
 """What holds motors that nobody told to hold from here."""
+NOT_NOTED = "what OUT has isn't noted beside the device, by which lines are told that are lost with the power"
+_BROKE_OFF = """\
+the player carries out no more line of this session, and says why at its own terminal: as where its record can't be
+kept, on a full disk. Once that is mended, stop begins another session, which goes on as after a loss of power"""
+_LEAST_ROOM = 4096  # bytes: a page of a file
 _MACHINE_S = 0.3  # a player that tells its inputs does so in that time; others are deaf for that question
+
+
+def _is_full(path: str) -> bool:
+    """Whether the disk of a file has no room for more of it."""
+    try:
+        found = os.statvfs(path)
+    except OSError:
+        return False
+    return found.f_bavail * found.f_frsize < _LEAST_ROOM
 
 
 def place(status: Status) -> str:
@@ -57,6 +73,7 @@ class Session:
     gone: bool = False
     on_alarm: Callable[[], None] = lambda: None
     machine: MoveReport | None = None
+    noted: int = -1  # so many entries there were as it was noted what OUT has
     is_deaf: bool = False  # the player doesn't tell its inputs
     has_opened: bool = False  # the door was open since the motors are held
     has_failed: bool = False  # they came to be held as they waited for the spindle's speed
@@ -83,14 +100,35 @@ class Session:
         return report
 
     def passed(self, status: Status) -> None:
-        """Gives room of OUT that nobody needs any more back to the disk."""
+        """Gives room of OUT that nobody needs any more back to the disk, and notes what OUT has where the device was
+        written anew."""
         if self.meter and isinstance(self.meter.link, SyncedLink):
             with suppress(NoAnswer):  # the next question says it
                 self.meter.link.passed(status)
+            if status.half == "none":
+                self.noting(partial(self.meter.link.note_end, not self.own, True))
+
+    def note_out(self, as_left: Callable[[], bool]) -> None:
+        """Notes what OUT, a file, has as a command is done, if no block is under way and something is an entry since.
+        `as_left` says whether nothing was done since the program was left for its next line."""
+        if not self.meter or not isinstance(self.meter.link, SyncedLink) or self.meter.link.notes is None:
+            return
+        status = self.console.status()
+        if status.half == "none" and status.entries != self.noted:
+            self.noted = status.entries
+            self.noting(partial(self.meter.link.note_end, as_left()))
+
+    def noting(self, note: Callable[[], None]) -> None:
+        """Has it noted what OUT has; says once why that can't be."""
+        try:
+            note()
+        except OSError as error:
+            self.face.once(f"{NOT_NOTED}: {error}")
 
     def take(self, report: Report) -> None:
         """Takes what the player says."""
-        was_alarm, before, self.seen = self.is_in(ALARM), self.seen, report
+        was_alarm, was_broken = self.is_in(ALARM), self.is_in(ALARM, BROKEN)
+        before, self.seen = self.seen, report
         if not report.is_held:
             self.has_opened = self.has_failed = False
         elif before is not None and not before.is_held:
@@ -98,6 +136,8 @@ class Session:
         self.face.moved(report)
         if self.is_in(ALARM) and not was_alarm:
             self.on_alarm()
+        if self.is_in(BROKEN) and not was_broken:
+            self.face.say(_BROKE_OFF, WARNING)
 
     def see_machine(self, machine: MoveReport | None) -> None:
         """Takes what it says of moves without lines, and of its inputs."""
@@ -157,8 +197,15 @@ class Session:
         if status is not None and re.match(r"refused [EBCYX]\d", reply):
             where = f"{self.line(status)}\n  "
             cause = self._cause(reply, status)
-        self.face.say(where + explained(reply, cause), REFUSED)
+        self.face.say(where + explained(reply, cause or self.full_disk(reply)), REFUSED)
         return True
+
+    def full_disk(self, reply: str) -> str:
+        """Which disk has no room, if that may be why the device or OUT failed; nothing else."""
+        full = [f"{name}, {path}" for name, path in (("OUT", self.console.out), ("the device", self.console.device))
+                if reply.startswith("refused J1") and _is_full(path)]
+        return f"no room is left on the disk of {' and of '.join(full)}. Make some, and start again: nothing is lost" \
+            if full else ""
 
     def _cause(self, reply: str, status: Status) -> str:
         """Where the program's line at the place leaves the travel, if that is why it is refused."""

@@ -1,20 +1,53 @@
 """OUT as a file: what a player is given is on the disk before, and room that nobody needs any more is given back."""
 import ctypes
+import errno
 import fcntl
+import mmap
 import os
 import re
 import time
+from contextlib import suppress
+from dataclasses import dataclass
 from pathlib import Path
 
-from ngc_tools.formats.out import LONGEST_LINE, BadLine, read_line
+from ngc_tools.files import naming
+from ngc_tools.formats.device import Device, NoDevice
+from ngc_tools.formats.out import LONGEST_LINE, BadLine, end_of_lines, read_line
+from ngc_tools.formats.out_note import NoteFile, OutNote
 from ngc_tools.ngc.console import Status
 from ngc_tools.player.progress import Link, NoAnswer, Report
+from ngc_tools.player.source import born_ns
 
 SYNCED_PARTS, SYNCED_AT_ONCE = 4, 1000  # of a Meter: few pieces, since each is synced
 _CHUNK = 1 << 22  # bytes of room that are given back at once
 _TAIL = 4096  # bytes before the player's place: its record knows OUT by them
+_PIECE = 1 << 20  # bytes that are written again at once
+UNSYNCED = """\
+{out}: it can't be synced: {why}. What was handed out last may be lost, though it can be read, and no motor makes it \
+before it is on the disk. Once the disk is well, quit, and start this again: it writes OUT again"""
 _KEEP_SIZE, _PUNCH_HOLE = 1, 2
+_OF_OUT = frozenset(b"PDS0123456789.- \n\0")  # bytes of lines, and zeros
 _PART = re.compile(rb"[PDS](?: [-0-9. ]{0,198})?")  # of a line of OUT
+
+
+@dataclass(frozen=True, slots=True)
+class Hole:
+    """Behind the first `at` bytes of OUT, its line `line`, zeros stood in the place of lines, `zeros` bytes of them.
+    OUT is cut off there, with `lines` lines that stood behind."""
+
+    at: int
+    line: int
+    zeros: int
+    lines: int
+
+    @property
+    def most_lines(self) -> int:
+        """How many pulses may have stood there, as short as they can be."""
+        return self.zeros // len("P 0 0 1 9\n") + 1 + self.lines
+
+
+class NotSynced(NoAnswer):
+    """OUT can't be synced. What was handed out since the last sync may be lost, though it can be read."""
 
 
 class SyncedLink(Link):
@@ -22,12 +55,17 @@ class SyncedLink(Link):
     by a sync of what OUT got since the last one, and by the word how many bytes are on the disk: beyond these the
     player carries nothing out. So what the motors were given is there after a loss of power."""
 
-    def __init__(self, path: str | Path, out: str | Path, patience_s: float = 5.0) -> None:
-        """Raises NoAnswer, or OSError if OUT can't be opened."""
+    def __init__(self, path: str | Path, out: str | Path, patience_s: float = 5.0, device: str | None = None) -> None:
+        """`device` is that beside which it is noted what OUT has; None for nowhere. Raises NoAnswer, or OSError if OUT
+        can't be opened."""
         super().__init__(path, patience_s)
         self.out = str(out)
+        self.notes = NoteFile(device) if device else None
+        self._epoch = 0  # of the device, as it was noted last
         self.file = os.open(out, os.O_RDWR | os.O_CLOEXEC)
         self.is_following = False
+        self.hole: Hole | None = None  # what was cut off as the session began
+        self.failed = ""  # why OUT can't be synced: from then on nothing more of it counts as on the disk
         self.told = -1  # bytes, of which the player knows that they are on the disk
         self._passed = -1  # the bytes of OUT as the status was looked at last ..
         self._open = (-1, -1)  # .. with this segment open ..
@@ -63,21 +101,24 @@ class SyncedLink(Link):
         return os.fstat(self.file).st_size
 
     def ask(self) -> Report:
-        """Syncs OUT, tells it, and asks how far the player is. Raises NoAnswer, also where OUT can't be synced."""
-        if self.is_following:
+        """Syncs OUT, tells it, and asks how far the player is. Raises NoAnswer; NotSynced as OUT can't be synced. After
+        that it only asks."""
+        if self.is_following and not self.failed:
             self._tell()
         return super().ask()
 
     def end(self) -> None:
         """Syncs OUT, and tells the player that the session is over. Raises NoAnswer."""
-        if self.is_following:
-            self._tell()
-        super().end()
+        try:
+            if self.is_following and not self.failed:
+                self._tell()
+        finally:
+            super().end()
 
     def anew(self) -> None:
         """Tells the player that another session follows: until `follow` nothing more is carried out. Raises NoAnswer.
         """
-        self.is_following, self.told = False, -1
+        self.is_following, self.told, self.failed = False, -1, ""
         super().anew()
 
     def close(self) -> None:
@@ -93,22 +134,67 @@ class SyncedLink(Link):
             return
         try:
             self.sync()
-        except OSError as error:
-            raise NoAnswer(f"{self.out}: it can't be synced: {error.strerror}") from None
+        except OSError:
+            raise NotSynced(self.failed) from None
         self.synced(size)
         self.told = size
 
     def sync(self) -> None:
-        """Puts what stands in OUT on the disk. Raises OSError."""
-        os.fdatasync(self.file)
+        """Puts what stands in OUT on the disk. Raises OSError; once it did, it does so in this session: what a sync
+        couldn't write Linux takes for written, and the next one succeeds without it."""
+        if self.failed:
+            raise OSError(errno.EIO, self.failed)
+        try:
+            os.fdatasync(self.file)
+        except OSError as error:
+            self.failed = UNSYNCED.format(out=self.out, why=error.strerror)
+            raise
+
+    def write_again(self, begin: int) -> None:
+        """Writes what OUT has behind so many bytes again, as it is read, and syncs it: a session before may have failed
+        to. Raises OSError with the path."""
+        end = self.size()
+        if begin >= end:
+            return
+        with naming(self.out):
+            while begin < end and (piece := os.pread(self.file, min(_PIECE, end - begin), begin)):
+                begin += os.pwrite(self.file, piece, begin)
+            os.fsync(self.file)
+
+    def noted(self) -> OutNote | None:
+        """What was noted last of OUT; None where nothing was."""
+        return self.notes.read() if self.notes else None
+
+    def note(self, size: int, begins: int, as_left: bool) -> None:
+        """Notes that OUT has so many bytes, which are synced before, as the device stands now, with nothing under way;
+        the half-done segment begins behind `begins` bytes, which is `size` without one. `as_left`: nothing was done
+        since the program was left for its next line. Raises OSError."""
+        if self.notes is None or self.failed:
+            return
+        if self.told != self.size():
+            self.sync()
+        what = os.fstat(self.file)
+        with suppress(NoDevice):
+            device = Device.read(self.notes.device)
+            self._epoch = device.epoch
+            self.notes.write(OutNote(what.st_ino & (2**63 - 1), born_ns(self.file), device.epoch, len(device.records),
+                                     device.state.entries, size, begins, as_left))
+
+    def note_end(self, as_left: bool, is_anew: bool = False) -> None:
+        """The same of all that OUT has, without a half-done block; with `is_anew` only where the device was written
+        anew since. Raises OSError."""
+        if self.notes is not None and not (is_anew and self.notes.epoch() == self._epoch):
+            self.note(self.size(), self.size(), as_left)
+
+    def forget(self) -> None:
+        """What was noted isn't true of what OUT is to have. Raises OSError."""
+        if self.notes is not None:
+            self.notes.remove()
 
     def cut_part(self) -> int:
         """Cuts a part of a line off the end, if no session has OUT, and it is one; returns how many bytes that had.
         Raises OSError."""
-        try:
-            fcntl.flock(self.file, fcntl.LOCK_EX | fcntl.LOCK_NB)
-            fcntl.flock(self.file, fcntl.LOCK_UN)
-        except BlockingIOError:
+        if self._is_held():
             return 0
         size = self.size()
         begin = max(0, size - 2 * LONGEST_LINE)
@@ -118,18 +204,47 @@ class SyncedLink(Link):
         self.cut(size - len(part))
         return len(part)
 
+    def cut_hole(self) -> Hole | None:
+        """Cuts OUT off where zeros stand in the place of lines, behind what is carried out, if no session has OUT; None
+        where none do, or it has other text too. What an append lost in its midst tells nothing of where the lines
+        behind it lead. Raises NoAnswer, OSError."""
+        line, begin = self.kept()
+        size = self.size()
+        if self._is_held() or begin >= size:
+            return None
+        with mmap.mmap(self.file, 0, access=mmap.ACCESS_READ) as text:
+            at = end_of_lines(text, begin)
+            rest = text[at:]
+            zeros = rest.count(0)
+            if not zeros or set(rest) - _OF_OUT or 0 not in rest[:2 * LONGEST_LINE].partition(b"\n")[0]:
+                return None
+            line += text[begin:at].count(b"\n")
+        self.cut(at)
+        return Hole(at, line, zeros, rest.count(b"\n"))
+
+    def _is_held(self) -> bool:
+        """Whether a session has OUT."""
+        try:
+            fcntl.flock(self.file, fcntl.LOCK_EX | fcntl.LOCK_NB)
+            fcntl.flock(self.file, fcntl.LOCK_UN)
+        except BlockingIOError:
+            return True
+        return False
+
     def cut(self, size: int) -> None:
         """Cuts off what stands behind so many bytes, and syncs that. Raises OSError."""
         os.ftruncate(self.file, size)
         os.fsync(self.file)
 
     def append(self, text: bytes) -> None:
-        """Puts lines at the end, and syncs them. Raises OSError."""
+        """Puts lines at the end, and syncs them. Raises OSError with the path, as on a full disk: what is there then is
+        whole but for its last line."""
         end = self.size()
-        while text:
-            done = os.pwrite(self.file, text, end)
-            end, text = end + done, text[done:]
-        os.fsync(self.file)
+        with naming(self.out):
+            while text:
+                done = os.pwrite(self.file, text, end)
+                end, text = end + done, text[done:]
+            os.fsync(self.file)
 
     def passed(self, status: Status) -> None:
         """Looks how far the work is, after each piece of it. Room before the open segment is given back to the disk

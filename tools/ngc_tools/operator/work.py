@@ -25,6 +25,7 @@ _HELD = {
     SPINDLE: "the spindle didn't come to its speed, and the motors are held: release waits for it again",
     OTHER: "the motors are held, and not from here: release lets them go on",
 }
+_SILENT = ". Once it answers again, run goes on; if it is gone, quit, and start a player and this again"
 _SPINDLE = "the player waits until the spindle has its speed"
 
 
@@ -147,9 +148,9 @@ class Work:
         try:
             return min(session.meter.room(self._goes_on), self.chunk.ticks)
         except NoAnswer as error:
-            session.gone = True
-            session.face.say(f"{error}; nothing more is handed out. Once it answers again, run goes on; if it is gone,"
-                             " quit, and start a player and this again", WARNING)
+            session.gone = not session.meter.link.failed
+            again = "" if session.meter.link.failed else _SILENT
+            session.face.say(f"{error}; nothing more is handed out{again}", WARNING)
             return 0
 
     def await_motors(self) -> bool:

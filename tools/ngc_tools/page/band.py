@@ -3,6 +3,7 @@ from dataclasses import dataclass
 
 from ngc_tools.ngc.console import Status
 from ngc_tools.operator.display import on_words
+from ngc_tools.operator.motors import count
 from ngc_tools.operator.session import ALARM, BROKEN, DOOR, SPINDLE, WAITS_SPINDLE
 from ngc_tools.page.face import LOOKS
 from ngc_tools.page.session import LOST, MOVES, WITHOUT_LINES, PageSession
@@ -54,6 +55,8 @@ class Standing:
             return "Ended", "fail", session.ended
         if self.status.does == "broken":
             return "Device failed", "fail", "Remove the cause, then start again. What is stored stays"
+        if session.stand.gone and session.operator.session.meter.link.failed:
+            return "OUT failed", "fail", "Nothing more is handed out. Once the disk is well, Start ngc again"
         if session.stand.gone:
             return "Player gone", "fail", "Nothing more is handed out. Start the player again"
         if report and report.word == ALARM and not self.does.startswith("home "):
@@ -74,12 +77,19 @@ class Standing:
         report, question = self.report, self.session.face.question
         if report and report.waits:
             change = f"Put in tool {report.tool}" if report.tool else "Take the tool out"
-            held = ". It is held too: Continue comes after that" if self._holds() else ""
-            return "Tool change", "ask", change + held
+            return "Tool change", "ask", change + self._after_change(report)
         if question and question.text in LOOKS:
             is_on = self.report is None or on_words(self.report.outputs)
             return "Switched on" if is_on else "Look", "ask", "Nothing moves. Look at spindle, tool and way"
         return ("Question", "ask", question.text) if question else None
+
+    def _after_change(self, report: Report) -> str:
+        """What follows a tool change, where that isn't the job that runs."""
+        if self._holds():
+            return ". It is held too: Continue comes after that"
+        if self.session.under is None:
+            return f". What the player has in hand, {count(report)}, is carried out then"
+        return ""
 
     def _holds(self) -> bool:
         """Whether somebody held what runs."""

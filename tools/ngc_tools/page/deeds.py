@@ -134,9 +134,11 @@ def _mdi(given: Given) -> None:
     given.session.type(f"anyway mdi {line}" if given.flag("anyway") else f"mdi {line}")
 
 
-def _reference(given: Given) -> None:
+def _reference(given: Given) -> dict:
+    """Says why it isn't taken, nothing where it is."""
     at = "player" if given.words.get("at") == "player" else " ".join(given.point("at"))
     given.session.tell(f"reference {at}{given.anyway()}")
+    return {"refused": given.session.face.refusal}
 
 
 def _stands(given: Given) -> dict:

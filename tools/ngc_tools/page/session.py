@@ -21,6 +21,7 @@ from ngc_tools.ngc.console import Ended, Status
 from ngc_tools.operator.face import REFUSED, WARNING
 from ngc_tools.operator.motors import SPINDLE_PERCENTS, WHOLE
 from ngc_tools.operator.operator import CHOSEN, Operator
+from ngc_tools.operator.places import is_same_place
 from ngc_tools.operator.sentences import explained
 from ngc_tools.operator.session import ALARM
 from ngc_tools.page.aside import Aside, Child, NotDone, Wanted
@@ -112,8 +113,9 @@ class PageSession:
         self.name, self.program_id, self.ended = "", 1, "it isn't begun yet"
         self.drawer = Drawer(self.aside, face.publish)
         self.never_cut = NeverCutSearch(self.aside, face)
-        # how far the motors may be past the player's record, which has them there, in words and in mm
-        self.past, self.past_mm, self.past_at = "", "", ""
+        # how far the motors may be past the player's record, which has them there, in words and in mm; of which axes,
+        # until these are homed, or somebody tells where they are
+        self.past, self.past_mm, self.past_at, self.past_axes = "", "", "", ""
         self.started = 0.0  # when the program was started in this session, in seconds since 1970
         self.is_finished = False  # it ran to its end, and nothing was begun since
         self.begins_at: float | None = None  # since when another session begins, in seconds since 1970, while it does
@@ -172,6 +174,22 @@ class PageSession:
     def _see_past(self) -> None:
         self.past, self.past_mm = self._found_past()
         self.past_at = self.stand.report.at if self.stand.report else ""
+        self.past_axes = "XYZ"
+        self._see_homed()
+
+    def _see_homed(self) -> None:
+        """Of axes that are homed it is known where they are, whatever the record said; so of all that were told."""
+        homed = self.stand.machine.homed if self.stand.machine else ""
+        self.past_axes = "".join(axis for axis in self.past_axes if axis not in homed)
+
+    def _see_told(self, word: str) -> None:
+        """Sees whether somebody told where the motors are, or they went from where they are taken to be."""
+        status, report = self.operator.console.status(), self.operator.session.report()
+        if report is None:
+            return
+        is_told = word == "reference" and status.known and is_same_place(self.settings, status.at, report.at.split())
+        if is_told or word in MOVES - WITHOUT_LINES and report.at != self.past_at:
+            self.past_axes = ""
 
     def _found_past(self) -> tuple[str, str]:
         """How old the player's record was, and how far the motors may be past it, in words, and in mm; nothing where
@@ -312,9 +330,29 @@ class PageSession:
         was asked. Raises Busy."""
         def does() -> None:
             """By the operator's core."""
+            if stands and not self._are_there(stands):
+                return
             self.operator.recover.confirmed_nm = tuple(map(nanometres, stands)) if stands else None
             self.operator.do("recover")
         self.give("recover", does)
+
+    def _are_there(self, stands: list[str]) -> bool:
+        """Whether the player has the motors where a person has measured them; it is told so where it had them
+        elsewhere, and `ngc` too. Why that isn't taken is said."""
+        operator = self.operator
+        if self._is_counted(stands):
+            return True
+        if not operator.alarm.forbids("recover"):
+            operator.do(f"reference {' '.join(stands)} anyway")
+            self._see_told("reference")
+            self._look_at_way()
+            self._look()
+        return self._is_counted(stands)
+
+    def _is_counted(self, stands: list[str]) -> bool:
+        """Whether the player has the motors there, in whole steps; True where none tells anything."""
+        report = self.operator.session.report()
+        return report is None or is_same_place(self.settings, stands, report.at.split())
 
     def load(self, name: str, text: bytes) -> bool:
         """Stores a program that people call `name`; whether it was taken. Raises Busy."""
@@ -466,14 +504,23 @@ class PageSession:
             self._tell_bug(command, error)
         if self.operator.over:
             self._quit()
-        elif command.word in MOVES | {"load"}:
+            return
+        if command.word in MOVES | {"load"}:
             self._see_end(command, before)
-            self._look_at_way(command)
+        if command.word in MOVES | {"reference"}:
+            self._see_place(command.word)
 
-    def _look_at_way(self, command: SessionCommand) -> None:
-        """Looks again which way `recover` would take, where the motors were moved without lines, as by home."""
+    def _see_place(self, word: str) -> None:
+        """Sees what a command makes known of where the motors are."""
+        self._see_told(word)
+        if word in WITHOUT_LINES | {"reference"}:
+            self._look_at_way()
+
+    def _look_at_way(self) -> None:
+        """Looks again which way `recover` would take, where the motors were moved without lines, as by home, or
+        somebody told where they are."""
         found, report = self.operator.recover.found, self.operator.session.report()
-        if command.word in WITHOUT_LINES and found is not None and report is not None and report.behind == 0:
+        if found is not None and report is not None and report.behind == 0:
             is_half = self.operator.console.status().half != "none"
             if is_half or found.is_left():
                 found.look_again(report)
@@ -503,8 +550,9 @@ class PageSession:
         self.over.set()
 
     def _give_up(self) -> None:
-        """Ends `ngc` where nothing more can be done with it."""
-        self.operator.ending.tell_player()
+        """Ends `ngc` where nothing more can be done with it. A player that is there goes on with the next session."""
+        with suppress(NoAnswer):
+            self.operator.following.let_go()
         self.ended = f"ngc ended with status {self.operator.console.quit()}"
 
     def _tell_end(self, ended: Ended) -> None:
@@ -538,9 +586,11 @@ class PageSession:
                 operator.session.take(report)
         except NoAnswer as error:
             status, report, gone = operator.console.status(), self.face.report, str(error)
+        gone = gone or (operator.session.meter.link.failed if operator.session.meter else "")
         operator.session.see_machine(machine)
         self.kept.at(status)
         self.stand = Stand(status, report, gone, recovery_of(operator.recover.found), *self._typed(), machine)
+        self._see_homed()
         if status.half == "none" and not status.place and not self.drawer.is_as_drawn(self.kept.device):
             self._draw()
         if self.stand != before:

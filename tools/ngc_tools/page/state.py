@@ -1,4 +1,5 @@
 """What pages show and what changes, as JSON has it."""
+import time
 from collections.abc import Iterator
 
 from ngc_tools.formats.device import Device, State
@@ -24,6 +25,8 @@ _LINES = ("run", "resume", "recover")
 """The commands that run to the program's end."""
 _CONFIRMED = ("recover", "resume", "release")
 """What goes from where somebody has told that the motors stand."""
+_OLD_S = 0.6
+"""A place that was told so long ago isn't shown as the place now, while something is under way."""
 HERE = "here"
 """What holds the motors, where that was one of the pages."""
 
@@ -177,9 +180,11 @@ class Pictured:
         return self.operator.session.machine if self.stand.machine else None
 
     def _past(self) -> dict:
-        """How far the motors may be past the player's record, as long as they are where it had them."""
-        is_there = self.report is not None and self.report.at == self.session.past_at
-        return {"past": self.session.past if is_there else "", "past_mm": self.session.past_mm if is_there else ""}
+        """How far the motors may be past the player's record, and of which axes."""
+        session = self.session
+        is_past = self.report is not None and bool(session.past_axes)
+        return {"past": session.past if is_past else "", "past_mm": session.past_mm if is_past else "",
+                "past_axes": [axis in session.past_axes for axis in "XYZ"]}
 
     def _moves_too(self) -> dict:
         """What it says of them."""
@@ -229,9 +234,10 @@ class Pictured:
     @property
     def _left(self) -> str:
         """The axes of which somebody has to tell where they stand, or to home them, before an alarm is over, as `XY`;
-        nothing as long as none is homed."""
+        nothing as long as none is homed, nor as long as home is the way for one of them."""
         machine = self._machine_said
-        return left_of(machine) if machine and machine.alarm and machine.homed else ""
+        left = left_of(machine) if machine and machine.alarm and machine.homed else ""
+        return "" if set(left) & set(self.session.homes or "") else left
 
     def _in_force(self) -> dict:
         found = self._state
@@ -255,7 +261,12 @@ class Pictured:
             return {"why": "power", "at": self.session.opened.left_at}
         # what wasn't known before isn't "known last" by that
         is_gone = self.stand.gone or self.session.ended or begins_at is not None
-        return {"why": "player", "at": self.face.reported_at} if is_gone else None
+        return {"why": "player", "at": self.face.reported_at} if is_gone or self._is_old else None
+
+    @property
+    def _is_old(self) -> bool:
+        """Whether something is under way, and the player was heard last so long ago that the motors are elsewhere."""
+        return self.face.view is not None and 0 < self.face.reported_at < time.time() - _OLD_S
 
     @property
     def _is_lost(self) -> bool:

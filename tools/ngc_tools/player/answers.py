@@ -6,12 +6,14 @@ import time
 from contextlib import suppress
 from typing import Protocol
 
-from ngc_tools.formats.record import machine_nm
-from ngc_tools.player.progress import KEPT, PERCENT, QUESTION, SPINDLE, SYNCED, Listener, Report
+from ngc_tools.formats.record import Record, machine_nm
+from ngc_tools.player.progress import KEPT, PERCENT, QUESTION, SPINDLE, SYNCED, Listener, Report, kept_text
 
 
 class Asked(Protocol):
     """The player, as the thread that answers sees it. Each of these may be called while it carries out a line."""
+
+    is_sure: bool  # where the motors are was told by a person since it began
 
     def report(self) -> Report:
         """How far it is."""
@@ -46,8 +48,8 @@ class Asked(Protocol):
     def synced(self, size: int) -> None:
         """So many bytes of OUT are on the disk."""
 
-    def kept(self) -> tuple[int, int, int]:
-        """The lines and bytes of the record that is on the disk, and the age in it."""
+    def kept(self) -> Record:
+        """The record that is on the disk."""
 
     def go_where(self, text: bytes) -> None:
         """Goes along OUT or by legs, or switches outputs, as the text says."""
@@ -115,7 +117,7 @@ class Answers:
         elif match := SYNCED.fullmatch(text):
             self._player.synced(int(match[1]))
         elif KEPT.fullmatch(text):
-            self._listener.answer(text + b" lines %d bytes %d age %d" % self._player.kept(), sender)
+            self._listener.answer(text + b" " + kept_text(self._player.kept(), self._player.is_sure), sender)
         elif text.startswith((b"along ", b"legs ", b"straight ", b"switch ")):
             self._player.go_where(text)
         elif text == b"last":

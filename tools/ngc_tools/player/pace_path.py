@@ -24,7 +24,7 @@ class Limits:
     accel: Axes
     rate: Axes = (0, 0, 0)
     start: Axes = (0, 0, 0)
-    half: int = 64
+    half: int = 96
     slack: int = 2
     most_percent: int = 100
 

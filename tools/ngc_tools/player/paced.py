@@ -124,6 +124,7 @@ class PacedPlayer(Player):
         with self._lock:
             while (text := self.source.next()) is None and self.source.read():
                 pass
+            self.path_nm = self.path_nm if text is None else None  # it leads on from where the motors are
         if text is None:
             return False
         self._newest_ns, self._left_ns, self._stays = time.monotonic_ns(), 0, False

@@ -30,7 +30,9 @@
     then on, so what the motors were given is on the disk.
 `kept N`
     is answered by `kept N lines L bytes B age MS`: so many lines and bytes are carried out by the record on the disk,
-    and it was so old at most, in milliseconds, as the next one came; 0 where that isn't known.
+    and it was so old at most, in milliseconds, as the next one came; 0 where that isn't known. `path X Y Z` behind is
+    where these lines lead, where the motors aren't there and it is known. `sure` stands last where, since the player
+    began, a person told where the motors are, all axes were homed, or a step sink said what it made.
 `along BYTES`, `along BYTES S ..`
     The motors go to where the first BYTES bytes of OUT, a file, lead: on along its lines, or back. It is taken while
     the player stands still and nothing is in hand. What stands behind, as outputs, is switched on first. Until they are
@@ -69,6 +71,8 @@ from pathlib import Path
 from ngc_tools.failure import Failure
 from ngc_tools.files import naming
 from ngc_tools.formats.out import OFF, BadLine, Switch, read_line
+from ngc_tools.formats.position import millimetres
+from ngc_tools.formats.record import Record
 from ngc_tools.hold_level import Starts, start_at_once
 
 QUESTION = re.compile(rb"progress [0-9]{1,20}")
@@ -78,14 +82,18 @@ PERCENT = re.compile(rb"percent ([1-9][0-9]{0,2})")
 SPINDLE = re.compile(rb"spindle percent ([1-9][0-9]{0,2})")
 _OTHER = "it is of another version: take a player and a console of one version"
 _LONGEST = 192  # bytes of a datagram to a player
-_KEPT = re.compile(r"lines (\d+) bytes (\d+) age (\d+)")
+_KEPT = re.compile(r"lines (\d+) bytes (\d+) age (\d+)(?: path (\S+ \S+ \S+))?( sure)?")
 _WORDS = "works|held|moves|moved|alarm|broken|waits spindle"
 _REPORT = re.compile(rf"carried (\d+) received (\d+) ({_WORDS}|waits tool (\d{{1,3}})) reference (\S+ \S+ \S+)"
                      r" outputs (S \d \S+ \d \d \d+ \d+)(?: again (S \d \S+ \d \d \d+ \d+))? percent (\d+)"
                      r" spindle (\d+) wants (\d+) out (.*)",
                      re.DOTALL)
+UNDER_WAY = "moves"
+"""What a report says while a move without lines is under way."""
 MOVED = "moved"
 """What a report says behind a move without lines, until the player is told that `ngc` knows where the machine is."""
+BROKEN = "broken"
+"""What a report says where no more line of this session is carried out."""
 _POINT = r"none|\S+ \S+ \S+"
 _MACHINE = re.compile(rf"does (stands|(?:home|jog|seek) \S+) homed ([XYZ]+|none) alarm (\w+) on (\S+)"
                       rf" touched ({_POINT}) ended (\d+) (.*)", re.DOTALL)
@@ -185,6 +193,13 @@ def _switch(text: str) -> Switch | None:
     return line if isinstance(line, Switch) else None
 
 
+def kept_text(record: Record, is_sure: bool) -> bytes:
+    """What is answered of the record on the disk. `is_sure`: where the motors are was told since the player began."""
+    path = f" path {' '.join(map(millimetres, record.path_nm))}" if record.path_nm not in (None, record.at_nm) else ""
+    sure = " sure" if is_sure else ""
+    return f"lines {record.lines} bytes {record.size} age {record.age_ms}{path}{sure}".encode()
+
+
 class Listener:
     """The player's end of the socket, which its own user alone may use."""
 
@@ -254,7 +269,10 @@ def _remove_stale(path: str) -> None:
 
 
 class Link:
-    """The other end: asks a player. What starts motors or a spindle is sent by `starts`."""
+    """The other end: asks a player. What starts motors or a spindle is sent by `starts`. `failed` says why nothing more
+    may be handed out in this session."""
+
+    failed = ""
 
     def __init__(self, path: str | Path, patience_s: float = 5.0) -> None:
         """Raises NoAnswer if no player listens there. A question waits `patience_s` seconds for its answer."""
@@ -345,6 +363,16 @@ class Link:
         """How old that record ever was as the next one came; 0 where that isn't known. Raises NoAnswer."""
         return int(self._kept()[3])
 
+    def leads(self) -> str:
+        """Where the lines lead that the record counts, as `7.21 0 0`, where the motors aren't there and it is known;
+        else nothing. Raises NoAnswer."""
+        return self._kept()[4] or ""
+
+    def is_sure(self) -> bool:
+        """Whether where the motors are was told by a person, a home or a step sink, since the player began. Raises
+        NoAnswer."""
+        return self._kept()[5] is not None
+
     def _kept(self) -> re.Match[str]:
         self.count += 1
         match = _KEPT.fullmatch(self._answer(b"kept %d" % self.count).decode("latin-1"))
@@ -426,6 +454,15 @@ class Link:
     def stop(self) -> None:
         """Ends a move without lines, by a ramp. Raises NoAnswer."""
         self._send(b"stop")
+
+    def end_move(self) -> None:
+        """The same, and waits until it is over. Raises NoAnswer, also where it doesn't come to that."""
+        until = time.monotonic() + self.patience_s
+        while self.machine().does != "stands":
+            if time.monotonic() > until:
+                raise NoAnswer(f"{self.path}: the motors don't come to rest")
+            self.stop()
+            time.sleep(0.02)
 
     def _move(self, verb: str, what: str) -> tuple[int, str]:
         self._moves += 1

@@ -170,6 +170,7 @@ class Goes:
     _limits: Limits | None = None
     errand: Errand | None = None
     is_off = False  # the motors left the path of OUT by a move without lines
+    path_nm: Point | None = None  # where the lines that are carried out lead, where that is known and they aren't there
     again: Switch | None = None  # what a person switched off, amid lines: it comes on again before the next one
 
     def take_errand(self, wish: Wish) -> str:
@@ -189,6 +190,8 @@ class Goes:
             legs = self._legs(wish)
         except NoWay as error:
             return str(error)
+        if legs:
+            self._leave_path(self.position.nm)
         if not source.is_file:
             self.errand = Errand(wish, self.lines, self.size, legs, self.lines, self.size)
             return ""
@@ -203,6 +206,11 @@ class Goes:
         if wish.at_nm is None:
             return ()
         return (wish.at_nm,) if wish.lift_nm is None else legs_to(self.position.nm, wish.at_nm, wish.lift_nm)
+
+    def _leave_path(self, at_nm: Point) -> None:
+        """The motors are to be elsewhere than where OUT led them, which is at a point if they were there up to now."""
+        if self.path_nm is None and not self.is_off:
+            self.path_nm = at_nm
 
     def bound_for(self) -> int:
         """The line of OUT to which an errand leads; another number than that of the lines until it is done."""
@@ -234,7 +242,7 @@ class Goes:
     def _arrive(self, errand: Errand) -> None:
         """Reads on from where the motors are, up to the line of the errand. The lock is held."""
         if errand.legs:
-            self.lines, self.size = errand.legs_lines, errand.legs_size
+            self.lines, self.size, self.path_nm = errand.legs_lines, errand.legs_size, None
         self.source.go_to(self.lines, self.size)
         self.source.limit = errand.size
         self.is_untold = False  # OUT's lines lead on from there
@@ -359,4 +367,5 @@ class Goes:
                 self.backlash.take(self.screws, line, move.is_extra)
             if line is not None and not move.is_extra:
                 self.position.take(line)
-            self.lines, self.size = move.lines, move.size
+            if (self.lines, self.size) != (move.lines, move.size):
+                self.lines, self.size, self.path_nm = move.lines, move.size, None

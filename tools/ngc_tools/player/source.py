@@ -179,15 +179,22 @@ def where_to_begin(record: Record | None, source: Source, anew: bool, restored: 
     OtherFile if it can't be told how much of OUT is carried out, OSError if it can't be read."""
     out = os.path.realpath(source.path)
     begun = Record(out) if record is None else Record(out, 0, 0, record.outputs, record.at_nm, screws=record.screws)
-    if record is None or anew or not source.is_file or record.size == 0:
+    if record is None or anew or not source.is_file:
         return begun, ""
-    goes_on = replace(begun, lines=record.lines, size=record.size, is_off=record.is_off)
+    path_nm = record.path_nm or (None if record.is_off else record.at_nm)  # where its player left the motors
+    if record.size == 0:
+        return (replace(begun, path_nm=path_nm) if record.out == out else begun), ""
+    goes_on = replace(begun, lines=record.lines, size=record.size, is_off=record.is_off, path_nm=path_nm)
     there = source.mark(record.size) if source.holds(record.size) else None
     if source.failed:
         raise source.failed
     if record.out != out:
         is_renamed = there is not None and there.born_ns and there == record.mark
         return (goes_on, f"it was {record.out}: goes on after line {record.lines}") if is_renamed else (begun, "")
+    if record.size > source.size():
+        raise OtherFile(f"{source.path}: it has {source.size()} bytes, and by the record {record.size} are carried out:"
+                        " its end is lost, or it is another file. Emptied (: > OUT) it begins anew with --anew, and"
+                        " recover leads back by legs")
     if there is None or record.mark is not None and there.digest != record.mark.digest:
         raise OtherFile(f"{source.path}: not the file whose first {record.lines} lines are carried out; --anew begins"
                         " with its first line")

@@ -2,6 +2,9 @@
 import { AXES, el, mm, typedNumber } from './dom.js';
 import * as sheet from './sheet.js';
 
+// Whether one stands that something can be done about here: `ngc` and the player are there.
+export const isThere = s => Boolean(s.alarm) && !s.ended && !s.player_gone;
+
 export class Alarm {
   // `asks` sends a request, and gives its answer, or null. `opens` is called before a sheet of this opens.
   constructor(asks, opens) {
@@ -11,11 +14,12 @@ export class Alarm {
   // The way back opens by itself, once. A sheet goes once the axes on it are homed, or the alarm is over.
   show(s) {
     this.s = s;
-    if (this.left && this.left !== s.left) this.close();
-    if (!s.alarm && this.frees?.isConnected) sheet.close();
+    const stands = isThere(s);
+    if (this.left && (this.left !== s.left || !stands)) this.close();
+    if (!stands && this.frees?.isConnected) sheet.close();
     if (this.frees?.isConnected) this.showFrees();
-    if (s.alarm && !s.left && !s.busy && s.yours && !this.isTold) this.home();
-    this.isTold = Boolean(s.alarm) && (this.isTold || !s.busy && s.yours);
+    if (stands && !s.left && !s.busy && s.yours && !this.isTold) this.home();
+    this.isTold = stands && (this.isTold || !s.busy && s.yours);
   }
 
   // What the large button says, whether it is enabled, and what it does. What it opens isn't open yet.

@@ -1,5 +1,5 @@
 // The page: what the server says is shown, what people touch is asked. It decides nothing.
-import { Alarm } from './alarm.js';
+import { Alarm, isThere } from './alarm.js';
 import { $, el, grouped, lasting, micrometres, mm, point, text, zeroOf } from './dom.js';
 import { Job, TRAVERSE } from './job.js';
 import { connect, get, hold as asksHold, post } from './link.js';
@@ -140,21 +140,23 @@ function enableDo() {
 // What the large button does now.
 function running(s) {
   const isHalf = s.half !== 'none' && !s.busy && s.does === 'idle';
+  if (s.ended) return ['Run', false, null];
   if (s.question) return ['Answer first', false, null];
-  if (s.alarm) return alarm.button(s);
-  if (s.waits) return [s.waits_tool ? `Tool ${s.waits_tool} is in` : 'Tool is out', s.yours, () => asks('go')];
+  if (isThere(s)) return alarm.button(s);
+  if (s.waits && !s.player_gone) return [s.waits_tool ? `Tool ${s.waits_tool} is in` : 'Tool is out', s.yours, () => asks('go')];
   if (s.door_open && s.held_by && !isHalf) return ['Close the door', false, null];
   if (s.busy && s.held_by && s.held_by !== 'here') return ['Go on', s.yours, () => asks('release')];
   if (isHalf) return ['Recover', s.yours && !recovery.isOpen, () => recovery.begin()];
   if (s.player_gone) return ['Run', false, null];
-  if (s.recover?.left && !s.busy && s.half === 'none') return ['Recover', s.yours, takeUpLines];
+  const isFree = $('over').hidden; // on a sheet something is asked already, perhaps the same
+  if (s.recover?.left && !s.busy && s.half === 'none') return ['Recover', s.yours && isFree, takeUpLines];
   if (s.held_motors && s.behind && s.does !== 'held' && !s.busy) return ['Go on', s.yours, () => asks('release')];
   if (s.does === 'held') return ['Continue', s.yours && !s.busy, run];
-  if (s.apart.some(Boolean) || isNowhere(s)) return ['Where is it?', app.isRest, whereIsIt];
-  const isFree = app.isRest && $('over').hidden; // on a sheet something else is asked, as of another program
-  if (s.does === 'stopped') return ['Continue', isFree, () => (s.typed ? goOn(s, 'Continue') : run())];
-  if (s.place > 0 && !s.busy) return [`Run from ${s.line}`, isFree && s.known, () => goOn(s, `Run from ${s.line}`)];
-  return ['Run', isFree && s.known && s.program.lines > 0 && !app.job?.refused, run];
+  const canRun = app.isRest && isFree;
+  if (s.apart.some(Boolean) || isNowhere(s)) return ['Where is it?', canRun, whereIsIt];
+  if (s.does === 'stopped') return ['Continue', canRun, () => (s.typed ? goOn(s, 'Continue') : run())];
+  if (s.place > 0 && !s.busy) return [`Run from ${s.line}`, canRun && s.known, () => goOn(s, `Run from ${s.line}`)];
+  return ['Run', canRun && s.known && s.program.lines > 0 && !app.job?.refused, run];
 }
 
 // Nothing is half-done, and nobody told since where the machine is: as after a line was given up.

@@ -229,7 +229,7 @@ export class Recovery {
 
   confirm(i, changed) {
     const { state } = this.app, button = el('button');
-    const isRecord = () => state.past_mm && Number(this.at[i]) === Number(state.motors?.[i]);
+    const isRecord = () => state.past_mm && state.past_axes[i] && Number(this.at[i]) === Number(state.motors?.[i]);
     const off = () => (isRecord() ? `, \u00b1\u00a0${mm(state.past_mm)}\u00a0mm` : '');
     const input = el('input', { value: this.at[i], inputMode: 'decimal', 'aria-label': `Machine ${AXES[i]}` });
     const set = isSure => {
@@ -335,10 +335,15 @@ export class Recovery {
   }
 
   async resume() {
-    if (await this.asks('reference', { at: this.at })) await this.asks('resume');
+    const answer = await this.tells();
+    if (answer && !answer.refused) await this.asks('resume');
   }
 
+  // Where a place isn't taken, as outside of the travel, the line is given up all the same: then none is known.
   async abandon() {
-    if (await this.asks('reference', { at: this.at }) && await this.asks('abandon')) this.close();
+    if (await this.tells() && await this.asks('abandon')) this.close();
   }
+
+  // Tells where each axis was confirmed to stand, also where the record has it elsewhere.
+  tells() { return this.asks('reference', { at: this.at, anyway: true }); }
 }

@@ -4,8 +4,8 @@ import * as sheet from './sheet.js';
 
 const FREE = 'Z isn\u2019t lifted first: it goes through whatever stands between. Where the violet line isn\u2019t '
   + 'free, free the tool by hand, go back, and tell where it is then.';
-const LEFT = 'Lines stand in OUT that no motor carried out, and recover goes by the place of the record. Home the '
-  + 'machine, and start the player anew with --at and the coordinates of its home.';
+const LEFT = 'Lines stand in OUT that no motor carried out. Legs alone lead back to them from where you say that it '
+  + 'stands, not this straight line.';
 
 // What was handed out before the segment and never cut, and what earlier losses of power left: red in the picture, if
 // it is anything.
