@@ -307,7 +307,7 @@ class Shop:
     """A player and a console over the files of a folder, from their start to a loss of power."""
 
     def __init__(self, tools: Tools, folder: Path, deeds: str, at: Steps | None, job: Job, sink: Sink | None) -> None:
-        """Starts both. `deeds` are of power_disk.c, `at` is where the motors were measured."""
+        """Starts the player. `deeds` are of power_disk.c, `at` is where the motors were measured."""
         self.tools, self.folder, self.sink = tools, folder, sink
         self.log = folder / "log"
         with self.log.open("wb") as file:
@@ -327,13 +327,11 @@ class Shop:
         self.console = self.into = self.out_of = -1
 
     def _start_player(self, words: list[str]) -> subprocess.Popen[bytes]:
-        command = [self.tools.player, "-o", "1", "-s", "progress", *words, "out",
-                   "settings.toml", "position"]
+        command = [self.tools.player, "-o", "1", "-s", "progress", *words, "out", "settings.toml", "position"]
         env = {**os.environ, **self.env, "LD_PRELOAD": self.tools.preload, "NGC_POWER_ROLE": "player"}
         with (self.folder / "said").open("ab") as said:
-            child = subprocess.Popen(command, cwd=self.folder, env=env, stdin=subprocess.DEVNULL,
-                                     stdout=subprocess.DEVNULL, stderr=said)
-        return child
+            return subprocess.Popen(command, cwd=self.folder, env=env, stdin=subprocess.DEVNULL,
+                                    stdout=subprocess.DEVNULL, stderr=said)
 
     def start_console(self) -> None:
         """Starts the console, once the player listens."""
