@@ -44,6 +44,7 @@ QUESTIONS = (
     (r"yes goes on with the cut", "cuts"),
     (r"Does the spindle turn, and is the right tool in\?", "cuts"),
     (r"go on all the same\? yes goes on", "asks"),
+    (r"put it in, and type go; anything else leaves it", "go"),
     (r"yes gives it up, anything else keeps|yes drops them, anything else keeps", "keep"),
     (r"half-done.*ends the session|yes ends|yes alone ends", "yes"),
 )
@@ -125,7 +126,7 @@ class Person:
                 self.shown.append(f"shown is {shown[-1]}, and the motors stand at {self.ledger.steps}")
         if deed == "feed":
             return "600" if "No feed is known" in text else ""
-        return "no" if deed == "keep" else "yes"
+        return {"keep": "no", "go": "go"}.get(deed, "yes")
 
     def left_at(self) -> int:
         """The move behind which the record has the motors; over a pipe, where lines are lost, that which comes next."""
@@ -578,7 +579,7 @@ def try_chain(tools: Tools, seed: int, options: Options, found: Found) -> list[s
     chance = random.Random(seed)
     text, typed = program(chance, chance.randint(3, 14))
     has_ramps = options.over == "sink" or chance.random() < 0.3
-    job = Job(text, run_uncut(tools.ngc, FIRST, text, typed), typed, options.over, has_ramps)
+    job = Job(text, run_uncut(tools.ngc, FIRST, text, typed), typed, options.over, has_ramps, chance.random() < 0.5)
     plans = [plan(chance, len(job.uncut.moves), options) for _ in range(chance.randint(1, options.losses))]
     with tempfile.TemporaryDirectory(prefix="ngc-power-", dir=memory()) as name:
         chain = Chain(tools, Path(name).resolve(), job, chance, plans, each=options.states)

@@ -207,11 +207,13 @@ class Job:
     typed: list[bytes] = field(default_factory=list)
     over: str = "file"
     has_ramps: bool = False
+    asks_tool: bool = False  # the player, before it goes on with another one
 
     @property
     def words(self) -> list[str]:
         """The player's."""
-        return [*(["-b", "4096"] if self.over == "pipe" else ["-f"]), *([] if self.over == "sink" else ["-p", "pins"]),
+        return [*([] if self.asks_tool else ["-t"]), *(["-b", "4096"] if self.over == "pipe" else ["-f"]),
+                *([] if self.over == "sink" else ["-p", "pins"]),
                 *(["-m", "machine.toml"] if self.has_ramps else [])]
 
     @property
@@ -305,7 +307,7 @@ class Shop:
     """A player and a console over the files of a folder, from their start to a loss of power."""
 
     def __init__(self, tools: Tools, folder: Path, deeds: str, at: Steps | None, job: Job, sink: Sink | None) -> None:
-        """Starts both. `deeds` are of power_disk.c, `at` is where the motors were measured."""
+        """Starts the player. `deeds` are of power_disk.c, `at` is where the motors were measured."""
         self.tools, self.folder, self.sink = tools, folder, sink
         self.log = folder / "log"
         with self.log.open("wb") as file:
@@ -325,13 +327,11 @@ class Shop:
         self.console = self.into = self.out_of = -1
 
     def _start_player(self, words: list[str]) -> subprocess.Popen[bytes]:
-        command = [self.tools.player, "-t", "-o", "1", "-s", "progress", *words, "out",
-                   "settings.toml", "position"]
+        command = [self.tools.player, "-o", "1", "-s", "progress", *words, "out", "settings.toml", "position"]
         env = {**os.environ, **self.env, "LD_PRELOAD": self.tools.preload, "NGC_POWER_ROLE": "player"}
         with (self.folder / "said").open("ab") as said:
-            child = subprocess.Popen(command, cwd=self.folder, env=env, stdin=subprocess.DEVNULL,
-                                     stdout=subprocess.DEVNULL, stderr=said)
-        return child
+            return subprocess.Popen(command, cwd=self.folder, env=env, stdin=subprocess.DEVNULL,
+                                    stdout=subprocess.DEVNULL, stderr=said)
 
     def start_console(self) -> None:
         """Starts the console, once the player listens."""
@@ -402,6 +402,8 @@ class Shop:
             if 0 < self.hold_at < time.monotonic():
                 os.kill(self.console, signal.SIGINT)
                 self.hold_at = 0.0
+            if "waits for tool" in said:
+                self._says_go()
             if "Ctrl-C three times ends ngc" in said and self.player.poll() is not None:
                 self.hold_at = time.monotonic()  # again and again, since nobody reads OUT any more
             if time.monotonic() > until:
@@ -414,6 +416,11 @@ class Shop:
                     raise Lost
         self.hold_at = 0.0
         return said
+
+    def _says_go(self) -> None:
+        """The tool is in: somebody tells the player, as Enter does there."""
+        with suppress(OSError), socket.socket(socket.AF_UNIX, socket.SOCK_DGRAM) as link:
+            link.sendto(b"go", str(self.folder / "progress"))
 
     def _settles(self) -> bool:
         """Lets the record come to where the motors stand without power."""
