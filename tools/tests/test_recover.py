@@ -1290,6 +1290,8 @@ class EndsWhereItBegan(WithOperator):
         for typed, questions in (("", []), ("G0 Y0.002", ["go on all the same"])):
             operator.do(typed)
             for _ in range(3):
+                link = operator.session.meter.link
+                self.wait_for("the record has all", lambda: link.kept()[0] == len(self.lines()))
                 operator.console.kill()
                 self.player.kill()
                 self.player.communicate()
