@@ -42,7 +42,7 @@ where
     R::File: Hold,
     ensures status { result ≤ 2 }
     ensures run { (result ≡ 2) ⊎ ((texts : List (List ℕ)) × ((job : Job) × RequestsJob texts job
-        × JobSpec R.File.remaining job (I.remaining reader.old) (W.contents writer.old)
+        × JobSpec R.File.remaining R.File.contents job (I.remaining reader.old) (W.contents writer.old)
         (W.contents writer.new) result)) }
 {
     let Ok(_streams) = open_streams(rt) else {
@@ -106,7 +106,7 @@ where
     ensures status { result ≤ 2 }
     ensures refused { ((job : Job) → RequestsJob (map (λ s. s.now) given.now) job → ⊥) → result ≡ 2 }
     ensures run { (result ≡ 2) ⊎ ((job : Job) × RequestsJob (map (λ s. s.now) given.now) job
-        × JobSpec R.File.remaining job (I.remaining reader.old) (W.contents writer.old)
+        × JobSpec R.File.remaining R.File.contents job (I.remaining reader.old) (W.contents writer.old)
         (W.contents writer.new) result) }
 {
     match words(rt.alloc(), given) {
@@ -129,7 +129,7 @@ fn carry_out<R: Files + AllocGlobal, I: Read, W: Write>(
 where
     R::File: Hold,
     ensures status { result ≤ 2 }
-    ensures run { (result ≡ 2) ⊎ JobSpec R.File.remaining job.entry (I.remaining reader.old) (W.contents writer.old)
+    ensures run { (result ≡ 2) ⊎ JobSpec R.File.remaining R.File.contents job.entry (I.remaining reader.old) (W.contents writer.old)
         (W.contents writer.new) result }
 {
     match job {
