@@ -80,6 +80,14 @@ class OfStreams(unittest.TestCase):
             with self.subTest(seed=seed, limits=limits):
                 self.assertEqual(paced_in_c(limits, events), paced(limits, events))
 
+    def test_refused(self) -> None:
+        """Limits that the proved pacer refuses, which no machine's file gives, end the program, and it says so."""
+        for why, limits in enumerate((Limits((2,) * 3), Limits((10**9 + 1,) * 3), Limits((3,) * 3, (10**9 + 1, 0, 0)),
+                                      replace(FINE_LIMITS, half=0), replace(FINE_LIMITS, slack=0),
+                                      replace(FINE_LIMITS, slack=1001), replace(FINE_LIMITS, most_percent=99)), 1):
+            with self.assertRaisesRegex(AssertionError, f"^player: no ramps: ng_pace says {why}\n$"):
+                paced_in_c(limits, ["D 0"])
+
     def test_trapezoid(self) -> None:
         """100 mm at 3,000 mm a minute, 400 steps a mm, 500 mm/s2: 100 / 50 s at full rate, and 50 / 500 s in ramps."""
         lines = ["P 1 0 0 50"] * 40_000
