@@ -62,8 +62,9 @@ TOML
 printf '[motion]\naccel_mm_s2 = [500, 500, 500]\n' > "$work/player.toml"
 player=$here/../tools/player
 cc=$(command -v clang || command -v gcc || command -v cc)
-"$cc" -O2 -I "$player" -o "$work/times" "$here/pace/times.c" "$player/pace.c" "$player"/pace_*.c "$player/line.c" "$player/scan.c" \
-    "$player/cause.c" "$player/utf8.c" 2> "$work/log" || { cat "$work/log"; exit 1; }
+make -s -C "$player" archives
+"$cc" -O2 -I "$player" -o "$work/times" "$here/pace/times.c" "$player/pace.c" "$player/pace_memory.c" "$player/line.c" \
+    "$player/cause.c" "$player/utf8.c" "$player"/out/lib*.a 2> "$work/log" || { cat "$work/log"; exit 1; }
 
 # The processor seconds of a command, the best of the rounds.
 seconds() {

@@ -112,8 +112,9 @@ class Bench:
         (self.folder / "mill.toml").write_text(SETTINGS)
         (self.folder / "machine.toml").write_text(MACHINE)
         player = HERE / "tools" / "player"
-        sources = [*player.glob("pace_*.c"), *(player / f"{name}.c" for name in
-                   ("pace", "window", "line", "scan", "cause", "utf8"))]
+        subprocess.run(["make", "-s", "-C", player, "archives"], check=True, stdout=sys.stderr)
+        sources = [*(player / f"{name}.c" for name in ("pace", "pace_memory", "window", "line", "cause", "utf8")),
+                   *player.glob("out/lib*.a")]
         subprocess.run(["cc", "-std=c11", "-O2", HERE / "bench" / "ramps.c", *sources, "-I", player, "-o",
                         self.folder / "ramps"], check=True)
 

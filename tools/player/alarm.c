@@ -112,6 +112,7 @@ static void begin_alarm(struct play *play, uint32_t hits) {
     player->alarm = is_stop ? EMERGENCY_STOP : LIMITS;
     player->stopped = alarm_word(player->alarm);
     player->homed = 0;
+    player->is_sure = false;
     player_unlock(player);
     because(&play->why, "%s is on, after line %" PRIu64 ": the motors stopped at once;", what, player->lines);
 }
@@ -148,8 +149,7 @@ bool alarm_look(struct play *play) {
     return false;
 }
 
-/* Lets go of all lines in hand: they would be carried out from another place. */
-static void drop_lines(struct player *player) {
+void alarm_drop_lines(struct player *player) {
     size_t part = 0;
     player_lock(player);
     source_take_all(&player->source);
@@ -217,7 +217,7 @@ bool alarm_wait(struct play *play) {
     bool goes_on = false;
     begin_rest(play);
     while (!goes_on && !is_over(play)) {
-        drop_lines(player);
+        alarm_drop_lines(player);
         look_at_rest(play);
         enum end end = manual_is_there(player) ? do_manual(play) : AT_OUTS_END;
         if (end == FAILED) {

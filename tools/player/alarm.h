@@ -41,6 +41,10 @@ const char *alarm_word(enum alarm alarm);
  * go on then: not where some were dropped, or it has to stop before. */
 bool alarm_wait(struct play *play);
 
+/* Lets go of all lines in hand: they would be carried out from another place. Where there are any, no more of the
+ * session are carried out. */
+void alarm_drop_lines(struct player *player);
+
 /* Whether it is over once a person tells that the machine stands at these steps: all axes are homed that the machine's
  * file names, and these are where they are by the player; of the others nothing else tells. The lock is held. */
 bool alarm_takes_place(const struct player *player, const int64_t steps[3]);

@@ -13,6 +13,7 @@
 #include <unistd.h>
 
 #include "askers.h"
+#include "home.h"
 #include "off.h"
 #include "orders.h"
 #include "player.h"
@@ -137,6 +138,9 @@ static int kept(struct player *player, char *text, size_t room, const char *ques
     if (record_leads_elsewhere(kept)) {
         place_print(place, sizeof place, kept->path);
         size += snprintf(text + size, room - (size_t)size, " path %s", place);
+    }
+    if (player->alarm == NO_ALARM && (player->is_sure || player->homed == ALL_AXES)) {
+        size += snprintf(text + size, room - (size_t)size, " sure");
     }
     player_unlock(player);
     return size;

@@ -90,7 +90,7 @@ static bool read_screw(struct scan *line, int *screw) {
     } else if (scan_word(line, "-")) {
         *screw = SCREW_DOWN;
     } else {
-        *screw = scan_whole(line, 3, &left, NULL) ? (int)left : 0;
+        *screw = scan_whole(line, 3, &left) ? (int)left : 0;
         return left > 0 && left < SCREW_DOWN;
     }
     return true;

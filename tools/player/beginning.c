@@ -34,8 +34,8 @@ static bool where_to_begin(const struct player *player, const struct options *op
         return true;
     }
     if (found->bytes > source_size(&player->source)) {
-        return because(why, "%s: it has %" PRIu64 " bytes, and by the record %" PRIu64 " are carried out: its end is lost,"
-                       " or it is another file. Emptied (: > OUT) it begins anew with --anew, and recover leads back by"
+        return because(why, "%s: it has %" PRIu64 " bytes, and by the record %" PRIu64 " are carried out: its end is"
+                       " lost, or it is another file. Emptied (: > OUT) it begins anew with --anew, and recover leads back by"
                        " legs", out, source_size(&player->source), found->bytes);
     }
     if (!holds || (found->mark.is_known && there.digest != found->mark.digest)) {
@@ -85,6 +85,7 @@ static bool begin_record(struct player *player, const struct options *options, s
     player->lines = record.lines;
     player->bytes = record.bytes;
     player->is_off = goes_on && record.is_off;
+    player->is_sure = options->has_place;
     atomic_store(&player->is_untold, record.is_off && !options->has_place);
     player->told_at[0] = INT64_MIN; /* which is no place */
     player->outputs = record.outputs;

@@ -58,7 +58,7 @@ bool wish_read(const char *text, size_t size, struct wish *wish) {
     if (wish->is_by_legs ? !read_legs(&scan, wish) : !scan_word(&scan, "along ")) {
         return false;
     }
-    if (!scan_whole(&scan, 18, &wish->bytes, NULL) || !read_feed(&scan, wish)) {
+    if (!scan_whole(&scan, 18, &wish->bytes) || !read_feed(&scan, wish)) {
         return false;
     }
     return scan_word(&scan, " ") ? read_on(&scan, wish) : scan_is_over(&scan);

@@ -4,107 +4,81 @@
 #include <stdio.h>
 #include <string.h>
 
-#include "scan.h"
+#include "ng_lines.h"
 #include "schedule.h"
 
-static bool scan_step(struct scan *scan, int *step) {
-    if (scan_word(scan, " -1")) {
-        *step = -1;
-        return true;
-    }
-    if (scan_word(scan, " 0")) {
-        *step = 0;
-        return true;
-    }
-    *step = 1;
-    return scan_word(scan, " 1");
+enum { TIME_DIGITS = 20, SLOT_DIGITS = 3 };
+
+#define ZEROS "; zeros stand where the disk lost what was written, or its room was given back: recover in ngc-operate" \
+              " says what it was"
+
+/* The proved reader takes a speed below 0 too, which no spindle has. */
+static bool is_line(const char *text, size_t size, struct ng_line *read) {
+    return ng_line_read((const uint8_t *)text, size, read) && read->speed >= 0;
 }
 
-static bool scan_field(struct scan *scan, size_t most_digits, uint64_t most, unsigned *value) {
-    uint64_t found = 0;
-    if (!scan_word(scan, " ") || !scan_whole(scan, most_digits, &found, NULL) || found > most) {
+static struct outputs outputs_of(const struct ng_line *read) {
+    return (struct outputs){read->spindle, (uint64_t)read->speed, read->mist, read->flood, read->selected, read->slot};
+}
+
+/* Where the whole number of at most so many digits begins that stands behind a blank at the end of a text; 0 if none
+ * does. */
+static size_t last_number(const char *text, size_t end, size_t most_digits) {
+    size_t at = end;
+    while (at > 0 && text[at - 1] >= '0' && text[at - 1] <= '9') {
+        at--;
+    }
+    bool has_digits = at < end && end - at <= most_digits && (end - at == 1 || text[at] != '0');
+    return has_digits && at > 0 && text[at - 1] == ' ' ? at : 0;
+}
+
+/* Whether a text would be a line with this in the place of what stands from `at` on. */
+static bool is_line_with(const char *text, size_t at, const char *end) {
+    char tried[LONGEST_LINE];
+    struct ng_line read;
+    if (at == 0 || at + strlen(end) > sizeof tried) {
         return false;
     }
-    *value = (unsigned)found;
-    return true;
+    memcpy(tried, text, at);
+    memcpy(tried + at, end, strlen(end));
+    return is_line(tried, at + strlen(end), &read);
 }
 
-/* A speed: up to seven digits, a point, exactly six decimals. */
-static bool scan_speed(struct scan *scan, uint64_t *millionths) {
-    uint64_t whole = 0;
-    if (!scan_word(scan, " ") || !scan_whole(scan, 7, &whole, NULL) || !scan_word(scan, ".")) {
-        return false;
+/* Says why a text is no line: by its last numbers, where only these are beyond their ranges. */
+static bool refuse(const char *text, size_t size, struct cause *why) {
+    char quoted[QUOTED];
+    size_t time = last_number(text, size, TIME_DIGITS);
+    size_t slot = last_number(text, size, SLOT_DIGITS);
+    size_t selected = slot > 0 ? last_number(text, slot - 1, SLOT_DIGITS) : 0;
+    if (size > 0 && text[0] != 'S' && is_line_with(text, time, "0")) {
+        return because(why, "a time of %.*s microseconds", (int)(size - time), text + time);
     }
-    uint64_t rest = 0;
-    for (int digit = 0; digit < 6; digit++) {
-        if (scan_is_over(scan) || *scan->at < '0' || *scan->at > '9') {
-            return false;
-        }
-        rest = rest * 10 + (uint64_t)(*scan->at - '0');
-        scan->at++;
+    if (size > 0 && text[0] == 'S' && is_line_with(text, selected, "0 0")) {
+        return because(why, "a slot above %d: %.*s", SLOTS, (int)size, text);
     }
-    *millionths = whole * 1000000 + rest;
-    return true;
-}
-
-/* A switch, whose slots may be as large as three digits make them. */
-static bool scan_switch(struct scan *scan, struct outputs *outputs) {
-    return scan_word(scan, "S") && scan_field(scan, 1, 2, &outputs->spindle) && scan_speed(scan, &outputs->speed)
-        && scan_field(scan, 1, 1, &outputs->mist) && scan_field(scan, 1, 1, &outputs->flood)
-        && scan_field(scan, 3, 999, &outputs->selected) && scan_field(scan, 3, 999, &outputs->slot)
-        && scan_is_over(scan);
+    quote(quoted, sizeof quoted, text, size);
+    return because(why, "not a line of OUT: %s%s", quoted, memchr(text, '\0', size) != NULL ? ZEROS : "");
 }
 
 static bool are_slots(const struct outputs *outputs) {
     return outputs->selected <= SLOTS && outputs->slot <= SLOTS;
 }
 
-#define ZEROS "; zeros stand where the disk lost what was written, or its room was given back: recover in ngc-operate" \
-              " says what it was"
-
-static bool refuse(const char *text, size_t size, struct cause *why) {
-    char quoted[QUOTED];
-    quote(quoted, sizeof quoted, text, size);
-    const char *lost = memchr(text, '\0', size) != NULL ? ZEROS : "";
-    return because(why, "not a line of OUT: %s%s", quoted, lost);
-}
-
-static bool read_timed(const char *text, size_t size, uint64_t least_us, struct line *line, struct cause *why) {
-    struct scan scan = {text + 1, text + size};
-    for (int axis = 0; axis < 3 && line->kind == 'P'; axis++) {
-        if (!scan_step(&scan, &line->step[axis])) {
-            return refuse(text, size, why);
-        }
-    }
-    bool is_too_large = false;
-    const char *time = scan.at + 1;
-    if (!scan_word(&scan, " ") || !scan_whole(&scan, 20, &line->us, &is_too_large) || !scan_is_over(&scan)) {
+bool line_read(const char *text, size_t size, uint64_t least_us, struct line *line, struct cause *why) {
+    struct ng_line read;
+    memset(line, 0, sizeof *line);
+    if (!is_line(text, size, &read)) {
         return refuse(text, size, why);
     }
-    if (is_too_large) {
-        return because(why, "a time of %.*s microseconds", (int)(scan.end - time), time);
-    }
+    line->kind = (char)read.letter;
+    line->us = read.us;
+    memcpy(line->step, read.step, sizeof line->step);
+    line->outputs = outputs_of(&read);
     if (line->kind == 'P' && line->us < least_us) {
         return because(why, "a period of %" PRIu64 " us, and period_us of the settings is %" PRIu64, line->us,
                        least_us);
     }
-    return true;
-}
-
-bool line_read(const char *text, size_t size, uint64_t least_us, struct line *line, struct cause *why) {
-    memset(line, 0, sizeof *line);
-    line->kind = size > 0 ? text[0] : '\0';
-    if (line->kind == 'P' || line->kind == 'D') {
-        return read_timed(text, size, least_us, line, why);
-    }
-    struct scan scan = {text, text + size};
-    if (!scan_switch(&scan, &line->outputs)) {
-        return refuse(text, size, why);
-    }
-    if (!are_slots(&line->outputs)) {
-        return because(why, "a slot above %d: %.*s", SLOTS, (int)size, text);
-    }
-    return true;
+    return are_slots(&line->outputs) || because(why, "a slot above %d: %.*s", SLOTS, (int)size, text);
 }
 
 bool line_fits_clock(const struct line *line, struct cause *why) {
@@ -115,8 +89,12 @@ bool line_fits_clock(const struct line *line, struct cause *why) {
 }
 
 bool outputs_read(const char *text, size_t size, struct outputs *outputs) {
-    struct scan scan = {text, text + size};
-    return scan_switch(&scan, outputs) && are_slots(outputs);
+    struct ng_line read;
+    if (!is_line(text, size, &read) || read.letter != 'S') {
+        return false;
+    }
+    *outputs = outputs_of(&read);
+    return are_slots(outputs);
 }
 
 size_t outputs_print(char *text, size_t room, const struct outputs *outputs) {

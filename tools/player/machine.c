@@ -54,6 +54,7 @@ static void read_sink(const struct content *content, struct sink_settings *sink)
         memcpy(sink->line, line->at, (size_t)(line->end - line->at));
     }
     sink->baud = (int)number_of(content, BAUD, DEFAULT_BAUD);
+    sink->debounce_us = (int)number_of(content, DEBOUNCE, 0);
 }
 
 /* What the motors allow, in steps. */

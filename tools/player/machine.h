@@ -17,6 +17,7 @@ enum { SINK_LINE_ROOM = 256 };
 struct sink_settings {
     char line[SINK_LINE_ROOM]; /* the path of its serial line; "" where there is no sink */
     int baud;
+    int debounce_us; /* how long an input has to be on that stops the motors dead */
 };
 
 struct machine {

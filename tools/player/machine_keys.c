@@ -17,7 +17,8 @@ struct table {
 
 static const struct table tables[TABLES] = {
     [MOTION] = {"motion", "one of its five"}, [WINDOW] = {"window", "lines"}, [WAIT] = {"wait", "spindle_s"},
-    [TURNS] = {"spindle", "max_rpm"}, [BACKLASH] = {"backlash", "steps"}, [SINK] = {"sink", "line or baud"},
+    [TURNS] = {"spindle", "max_rpm"}, [BACKLASH] = {"backlash", "steps"},
+    [SINK] = {"sink", "line, baud or debounce_us"},
     [INPUTS] = {"inputs", "one of its eight"}, [HOME] = {"home", "one of its nine"},
     [SETTER] = {"setter", "height_um"}};
 
@@ -43,6 +44,7 @@ static const struct key keys[KEYS] = {
     [LINE] = {SINK, "line", 0, 1, SINK_LINE_ROOM - 1,
               "the path of the sink's serial line in \"quotes\", of at most 255 bytes"},
     [BAUD] = {SINK, "baud", 1, 115200, 4000000, "one of the rates of a serial line, 115200 to 4000000"},
+    [DEBOUNCE] = {SINK, "debounce_us", 1, 0, 10000, "a whole number from 0 to 10000"},
     [STOP] = {INPUTS, "emergency_stop", 1, -1, 15, "a whole number from -1 to 15"},
     [LIMITS_LOW] = {INPUTS, "limits_low", 3, -1, 15, "three whole numbers from -1 to 15"},
     [LIMITS_HIGH] = {INPUTS, "limits_high", 3, -1, 15, "three whole numbers from -1 to 15"},

@@ -1,6 +1,6 @@
 /* The player for motors: carries out the lines of OUT, each in its time, and keeps what was carried out.
  *
- *     cc -std=c11 -O2 -pthread *.c ../sink/sender.c ../sink/wire.c -o player
+ *     make
  *
  * docs/TOOLS.md says what it does: it is ngc-player, but for --spindle and --live. What drives the motors is
  * pins.c, which a builder replaces. Nothing is allocated once it plays. */
@@ -81,12 +81,9 @@ static bool begin_threads(pthread_t *keeper, pthread_t *answers, struct cause *w
 /* The last record. */
 static bool keep_last(const char *position) {
     static struct record last;
-    int error = atomic_load(&player.record_error);
     player.is_over_sink = false;
-    if (error == 0) {
-        player_record(&player, &last);
-        error = keeper_write(&player.keeper, &last);
-    }
+    player_record(&player, &last);
+    int error = keeper_write(&player.keeper, &last);
     if (error != 0) {
         say("player: %s: %s", position, strerror(error));
     }

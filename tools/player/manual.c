@@ -208,7 +208,7 @@ static void report(struct player *player, const char *question, char *text, size
 static bool is_machine_question(const char *text, size_t size) {
     struct scan scan = {text, text + size};
     uint64_t number = 0;
-    return scan_word(&scan, "machine ") && scan_whole(&scan, 20, &number, NULL) && scan_is_over(&scan);
+    return scan_word(&scan, "machine ") && scan_whole(&scan, 20, &number) && scan_is_over(&scan);
 }
 
 bool manual_heed(struct player *player, const char *text, size_t size, char *answer, size_t room) {

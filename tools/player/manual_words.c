@@ -79,7 +79,7 @@ enum reading manual_read(const char *text, size_t size, struct manual_wish *wish
     while (kind >= HOMES && !scan_word(&scan, manual_verbs[kind])) {
         kind--;
     }
-    if (kind < HOMES || !scan_word(&scan, " ") || !scan_whole(&scan, LONGEST_NUMBER, &wish->number, NULL)
+    if (kind < HOMES || !scan_word(&scan, " ") || !scan_whole(&scan, LONGEST_NUMBER, &wish->number)
         || wish->number == 0) {
         return OTHER_WORDS;
     }

@@ -43,7 +43,7 @@ static bool is_word(const char *text, size_t size, const char *word) {
 static bool read_percent(const char *text, size_t size, const char *words, int *percent) {
     struct scan scan = {text, text + size};
     uint64_t number = 0;
-    if (!scan_word(&scan, words) || !scan_whole(&scan, 3, &number, NULL) || !scan_is_over(&scan)) {
+    if (!scan_word(&scan, words) || !scan_whole(&scan, 3, &number) || !scan_is_over(&scan)) {
         return false;
     }
     *percent = (int)number;
@@ -58,7 +58,7 @@ static int most_percent(const struct player *player) {
 /* Reads "synced BYTES". */
 static bool read_synced(const char *text, size_t size, uint64_t *bytes) {
     struct scan scan = {text, text + size};
-    return scan_word(&scan, "synced ") && scan_whole(&scan, 18, bytes, NULL) && scan_is_over(&scan);
+    return scan_word(&scan, "synced ") && scan_whole(&scan, 18, bytes) && scan_is_over(&scan);
 }
 
 /* Goes on after a hold, unless the door is open. */

@@ -191,8 +191,7 @@ static enum end carry_out_next(struct play *play, bool *is_given) {
     uint64_t square = wanted(play);
     uint64_t ns = 0;
     *is_given = false;
-    uint64_t ramp = pace.lines[pace.first % PACE_ROOM].ramp;
-    if (pace.first < pace.final && square != 0) {
+    if (pace_is_ready(&pace) && square != 0) {
         enum end end = prepare(play, &ahead->line, &square);
         if (end != AT_OUTS_END) {
             return end;
@@ -203,12 +202,12 @@ static enum end carry_out_next(struct play *play, bool *is_given) {
     }
     *is_given = true;
     is_on_path = ahead->line.kind == 'P' && pace.first != ended;
-    play->is_moving = pace.square != 0;
+    play->is_moving = !pace.is_at_rest;
     window_leave(&window, pace.first);
     if (ahead->size == 0) {
-        return make_extra(play, &ahead->line, ns, ramp);
+        return make_extra(play, &ahead->line, ns, pace.ramp);
     }
-    return link_is_there() ? sink_carry_out(play, &ahead->line, ahead->text, ahead->size, ns, ramp)
+    return link_is_there() ? sink_carry_out(play, &ahead->line, ahead->text, ahead->size, ns, pace.ramp)
                            : carry_out(play, &ahead->line, ahead->text, ahead->size, ns);
 }
 

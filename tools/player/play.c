@@ -263,7 +263,7 @@ static bool goes_on_after(struct play *play) {
     if (alarm_stands(play->player)) {
         return alarm_wait(play);
     }
-    return anew_is_wanted(play->player) && anew_begin(play);
+    return anew_is_wanted(play->player) ? anew_begin(play) : await_record(play);
 }
 
 /* Carries out lines, and goes on once an alarm is over, and where another session follows. */

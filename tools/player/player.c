@@ -131,6 +131,9 @@ static void keep(struct player *player) {
     bool was_older = is_newer(&record, &player->kept);
     int error = keeper_write(&player->keeper, &record);
     player_kept(player, &record, error);
+    if (error != 0) {
+        atomic_store(&player->record_why, error);
+    }
     atomic_store(&player->record_error, error);
     int64_t age_ms = (schedule_now() - player->kept_at + NS_PER_MS - 1) / NS_PER_MS;
     player->kept_at = now;
@@ -142,7 +145,7 @@ static void keep(struct player *player) {
 void *record_keep(void *shared) {
     struct player *player = shared;
     const struct timespec pause = {0, KEEPS_NS};
-    while (!atomic_load(&player->over) && atomic_load(&player->record_error) == 0) {
+    while (!atomic_load(&player->over)) {
         keep(player);
         nanosleep(&pause, NULL);
     }

@@ -49,6 +49,7 @@ struct player {
     bool has_again;       /* .. doesn't say itself what is on */
     unsigned homed;      /* the axes that were homed since it began and no alarm came; bit 0 is X */
     bool is_off;         /* the motors left the path of OUT by a move without lines, and no line came since */
+    bool is_sure;        /* where they are was told by a person, or by the sink, since it began */
     bool has_path;       /* the motors left the path of OUT, and it is known where .. */
     int64_t path[3];     /* .. in steps: there the lines lead that are carried out */
     int64_t told_at[3];  /* where `ngc` took the motors to be as they moved without lines, in steps */
@@ -62,7 +63,8 @@ struct player {
 
     atomic_uint worst_ms;     /* how old the record on the disk was at most while something newer was there */
     atomic_int tool;          /* the slot that a person is asked for, or NO_TOOL */
-    atomic_int record_error;  /* why the record can't be kept any more; 0 */
+    atomic_int record_error;  /* why the record can't be kept now; 0 .. */
+    atomic_int record_why;    /* .. and why it couldn't be last */
     atomic_bool is_held;      /* somebody asks for a rest */
     atomic_bool is_untold;    /* they moved without lines, and nobody said since that `ngc` knows where they are */
     atomic_bool stands_held;  /* it has come to rest for that */

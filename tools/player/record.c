@@ -44,8 +44,8 @@ static int print_lines(const struct record *record, const char *path, char whole
         snprintf(stopped, sizeof stopped, "stopped %s\n", record->stopped);
     }
     return snprintf(whole, RECORD_SIZE, "out %s\nlines %" PRIu64 "\nbytes %" PRIu64 "\noutputs %s\nreference %s\n"
-                    "%s%s%s%s%s%s%s", record->out, record->lines, record->bytes, outputs, place, mark, path, screws, age,
-                    homed, record->is_off ? "off\n" : "", stopped);
+                    "%s%s%s%s%s%s%s", record->out, record->lines, record->bytes, outputs, place, mark, path, screws,
+                    age, homed, record->is_off ? "off\n" : "", stopped);
 }
 
 void record_print(const struct record *record, char text[RECORD_SIZE]) {
@@ -93,7 +93,7 @@ static bool read_out(struct scan line, struct record *record) {
 }
 
 static bool read_count(struct scan line, const char *word, uint64_t *count) {
-    return scan_word(&line, word) && scan_whole(&line, 18, count, NULL) && scan_is_over(&line);
+    return scan_word(&line, word) && scan_whole(&line, 18, count) && scan_is_over(&line);
 }
 
 static bool read_outputs(struct scan line, struct record *record) {
@@ -132,8 +132,8 @@ static bool read_reference(struct scan line, struct record *record, struct cause
 
 static bool read_mark(struct scan line, struct file_mark *mark) {
     static const char hex[] = "0123456789abcdef";
-    if (!scan_word(&line, "file ") || !scan_whole(&line, 19, &mark->inode, NULL) || !scan_word(&line, " ")
-        || !scan_whole(&line, 19, &mark->born_ns, NULL) || !scan_word(&line, " ") || line.end - line.at != 8) {
+    if (!scan_word(&line, "file ") || !scan_whole(&line, 19, &mark->inode) || !scan_word(&line, " ")
+        || !scan_whole(&line, 19, &mark->born_ns) || !scan_word(&line, " ") || line.end - line.at != 8) {
         return false;
     }
     mark->digest = 0;
@@ -155,7 +155,7 @@ static bool read_path(struct scan line, struct record *record) {
 
 static bool read_age(struct scan line, unsigned *age_ms) {
     uint64_t found = 0;
-    if (!scan_word(&line, "age ") || !scan_whole(&line, 4, &found, NULL) || !scan_is_over(&line) || found == 0) {
+    if (!scan_word(&line, "age ") || !scan_whole(&line, 4, &found) || !scan_is_over(&line) || found == 0) {
         return false;
     }
     *age_ms = (unsigned)found;

@@ -152,13 +152,13 @@ static void begin_screws(struct player *player) {
 }
 
 /* Makes the next move that is known, which lasts so long; one that isn't to be done is counted. */
-static enum end make_next(struct play *play, uint64_t ns, uint64_t ramp) {
+static enum end make_next(struct play *play, uint64_t ns) {
     const struct move *move = &ahead[first_ahead % PACE_ROOM];
-    play->is_moving = pace.square != 0;
+    play->is_moving = !pace.is_at_rest;
     atomic_store(&play->player->stands_held, false);
     first_ahead++;
     if (link_is_there()) {
-        link_give(move, ns, ramp, !play->is_moving);
+        link_give(move, ns, pace.ramp, !play->is_moving);
         return AT_OUTS_END;
     }
     return make_move(play, move, ns);
@@ -169,7 +169,6 @@ static enum end go_on(struct play *play) {
     const struct move *move = &ahead[first_ahead % PACE_ROOM];
     bool is_held = is_rest_asked(play) || anew_is_wanted(play->player) || atomic_load(&play->player->is_held);
     uint64_t wanted = is_held ? 0 : pace_wanted(&pace, (unsigned)atomic_load(&play->player->percent));
-    uint64_t ramp = pace.lines[pace.first % PACE_ROOM].ramp;
     uint64_t ns = 0;
     bool is_back = false;
     enum end end = move->is_done && wanted != 0 ? off_is_over(play, &move->line, &is_back) : AT_OUTS_END;
@@ -180,7 +179,7 @@ static enum end go_on(struct play *play) {
         play->is_moving = false;
         return rest(play) ? AT_OUTS_END : STOPPED;
     }
-    return make_next(play, ns, ramp);
+    return make_next(play, ns);
 }
 
 static enum end go_paced(struct play *play) {

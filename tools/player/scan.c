@@ -11,27 +11,19 @@ bool scan_word(struct scan *scan, const char *word) {
     return true;
 }
 
-bool scan_whole(struct scan *scan, size_t most_digits, uint64_t *value, bool *is_too_large) {
+bool scan_whole(struct scan *scan, size_t most_digits, uint64_t *value) {
     const char *at = scan->at;
     uint64_t sum = 0;
-    bool is_large = false;
+    bool is_too_large = false;
     while (at < scan->end && *at >= '0' && *at <= '9') {
         uint64_t digit = (uint64_t)(*at - '0');
-        if (sum > (UINT64_MAX - digit) / 10) {
-            is_large = true;
-        }
-        sum = is_large ? UINT64_MAX : sum * 10 + digit;
+        is_too_large = is_too_large || sum > (UINT64_MAX - digit) / 10;
+        sum = is_too_large ? 0 : sum * 10 + digit;
         at++;
     }
     size_t digits = (size_t)(at - scan->at);
-    if (digits == 0 || digits > most_digits || (digits > 1 && *scan->at == '0')) {
+    if (digits == 0 || digits > most_digits || (digits > 1 && *scan->at == '0') || is_too_large) {
         return false;
-    }
-    if (is_large && is_too_large == NULL) {
-        return false;
-    }
-    if (is_too_large != NULL) {
-        *is_too_large = is_large;
     }
     *value = sum;
     scan->at = at;

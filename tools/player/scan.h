@@ -14,9 +14,9 @@ struct scan {
 /* Whether a word comes next; it is passed then. */
 bool scan_word(struct scan *scan, const char *word);
 
-/* Whether a whole number of at most so many digits comes next, without zeros before it. One above 2^64 - 1 counts as
- * that, and `is_too_large` is set, if it isn't NULL. */
-bool scan_whole(struct scan *scan, size_t most_digits, uint64_t *value, bool *is_too_large);
+/* Whether a whole number of at most so many digits comes next, without zeros before it and at most 2^64 - 1; it is
+ * passed then. */
+bool scan_whole(struct scan *scan, size_t most_digits, uint64_t *value);
 
 /* Whether nothing is left. */
 bool scan_is_over(const struct scan *scan);

@@ -174,7 +174,8 @@ struct link_state link_look(void) {
 }
 
 bool link_is_over(const char **word, const char **text) {
-    static const char *const of_faults[] = {"sink", "silent", "word", "asked", "touched", "input", "dead"};
+    static const char *const of_faults[] = {"sink", "silent", "word", "asked", "touched", "input", "dead",
+                                            "hung"};
     pthread_mutex_lock(&shared->lock);
     const struct sender *sender = &shared->sender;
     bool is_reset = sender->state == SENDER_RESET;

@@ -14,7 +14,8 @@ static struct sink_inputs session; /* which inputs the sink heeds */
 
 static struct sink_inputs inputs_of(const struct play *play, uint32_t stops, uint32_t halts, uint32_t turned) {
     const struct sink_inputs inputs = {(uint16_t)stops, (uint16_t)halts,
-                                       (uint16_t)(play->machine.inputs.low ^ turned)};
+                                       (uint16_t)(play->machine.inputs.low ^ turned),
+                                       (uint16_t)play->machine.sink.debounce_us};
     return inputs;
 }
 
@@ -25,7 +26,9 @@ static bool is_place_sure(struct play *play, const struct sink_answer *left) {
     if (was_ended && !alarm_is_doubtful(play->player->left.stopped)) {
         return true;
     }
-    return left->state != SINK_NEW && sink_catch_up(play, left) && left->state != SINK_BROKEN;
+    bool is_told = left->state != SINK_NEW && sink_catch_up(play, left) && left->state != SINK_BROKEN;
+    play->player->is_sure = play->player->is_sure || is_told;
+    return is_told;
 }
 
 /* Where the motors are isn't known: an alarm, unless a person tells it. */
@@ -119,6 +122,7 @@ bool sink_has_stopped(struct play *play) {
     player_lock(play->player);
     outputs_stop(&play->player->outputs);
     play->player->homed = is_lost ? 0 : play->player->homed;
+    play->player->is_sure = play->player->is_sure && !is_lost;
     player_unlock(play->player);
     return !because(&play->why, "%s, after line %" PRIu64 "%s;", text, play->player->lines,
                     is_lost ? ": where the motors are isn't sure" : "");

@@ -147,7 +147,7 @@ static bool read_number(struct toml *toml, int64_t *value) {
     }
     struct scan number = {digits, digits + count};
     uint64_t size = 0;
-    if (count == 0 || scan->at[-1] == '_' || !scan_whole(&number, 19, &size, NULL) || size > INT64_MAX) {
+    if (count == 0 || scan->at[-1] == '_' || !scan_whole(&number, 19, &size) || size > INT64_MAX) {
         return toml_refuse(toml, "not a decimal whole number");
     }
     *value = is_below ? -(int64_t)size : (int64_t)size;

@@ -45,7 +45,7 @@ static enum end go_by_pins(struct play *play, const struct travel *travel, const
         if (!pace_next(&pace, goes_on ? UINT64_MAX : 0, &ns)) {
             return AT_OUTS_END;
         }
-        play->is_moving = pace.square != 0;
+        play->is_moving = !pace.is_at_rest;
         if (make_move(play, &move, ns) == FAILED) {
             return FAILED;
         }
@@ -55,11 +55,10 @@ static enum end go_by_pins(struct play *play, const struct travel *travel, const
 /* Gives the next pulse to the sink, if one is to be. */
 static bool give(struct play *play, const struct line *pulse, bool goes_on) {
     const struct move move = as_move(play, pulse);
-    uint64_t ramp = pace.lines[pace.first % PACE_ROOM].ramp;
     uint64_t ns = 0;
     bool is_given = pace_next(&pace, goes_on ? UINT64_MAX : 0, &ns);
     if (is_given) {
-        link_give(&move, ns, ramp, pace.square == 0);
+        link_give(&move, ns, pace.ramp, pace.is_at_rest);
     }
     return is_given;
 }

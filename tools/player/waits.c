@@ -138,6 +138,33 @@ bool is_left_held(struct play *play) {
     return !because(&play->why, "the console is gone, and it is held after line %" PRIu64 ";", play->player->lines);
 }
 
+/* No more line of the session is carried out. */
+static void break_off(struct player *player) {
+    player_lock(player);
+    player->is_broken = true;
+    player->stopped = "";
+    player_unlock(player);
+}
+
+bool await_record(struct play *play) {
+    struct player *player = play->player;
+    if (player->socket < 0 || strcmp(player->stopped, "record") != 0 || atomic_load(&stops) > 0 || !switch_off(play)) {
+        return false;
+    }
+    say("%s: %s %s: %s; spindle and coolant off. Once it can, another session goes on", play->options->out,
+        play->why.text, play->options->position, strerror(atomic_load(&player->record_why)));
+    break_off(player);
+    while (atomic_load(&stops) == 0 && !is_left(play)) {
+        alarm_drop_lines(player);
+        alarm_look(play);
+        poll(NULL, 0, SLICE_MS);
+        if (anew_is_wanted(player) && atomic_load(&player->record_error) == 0) {
+            return anew_begin(play);
+        }
+    }
+    return false;
+}
+
 /* Whether the console died while a person is asked for a tool. */
 static bool is_console_gone(struct play *play, const char *what) {
     if (!is_left_alone(play)) {

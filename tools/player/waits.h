@@ -36,6 +36,10 @@ bool await_tool(struct play *play, unsigned slot);
  * to stop. */
 bool await_look(struct play *play);
 
+/* Stands where the record can't be kept, with spindle and coolant off: no more line of the session is carried out.
+ * Whether another one follows, once the record can be kept: not where it has to stop before. */
+bool await_record(struct play *play);
+
 /* Whether nobody can release a hold any more, as the console is gone: then the play has to stop. */
 bool is_left_held(struct play *play);
 

@@ -2,9 +2,16 @@
 
 #include <string.h>
 
-#include "pace_parts.h"
-
 enum { LATENESS = 50 /* parts of a second in which more comes */, PERCENT_US = 10000 /* of a second */ };
+
+static uint64_t least_of(uint64_t one, uint64_t other) {
+    return one < other ? one : other;
+}
+
+/* Stops at the end of its range. */
+static uint64_t times(uint64_t one, uint64_t other) {
+    return other != 0 && one > UINT64_MAX / other ? UINT64_MAX : one * other;
+}
 
 static struct window_line *at(struct window *window, uint64_t index) {
     return &window->greatest[index % PACE_ROOM];
@@ -31,7 +38,7 @@ static uint64_t accel_of(const struct pace_limits *limits, const int step[3]) {
 /* How many lines are wanted for such pulses: a stop from their greatest rate takes v^2 / 2a, to which a fifth is added
  * for a plan that isn't of the last moment. */
 static uint64_t lines_for(const struct window *window, const struct line *line) {
-    uint64_t rate = PERCENT_US * window->limits->most_percent / most_of(line->us, 1);
+    uint64_t rate = PERCENT_US * window->limits->most_percent / (line->us > 0 ? line->us : 1);
     uint64_t stop = 3 * rate * rate / times(5, accel_of(window->limits, line->step));
     return least_of(stop + rate / LATENESS + least(window), WINDOW_MOST);
 }

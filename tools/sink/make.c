@@ -29,7 +29,7 @@ const volatile struct sink_taken *sink_taken(const struct sink *sink) {
 }
 
 uint8_t sink_asked(const struct sink *sink) {
-    return sink->is_touched ? FAULT_TOUCHED : sink->asked;
+    return sink->is_touched ? FAULT_TOUCHED : sink->is_hung ? FAULT_HUNG : sink->asked;
 }
 
 /* Notes an input that brings it to rest. */
@@ -38,9 +38,28 @@ static void touch(struct sink *sink) {
     sink->is_touched = true;
 }
 
-bool sink_has_to_stop(struct sink *sink) {
+/* The inputs that stop dead. Where they have to be on for some time these were so at each look of as long, and at two
+ * looks at least: one that comes on is among them after that time to twice as long. */
+static uint16_t stopping(struct sink *sink, uint16_t inputs, uint32_t passed) {
+    uint16_t on = inputs & sink->inputs.stops;
+    uint32_t lasts = sink->inputs.debounce_us * (WIRE_TICKS_A_MS / 1000u);
+    sink->steady &= on;
+    sink->steady_for += passed;
+    if (lasts == 0) {
+        return on;
+    }
+    if (sink->steady_for < lasts) {
+        return 0;
+    }
+    uint16_t steady = sink->steady;
+    sink->steady = on;
+    sink->steady_for = 0;
+    return steady;
+}
+
+bool sink_has_to_stop(struct sink *sink, uint32_t passed) {
     uint16_t inputs = sink_inputs(sink);
-    if ((inputs & sink->inputs.stops) != 0 || sink->asked == FAULT_DEAD) {
+    if (stopping(sink, inputs, passed) != 0 || sink->asked == FAULT_DEAD) {
         stop(sink, sink->asked == FAULT_DEAD ? FAULT_DEAD : FAULT_INPUT);
         return true;
     }
@@ -185,11 +204,29 @@ static void make_word(struct sink *sink) {
 static uint32_t look_again(struct sink *sink) {
     uint32_t part = sink->left < 2 * SINK_SLICE ? sink->left : SINK_SLICE;
     sink->left -= part;
+    sink->part = part;
     return part;
 }
 
+/* Looks whether the main loop comes by. Where it hangs the sink comes to rest, and the watchdog waits for that. */
+static void watch_main_loop(struct sink *sink) {
+    bool has_come = sink->polls != sink->polls_seen;
+    sink->polls_seen = sink->polls;
+    sink->unpolled = has_come ? 0 : sink->unpolled + sink->part;
+    if (sink->unpolled > SINK_HANGS_MS * WIRE_TICKS_A_MS) {
+        sink->is_hung = true;
+    }
+    if (sink->is_hung && sink->unpolled < SINK_BRAKES_MS * WIRE_TICKS_A_MS) {
+        sink_port_watchdog();
+    }
+}
+
 uint32_t sink_make(struct sink *sink) {
-    if (sink->state != SINK_RUNS || sink_has_to_stop(sink)) {
+    if (sink->state != SINK_RUNS) {
+        return 0;
+    }
+    watch_main_loop(sink);
+    if (sink_has_to_stop(sink, sink->part)) {
         return 0;
     }
     if (sink->left > 0) {

@@ -160,7 +160,8 @@ static size_t put_begin(const struct sender *sender, uint8_t *body) {
     wire_put16(body + 9, sender->inputs.stops);
     wire_put16(body + 11, sender->inputs.halts);
     wire_put16(body + 13, sender->inputs.low);
-    wire_put64(body + 15, sender->mark);
+    wire_put16(body + 15, sender->inputs.debounce_us);
+    wire_put64(body + 17, sender->mark);
     return WIRE_BEGIN;
 }
 
@@ -267,7 +268,7 @@ const char *sender_why(const struct sender *sender) {
     static const char *const faults[] = {
         "nothing", "the sink heard nothing for half a second", "the sink was sent a word that isn't one",
         "the sink was asked to stop", "an input brought the sink to rest", "an input stopped the sink dead",
-        "the sink was asked to stop dead"};
+        "the sink was asked to stop dead", "the sink's main loop hung"};
     if (sender->state == SENDER_RESET) {
         return "the sink's chip started again";
     }

@@ -12,6 +12,7 @@ void sink_start(struct sink *sink, uint16_t boot, uint32_t now) {
     sink->session = (uint32_t)boot << 16;
     sink->heard_at = now;
     sink->answered_at = now;
+    sink->looked_at = now;
 }
 
 static bool takes_words(const struct sink *sink) {
@@ -84,6 +85,7 @@ static void begin_session(struct sink *sink, const uint8_t *body) {
     sink->is_slowed = false;
     sink->is_braking = false;
     sink->is_touched = false;
+    sink->is_hung = false;
     sink->touched = 0;
     sink->asked = FAULT_NONE;
     sink->fault = FAULT_NONE;
@@ -91,11 +93,14 @@ static void begin_session(struct sink *sink, const uint8_t *body) {
     sink->dry = 0;
     sink->lines = 0;
     sink->is_beside = false;
-    sink->mark = wire_get64(body + 15);
+    sink->mark = wire_get64(body + 17);
     sink->token = wire_get32(body + 5);
     sink->inputs.stops = wire_get16(body + 9);
     sink->inputs.halts = wire_get16(body + 11);
     sink->inputs.low = wire_get16(body + 13);
+    sink->inputs.debounce_us = wire_get16(body + 15);
+    sink->steady = 0;
+    sink->steady_for = 0;
     sink_switch_off(sink);
     sink->state = SINK_STANDS;
 }
@@ -165,11 +170,20 @@ static bool may_run(const struct sink *sink) {
 }
 
 /* At rest: stops for a fault, or begins to run. */
-static void stand(struct sink *sink) {
-    if (!sink_has_to_stop(sink) && may_run(sink)) {
+static void stand(struct sink *sink, uint32_t passed) {
+    if (!sink_has_to_stop(sink, passed) && may_run(sink)) {
+        sink->part = WIRE_LEAST_TICKS;
+        sink->unpolled = 0;
         sink->state = SINK_RUNS;
         sink_port_timer(WIRE_LEAST_TICKS);
     }
+}
+
+/* The inputs as they are told: one that has to be on for some time to stop dead isn't on before it has stopped. */
+static uint16_t inputs_told(const struct sink *sink, uint8_t state) {
+    bool is_looked_at = state == SINK_STANDS || state == SINK_RUNS;
+    uint16_t not_heeded = is_looked_at && sink->inputs.debounce_us > 0 ? sink->inputs.stops : 0;
+    return (uint16_t)(sink_inputs(sink) & ~not_heeded);
 }
 
 /* The state is read first: with that of a fault the count is final. */
@@ -180,7 +194,7 @@ static void answer(struct sink *sink) {
     now.made = sink->made;
     now.taken = sink_taken(sink)->words;
     now.session = sink->session;
-    now.inputs = sink_inputs(sink);
+    now.inputs = inputs_told(sink, now.state);
     now.lost = sink->lost;
     now.token = sink->token;
     now.touched = sink->touched;
@@ -192,11 +206,14 @@ static void answer(struct sink *sink) {
 }
 
 void sink_poll(struct sink *sink, uint32_t now) {
+    uint32_t passed = now - sink->looked_at;
+    sink->looked_at = now;
     sink_port_watchdog();
+    sink->polls = (uint8_t)(sink->polls + 1);
     read_bytes(sink, now);
     heed_silence(sink, now);
     if (sink->state == SINK_STANDS) {
-        stand(sink);
+        stand(sink, passed);
     }
     if (now - sink->answered_at >= SINK_ANSWERS_MS * WIRE_TICKS_A_MS) {
         sink->answered_at = now;

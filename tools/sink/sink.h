@@ -32,7 +32,9 @@ enum {
     SINK_SILENCE_MS = 500,
     SINK_BEGINS_MS = 10,     /* of words that don't end at rest are in the FIFO before it runs .. */
     SINK_BEGINS_WORDS = 256, /* .. or so many */
-    SINK_SLICE = WIRE_TICKS_A_MS / 2 /* inputs and stops are looked at at least each 1 ms while a long word lasts */
+    SINK_SLICE = WIRE_TICKS_A_MS / 2, /* inputs and stops are looked at at least each 1 ms while a long word lasts */
+    SINK_HANGS_MS = 20,   /* the main loop doesn't come by for so long: it hangs */
+    SINK_BRAKES_MS = 1000 /* the watchdog waits for so long while the sink comes to rest then */
 };
 
 /* What was taken; each number counts on from 2^32 - 1 to 0. */
@@ -43,7 +45,7 @@ struct sink_taken {
 };
 
 /* `made`, `state` and what the timer's half keeps are written by sink_make while the state is SINK_RUNS, else by
- * sink_poll; `taken`, `newest` and `asked` by sink_poll alone. What both read is volatile, and loads and stores of 32
+ * sink_poll; `taken`, `newest`, `asked` and `polls` by sink_poll alone. What both read is volatile, and loads and stores of 32
  * bits must be whole. */
 struct sink {
     volatile uint32_t values[WIRE_FIFO]; /* the FIFO: word n is at n modulo WIRE_FIFO */
@@ -58,12 +60,19 @@ struct sink {
     volatile uint8_t fault; /* enum sink_fault */
     volatile uint8_t asked; /* a fault that is to be stopped for */
     volatile bool is_touched;
+    volatile bool is_hung;
+    volatile uint8_t polls; /* of the main loop; counts on */
     volatile uint16_t dry;
     /* The timer's half. */
     uint32_t rises_made; /* the slopes of all words that were made, added up */
     uint32_t square;     /* the greatest of the last word */
     uint32_t lasted;     /* ticks of that word; the most where the motors stood */
     uint32_t left;       /* ticks of it that are still to come */
+    uint32_t part;       /* ticks that the last call returned */
+    uint32_t unpolled;   /* ticks for which the main loop hasn't come by */
+    uint8_t polls_seen;
+    uint16_t steady;     /* inputs that stop dead and were on at each look .. */
+    uint32_t steady_for; /* .. of so many ticks */
     uint32_t speed_low;  /* of the next switches */
     bool is_rest;        /* it ends at rest .. */
     bool is_still;       /* .. or is so slow that the motors may stand */
@@ -78,6 +87,7 @@ struct sink {
     uint16_t lost;
     uint32_t heard_at;   /* ticks at which the sender was heard last */
     uint32_t answered_at;
+    uint32_t looked_at;  /* when the main loop came by last */
     struct wire_reader reader;
     uint8_t body[WIRE_ANSWER + WIRE_CRC];
     uint8_t line[WIRE_ANSWER + WIRE_CRC + 2];
@@ -96,8 +106,9 @@ void sink_poll(struct sink *sink, uint32_t now);
 uint32_t sink_make(struct sink *sink);
 
 /* Stops where it has to: dead for an input of `stops` and where that was asked for, for all else where the motors may
- * stand. Called by sink_make while the state is SINK_RUNS, else by sink_poll. */
-bool sink_has_to_stop(struct sink *sink);
+ * stand. `passed` ticks after it was called last. Called by sink_make while the state is SINK_RUNS, else by
+ * sink_poll. */
+bool sink_has_to_stop(struct sink *sink, uint32_t passed);
 
 /* What was taken. */
 const volatile struct sink_taken *sink_taken(const struct sink *sink);

@@ -9,7 +9,8 @@
 #include "wire.h"
 
 /* Starts the timer, which doesn't run: it calls sink_make in so many ticks of 1/8 us, and from then on each time as
- * many after the time at which the last call was due as that call returned; at 0 it stops. */
+ * many after the time at which the last call was due as that call returned; at 0 it stops. Where that time is past it
+ * calls at once; what a call is later than some 30 us is lost, and not made up for. */
 void sink_port_timer(uint32_t ticks);
 
 /* Makes a step of the axes in `steps` (bit 0 X, 1 Y, 2 Z), once the directions `down` (1 counts down) are set for as

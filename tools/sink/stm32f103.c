@@ -59,6 +59,8 @@ enum {
     RECEIVED = 1024,             /* bytes: 5 ms */
     DIRECTION_TICKS = 40,        /* 5 us from a direction to its step */
     STEP_TICKS = 16,             /* 2 us that a step's pin is high */
+    MOST_LATE_TICKS = 240,       /* 30 us that words may be late, and are made up for */
+    APART_TICKS = 80,            /* 10 us for the main loop, before a word that is later */
     PWM_STEPS = 7200,            /* 10 kHz */
     SPINDLE_MOST_RPM = 24000,    /* at the whole of the PWM */
     TIM2_INTERRUPT = 28,
@@ -85,6 +87,20 @@ static bool is_due(void) {
     return (uint16_t)(due - TIM2_CNT - 1) >= 0x8000;
 }
 
+/* Says when the next word is due. Words that are shorter than this handler are made later, and those behind make up for
+ * it; but for no more than MOST_LATE_TICKS, or they would come as fast as the handler can long after that, whatever
+ * their own times are. */
+static void set_due(uint32_t after) {
+    uint16_t now = (uint16_t)TIM2_CNT;
+    due = (uint16_t)(due + after);
+    uint16_t late = (uint16_t)(now - due);
+    if (late > MOST_LATE_TICKS && late < 0x8000) {
+        due = (uint16_t)(now + APART_TICKS);
+    }
+    TIM2_CCR1 = due;
+    TIM2_SR = (uint32_t)~COMPARED;
+}
+
 /* A word that is due already, as after a change of direction, is made at once. The counter says whether one is, not the
  * interrupt: a match while this works leaves one pending even where its word is made here, and its flag cleared. */
 static void timer_handler(void) {
@@ -92,9 +108,7 @@ static void timer_handler(void) {
     TIM2_SR = (uint32_t)~COMPARED;
     while (after > 0 && (TIM2_DIER & COMPARED) != 0 && is_due()) {
         after = sink_make(&sink);
-        due = (uint16_t)(due + after);
-        TIM2_CCR1 = due;
-        TIM2_SR = (uint32_t)~COMPARED;
+        set_due(after);
     }
     TIM2_DIER = after > 0 ? TIM2_DIER : 0;
 }
@@ -110,8 +124,16 @@ static uint32_t spread(uint32_t axes) {
     return (axes & 1) | (axes & 2) << 1 | (axes & 4) << 2;
 }
 
+/* The duty of a speed in millionths: by a multiplication, as a division of 64 bits keeps the timer's handler for 10 us.
+ * A 4,096th part of the speed has 32 bits. */
+static uint64_t duty_of(uint64_t speed) {
+    const uint64_t most = SPINDLE_MOST_RPM * UINT64_C(1000000);
+    const uint64_t times = ((UINT64_C(4096) * PWM_STEPS << 32) + most - 1) / most;
+    return (speed >> 12) * times >> 32;
+}
+
 static void set_outputs(const struct sink_outputs *outputs) {
-    uint64_t duty = outputs->speed * PWM_STEPS / (SPINDLE_MOST_RPM * UINT64_C(1000000));
+    uint64_t duty = duty_of(outputs->speed);
     uint32_t on = outputs->spindle == 1 ? CLOCKWISE : 0;
     on |= outputs->spindle == 2 ? COUNTER : 0;
     on |= outputs->mist != 0 ? MIST : 0;

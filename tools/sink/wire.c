@@ -180,7 +180,7 @@ size_t wire_put_answer(uint8_t *body, const struct sink_answer *answer) {
 }
 
 bool wire_get_answer(const uint8_t *body, size_t size, struct sink_answer *answer) {
-    if (size != WIRE_ANSWER || body[0] != KIND_ANSWER || body[13] > SINK_BROKEN || body[14] > FAULT_DEAD) {
+    if (size != WIRE_ANSWER || body[0] != KIND_ANSWER || body[13] > SINK_BROKEN || body[14] > FAULT_HUNG) {
         return false;
     }
     answer->session = wire_get32(body + 1);

@@ -13,7 +13,7 @@ enum {
     WIRE_CRC = 4,
     WIRE_BODY = WIRE_HEAD + WIRE_WORDS * WIRE_WORD + WIRE_CRC, /* most bytes of a frame: 253 */
     WIRE_LINE = WIRE_BODY + 2,                                 /* and as it goes over the line */
-    WIRE_BEGIN = 23,  /* bytes of a frame that begins a session, without its CRC */
+    WIRE_BEGIN = 25,  /* bytes of a frame that begins a session, without its CRC */
     WIRE_STOP = 6,    /* of one that stops */
     WIRE_ANSWER = 41, /* of an answer */
     WIRE_FIFO = 2048, /* words that the sink has room for: what a stop takes */
@@ -56,14 +56,16 @@ enum sink_fault {
     FAULT_ASKED,   /* the sender asked for a stop */
     FAULT_TOUCHED, /* an input of `halts` was on */
     FAULT_INPUT,   /* an input of `stops` was on: it stopped dead */
-    FAULT_DEAD     /* the sender asked for a stop at once: it stopped dead */
+    FAULT_DEAD,    /* the sender asked for a stop at once: it stopped dead */
+    FAULT_HUNG     /* the main loop didn't come by: the timer alone brought it to rest */
 };
 
 /* Inputs, by bits. */
 struct sink_inputs {
-    uint16_t stops; /* that stop the sink dead */
-    uint16_t halts; /* that bring it to rest */
-    uint16_t low;   /* that are on while their pin is low */
+    uint16_t stops;       /* that stop the sink dead .. */
+    uint16_t halts;       /* that bring it to rest */
+    uint16_t low;         /* that are on while their pin is low */
+    uint16_t debounce_us; /* .. once they were on for so long; 0 for one look */
 };
 
 /* The outputs, as an S line of OUT has them. */

@@ -80,7 +80,7 @@ void pace_all(const struct motors *motors) {
         pushed = push_some(pushed, room);
         lines[at].due_ns = due_ns;
         uint64_t wanted = some_wish(is_disturbed, &percent);
-        bool has_rest = pace.square == 0;
+        bool has_rest = pace.is_at_rest;
         if (pace_next(&pace, wanted, &ns)) {
             if (has_rest && at > 0 && lines[at].asked == NOTHING && lines[at].kind == 'P') {
                 lines[at].asked = HOLD;

@@ -1,6 +1,7 @@
 #!/bin/sh
-# Installs Chromium on Debian or Ubuntu, by which the tests look at the operator's page. On Debian firefox-esr does for
-# NGC_BROWSER=firefox. Needs root.
+# Installs on Debian or Ubuntu what the tests of tools/ need besides a C compiler: Chromium, by which they look at the
+# operator's page, and the cross compiler of the step sink's chip. On Debian firefox-esr does for NGC_BROWSER=firefox.
+# Needs root.
 set -eu
 apt-get update
-apt-get install -y --no-install-recommends chromium fonts-dejavu-core
+apt-get install -y --no-install-recommends chromium fonts-dejavu-core gcc-arm-none-eabi libnewlib-arm-none-eabi

@@ -60,8 +60,7 @@ def of_tests(*names: str) -> tuple[Path, ...]:
 
 def with_pacer(name: str, *options: str, beside: tuple[str, ...] = ()) -> str:
     """The path of a program of this folder, and of sources beside it, with the pacer of tools/player."""
-    parts = [path for path in SOURCES if path.stem.startswith("pace_")
-             or path.stem in ("pace", "window", "line", "scan", "cause", "utf8")]
+    parts = [path for path in SOURCES if path.stem in ("pace", "pace_memory", "window", "line", "cause", "utf8")]
     return built(*options, sources=(*of_tests(name, *beside), *parts))
 
 
@@ -149,7 +148,7 @@ def some_limits(chance: random.Random) -> Limits:
     def axes(*of: int) -> tuple[int, int, int]:
         return chance.choice(of), chance.choice(of), chance.choice(of)
 
-    return Limits(axes(3, 50, 1000, 20_000, 200_000, 5_000_000, 2**63), axes(0, 0, 500, 15_000),
+    return Limits(axes(3, 50, 1000, 20_000, 200_000, 5_000_000, 10**9), axes(0, 0, 500, 15_000),
                   axes(0, 100, 2000, 2**40), chance.choice((1, 4, 16, 64)), chance.choice((1, 2, 4, 64)),
                   chance.choice((100, 100, 101, 137, 200)))
 

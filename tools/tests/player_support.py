@@ -20,6 +20,9 @@ from ngc_tools.cli import player
 from ngc_tools.player.progress import Link, NoAnswer
 
 SOURCES = [*sorted((TOOLS / "player").glob("*.c")), TOOLS / "sink" / "sender.c", TOOLS / "sink" / "wire.c"]
+PROVED = [Path(os.environ.get("NGC_PROVED", TOOLS / "player" / "out"), name).absolute()
+          for name in ("libng_pace_c.a", "libng_lines_c.a")]
+"""The proved pacer and reader of lines, which `make archives` builds; NGC_PROVED is another folder that has them."""
 STANDARD = ("-std=c11", "-Wall", "-Wextra", "-Wconversion", "-Werror", "-pthread")
 NO_RAMPS = "out: no --machine: no ramps, and no motor follows full rates from rest\n"
 SANITIZERS = ("-O0", "-g", "-fsanitize=address,undefined", "-fno-sanitize-recover=all")
@@ -31,7 +34,15 @@ def built(*options: str, compiler: str = "cc", pins: Path | None = None, sources
     sources = sources or [path for path in SOURCES if not pins or path.name != "pins.c"] + ([pins] if pins else [])
     with ThreadPoolExecutor(os.cpu_count()) as several:
         objects = list(several.map(lambda path: compiled(path, compiler, *options), sources))
-    return made("player", compiler, *STANDARD, *options, *objects, "-lm")
+    is_proved = any(path.name in ("pace.c", "line.c") for path in sources)
+    return made("player", compiler, *STANDARD, *options, *objects, *(proved() if is_proved else ()), "-lm")
+
+
+def proved() -> list[str]:
+    """The paths of the archives of the proved crates."""
+    if missing := [path for path in PROVED if not path.exists()]:
+        raise AssertionError(f"no {missing[0]}: make -C {TOOLS / 'player'} archives")
+    return list(map(str, PROVED))
 
 
 @cache

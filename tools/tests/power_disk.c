@@ -2,10 +2,10 @@
  * to the files `mill.dev`, `out` and `position` of its folder, and when it syncs them, is told in the file that
  * NGC_POWER names; so is each line that goes to `pins`. The test builds from it what a loss of power left of the disk.
  *
- * NGC_POWER_DO has deeds, parted by `;`, as `ngc out write 37 kill`: at the 37th time that this program (ngc, console,
- * player) is about to write to this file, or to `read`, `sync` or `cut` it, counted from 1, power is lost (`kill`); or
- * the call fails with such a number of an error, as `5`, that one time, or with `5+` from then on. Of pins alone `skip`
- * makes nothing of a line, and `still` sets no spindle. */
+ * NGC_POWER_DO has deeds, parted by `;`, as `ngc out write 37 kill`: at the 37th time that this program (ngc, console
+ * or player) is about to write to this file, or to `read`, `sync` or `cut` it, counted from 1, power is lost; or the
+ * call fails with such a number of an error, as `5`, that one time, or with `5+` from then on. `lie` does nothing of
+ * a sync, and says that it did. Of pins alone `skip` makes nothing of a line, and `still` sets no spindle. */
 #define _GNU_SOURCE
 #include <dlfcn.h>
 #include <errno.h>
@@ -220,10 +220,10 @@ static const struct deed *befalls(int file, int op) {
     return found;
 }
 
-/* Whether a call fails by a deed; tells it. */
+/* Whether a call fails by a deed, with errno, which is 0 for a lie; tells it. */
 static bool fails(int file, int op) {
     const struct deed *deed = file < FILES ? befalls(file, op) : NULL;
-    if (deed == NULL || deed->error == 0) {
+    if (deed == NULL || (deed->error == 0 && strncmp(deed->word, "lie", 3) != 0)) {
         return false;
     }
     if (op != READ) {
@@ -318,7 +318,7 @@ static int synced(int file, const char *name) {
     int (*real_sync)(int) = real(name);
     int which = file_of(file);
     if (fails(which, SYNC)) {
-        return -1;
+        return errno == 0 ? 0 : -1;
     }
     struct entry *entry = which < PINS ? tell(which, SYNC, 0, "", 0) : NULL;
     int result = real_sync(file);

@@ -68,7 +68,7 @@ static bool is_asked;
 static bool is_fresh;
 static bool was_dry;
 static uint32_t run_number;
-static unsigned long words_made, slower, sessions, ends[8], broken, dry;
+static unsigned long words_made, slower, sessions, ends[9], broken, dry;
 static uint64_t random_state;
 
 static void give_up(const char *format, ...) {
@@ -379,7 +379,7 @@ static void run_sink(void) {
 
 static void seek_anew(uint16_t stops, uint16_t halts) {
     static uint32_t token;
-    struct sink_inputs of = {stops, halts, 0};
+    struct sink_inputs of = {stops, halts, 0, 0};
     token++;
     sender_begin(&sender, token, &of, WINDOW, made_count);
 }
@@ -437,7 +437,7 @@ static void note_end(void) {
     if (sender.state == SENDER_ENDED && sender_base() == base) {
         check_lines(&sender.sink);
     }
-    ends[sender.state == SENDER_ENDED ? sender.sink.fault : 7]++;
+    ends[sender.state == SENDER_ENDED ? sender.sink.fault : FAULT_HUNG + 1]++;
     seek_anew(sender.inputs.stops, sender.inputs.halts);
 }
 
@@ -629,6 +629,6 @@ int main(int count, char **given) {
     }
     printf("words %lu slower %lu sessions %lu silent %lu word %lu asked %lu touched %lu input %lu dead %lu reset %lu"
            " broken %lu dry %lu\n", words_made, slower, sessions, ends[FAULT_SILENT], ends[FAULT_WORD],
-           ends[FAULT_ASKED], ends[FAULT_TOUCHED], ends[FAULT_INPUT], ends[FAULT_DEAD], ends[7], broken, dry);
+           ends[FAULT_ASKED], ends[FAULT_TOUCHED], ends[FAULT_INPUT], ends[FAULT_DEAD], ends[FAULT_HUNG + 1], broken, dry);
     return 0;
 }

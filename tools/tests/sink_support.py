@@ -1,16 +1,50 @@
 """What tests of a player over a step sink share: a sink at the other end of a pseudo terminal, whose clock goes on by
-itself."""
+itself. With NGC_SINK=chip it is the firmware on the emulated chip, else the sink of this computer's own code."""
+import os
 import subprocess
 import time
 from pathlib import Path
 from typing import NamedTuple
 
+from chip_support import chip_folder
 from player_support import SANITIZERS, built, has_sanitizers
 from session_support import PATIENCE_S, TOOLS
 
 SINK = TOOLS / "sink"
 TICK_NS = 125
-PARTS = tuple(SINK / name for name in ("sink_posix.c", "sink.c", "make.c", "wire.c"))
+PARTS = tuple(SINK / f"{name}.c" for name in ("sink_posix", "bench", "bench_line", "sink", "make", "wire"))
+IS_CHIP = os.environ.get("NGC_SINK") == "chip"
+LATE_TICKS = 80 if IS_CHIP else 1
+"""How far a step may be from its time: on the chip 10 us."""
+DUTY_MILLIONTHS = 24_000_000_000 / 7200
+"""The speed that a step of the PWM's duty is."""
+
+
+def bench(boot: int = 1) -> list[str]:
+    """The command that puts a sink on the bench (tools/sink/bench.c)."""
+    if IS_CHIP:
+        return [str(chip_folder() / "emulate"), str(chip_folder() / "stm32f103.elf"), str(boot)]
+    return [built("-std=c99", *(SANITIZERS if has_sanitizers() else ("-O2",)), "-I", SINK, sources=PARTS), str(boot)]
+
+
+def seen(outputs: tuple[int, ...]) -> tuple[int, ...]:
+    """What the pins show of outputs: all of them, or on the chip no tool, no speed at rest, and that of the duty."""
+    direction, speed, mist, flood, *tool = outputs
+    if not IS_CHIP:
+        return outputs
+    duty = 0 if direction == 0 else min(int(speed / DUTY_MILLIONTHS), 7200)
+    return direction, int(duty * DUTY_MILLIONTHS), mist, flood, *[0 for _ in tool]
+
+
+def changes(outputs: list[tuple[int, ...]]) -> list[tuple[int, ...]]:
+    """Outputs as they change, from all off. On the chip the speed follows with the PWM's next period: a state before it
+    does is left out."""
+    found = [(0,) * 6]
+    for each, after in zip(outputs, [*outputs[1:], None]):
+        is_between = IS_CHIP and after is not None and after[0] == each[0] and after[2:] == each[2:]
+        if not is_between and each != found[-1]:
+            found.append(each)
+    return found[1:]
 
 
 class Made(NamedTuple):
@@ -40,8 +74,7 @@ class ServedSink:
     def __init__(self, waits_ms: int) -> None:
         """Starts it: where words are late its clock stands for so many real milliseconds before it goes on."""
         self._said = Path("sink_events").open("w+", encoding="ascii")
-        program = built("-std=c99", *(SANITIZERS if has_sanitizers() else ("-O2",)), "-I", SINK, sources=PARTS)
-        self.child = subprocess.Popen([program, "1"], stdin=subprocess.PIPE, stdout=self._said, text=True)
+        self.child = subprocess.Popen(bench(), stdin=subprocess.PIPE, stdout=self._said, text=True)
         self.path = self._first_line()
         self.tell(f"serve {waits_ms}")
 

@@ -15,7 +15,7 @@ from types import ModuleType
 
 sys.path.insert(0, str(Path(__file__).resolve().parent))
 
-from player_support import builds  # noqa: E402
+from player_support import builds, proved  # noqa: E402
 from session_support import PATIENCE_S, TOOLS, InFolder, Terminal, ngc, told  # noqa: E402
 from test_rehearse import HOLE, OUT  # noqa: E402
 
@@ -27,7 +27,7 @@ from ngc_tools.player.source import Source  # noqa: E402
 DOCS = TOOLS.parent / "docs"
 CAM = Path(__file__).resolve().parent / "cam"
 
-_COMMAND = re.compile(r"(?:\$ )?((?:ngc|ngc-\w+|mkfifo|cc|cp|grep|sed|tail|player|exec|echo|\{|:|tools/\S+) .*?)"
+_COMMAND = re.compile(r"(?:\$ )?((?:ngc|ngc-\w+|mkfifo|make|cp|grep|sed|tail|player|exec|echo|\{|:|tools/\S+) .*?)"
                       r"(?: {2,}[(#].*)?")
 _INLINE = re.compile(r"`((?:tools/|examples/)?(?:ngc-\w+|grep|\w+\.py) [^`]*)`")
 
@@ -89,14 +89,13 @@ def spoken(block: str) -> tuple[str, list[str]]:
 @cache
 def player() -> str:
     """The path of tools/player, built as docs/TOOLS.md says."""
-    folder = Path(builds(), "documents")
+    folder = Path(builds(), "documents").absolute()
+    build = next(command for command, _ in commands(chapters("TOOLS.md")[PLAYER]) if command.startswith("make "))
+    words = [*build.split(), f"OUT={folder}", f"ARCHIVES={' '.join(proved())}"]
     folder.mkdir(exist_ok=True)
-    if not (folder / "tools").exists():
-        (folder / "tools").symlink_to(TOOLS)
-    build = next(command for command, _ in commands(chapters("TOOLS.md")[PLAYER]) if command.startswith("cc "))
-    done = subprocess.run(["bash", "-c", build], cwd=folder, capture_output=True, text=True)
+    done = subprocess.run(words, cwd=TOOLS.parent, capture_output=True, text=True)
     if done.returncode or done.stderr:
-        raise AssertionError(f"{build}\n{done.stderr}")
+        raise AssertionError(f"{words}\n{done.stderr}")
     return str(folder / "player")
 
 
@@ -248,11 +247,12 @@ class Tools(Documents):
     def test_plug(self) -> None:
         """Their words, and a moment of each."""
         _, tried = self.chapter("TOOLS.md", "The plug")
-        for synopsis, more in tried:
+        moment = "--moments 1 --blocks 10"
+        own = ((moment, "1 moments in "), (f"{moment} --cut", "1 moments in "), ("--chains 1", " 1 chains, "))
+        for (synopsis, more), (words, said) in zip(tried, own, strict=True):
             program, wanted = synopsis.split()[0], set(re.findall(r"--[a-z-]+", synopsis + more))
             self.assertEqual(wanted - set(re.findall(r"--[a-z-]+", self.shell(f"{program} --help"))), set())
-            own = "--cut" if "--cut" in wanted else ""
-            self.assertIn("1 moments in ", self.shell(f"{program} --ngc {ngc()} --moments 1 --blocks 10 {own}"))
+            self.assertIn(said, self.shell(f"{program} --ngc {ngc()} {words}"))
 
     def test_page(self) -> None:
         """The options of the page; tests/test_page.py has the rest."""

@@ -137,6 +137,7 @@ motion.toml: warning: a traverse of 3,000 mm/min is slowed down along Z: rate_mm
                 ("[motion]\naccel_mm_s2 = [0, 1, 1]\n", "accel_mm_s2: not three whole numbers from 1 to 1000000"),
                 (MOTION + "slack_steps = 65\n", "slack_steps: not a whole number from 1 to 64"),
                 (MOTION + "jerk = 1\n", "motion: has a key that isn't one of its five: jerk"),
+                (MOTION + "[pins]\n", "has a table that isn't one of its nine: pins"),
                 ("", "motion: missing"), ("[", "not TOML"),
                 (MOTION + "[window]\nlines = 8001\n", "window: lines takes a whole number from 0 to 8000"),
                 (MOTION + "[backlash]\nsteps = [0, 0]\n",

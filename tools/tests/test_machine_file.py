@@ -45,6 +45,7 @@ steps = [0,
 [sink]
 line = "/dev/ttyUSB0"
 baud = 2000000
+debounce_us = 200
 
 [inputs]
 emergency_stop = 0

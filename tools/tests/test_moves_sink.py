@@ -53,7 +53,9 @@ class MovesOverSink(OverSink):
     def test_home(self) -> None:
         """Each axis stands its pull-off away from the point at which the sink felt the switch."""
         self.started()
+        self.assertFalse(self.link.is_sure())
         self.assertEqual(self.how(self.link.home()), "done")
+        self.assertTrue(self.link.is_sure())
         self.assertEqual(self.at(), (-8, -7, 9))
         self.assertEqual(self.link.machine().homed, "XYZ")
         self.kept("reference -8.000000 -7.000000 9.000000", "homed XYZ", "off", "stopped killed")

@@ -7,6 +7,7 @@ from pathlib import Path
 
 sys.path.insert(0, str(Path(__file__).resolve().parent))
 
+from player_support import proved  # noqa: E402
 from session_support import TOOLS, InFolder  # noqa: E402
 
 from ngc_tools.formats.out import BadLine, Dwell, Pulse, Switch, read_line  # noqa: E402
@@ -104,7 +105,7 @@ class Records(InFolder):
     def test_all_lines_in_c(self) -> None:
         """The player in C reads the same record, and writes the same bytes."""
         names = ("record.c", "place.c", "scan.c", "line.c", "cause.c", "utf8.c", "backlash.c")
-        sources = [str(TOOLS / "player" / name) for name in names]
+        sources = [*(str(TOOLS / "player" / name) for name in names), *proved()]
         Path("copy.c").write_text('''#include "record.h"
 #include <stdio.h>
 int main(void) {

@@ -1,7 +1,6 @@
 """The pacer: the same times in Python and C, what it promises, and whether motors can follow."""
 import math
 import random
-import subprocess
 import sys
 import unittest
 from collections import deque
@@ -12,7 +11,7 @@ from pathlib import Path
 sys.path.insert(0, str(Path(__file__).resolve().parent))
 
 from pace_support import (GIVE, PROGRAMS, as_out_says, disturbed, excess, metered, paced, paced_in_c,  # noqa: E402
-                          some_limits, straight, stream, timed, with_pacer)
+                          some_limits, straight, stream, timed)
 from session_support import FIRST, TOOLS, InFolder  # noqa: E402
 
 from ngc_tools.formats.out import read_line  # noqa: E402
@@ -180,19 +179,14 @@ class Lateness(unittest.TestCase):
 
 
 class Promises(unittest.TestCase):
-    """What ng_pace promises, over streams by chance, with limits, windows and disturbances by chance."""
+    """What ng_pace promises, of the pacer in Python, over streams by chance, with limits, windows and disturbances by
+    chance."""
 
     def test_kept(self) -> None:
         """In order, never sooner than OUT says, within each ramp, and at rest where nothing more is known."""
         for seed in range(30):
             with self.subTest(seed=seed):
                 self.assertTrue(all(self.steps(random.Random(seed))))
-
-    def test_kept_in_c(self) -> None:
-        """The same and more, as pace_promises.c has it, over 1,500 streams of 1,000 lines as a rule."""
-        done = subprocess.run([with_pacer("pace_promises.c", "-O2"), "1", "1500"], capture_output=True, text=True)
-        self.assertEqual((done.returncode, done.stderr), (0, ""), done.stdout)
-        self.assertGreater(int(done.stdout), 2_000_000)
 
     def steps(self, chance: random.Random) -> Iterator[bool]:
         """Whether each call keeps them."""

@@ -155,8 +155,8 @@ class Playing:
         for text in (short[11:], short[:-1], ""):
             Path("out").write_text(text)
             self.assertEqual(self.refused("out", "first.toml", "position"), f"out: it has {len(text)} bytes, and by the"
-                             " record 1100 are carried out: its end is lost, or it is another file. Emptied (: > OUT) it"
-                             " begins anew with --anew, and recover leads back by legs")
+                             " record 1100 are carried out: its end is lost, or it is another file. Emptied (: > OUT)"
+                             " it begins anew with --anew, and recover leads back by legs")
         Path("out").write_text(long)
         done = self.play("--untimed", "--restored")
         self.assertEqual((done.returncode, done.stdout.splitlines()[-1]), (0, "reference 0.300000 0.000000 0.000000"))

@@ -2,16 +2,18 @@
 import os
 import subprocess
 import sys
+import time
 import unittest
 from pathlib import Path
 
 sys.path.insert(0, str(Path(__file__).resolve().parent))
 
-from player_support import InC, PlayerTest, Sanitized, record  # noqa: E402
+from player_support import InC, PlayerTest, Sanitized, preloaded, record  # noqa: E402
 from session_support import PATIENCE_S  # noqa: E402
 from test_sink_player import OverSink  # noqa: E402
 
 from ngc_tools.formats.out import OFF, Switch  # noqa: E402
+from ngc_tools.formats.record import Record  # noqa: E402
 from ngc_tools.player.progress import Link  # noqa: E402
 
 ON = "S 1 5.000000 0 1 0 0\n"
@@ -167,6 +169,102 @@ class Rest:
         self.assertEqual(link.ask().outputs, OFF)
         os.close(pipe)
         self.assertEqual(child.wait(PATIENCE_S), 1)
+
+
+# A disk that is full for the record while the file `full` is there.
+FULL = r"""#define _GNU_SOURCE
+#include <dlfcn.h>
+#include <errno.h>
+#include <sys/stat.h>
+#include <unistd.h>
+int fdatasync(int file) {
+    struct stat what, record;
+    int (*real)(int) = dlsym(RTLD_NEXT, "fdatasync");
+    int is_record = fstat(file, &what) == 0 && stat("position", &record) == 0 && what.st_ino == record.st_ino;
+    if (is_record && (access("full", F_OK) == 0 || unlink("once") == 0)) {
+        errno = ENOSPC;
+        return -1;
+    }
+    return real(file);
+}
+"""
+
+
+class FullForTheRecord:
+    """A record that can't be kept, in both players."""
+
+    def test_stands(self) -> None:
+        """It comes to rest, switches off, says why, and carries out nothing more, but goes on with another session once
+        the record can be kept: that has each line that was carried out."""
+        Path("out").write_text(ON + "P 1 0 0 1000\n" * 3000)
+        child = self.begin("--follow", "--no-ask-tool", "--pins", "pins", "--progress", "progress", "out",
+                           "first.toml", "position", env=preloaded("full", FULL))
+        link = self.linked()
+        link.synced(os.path.getsize("out"))
+        self.wait_for("it goes", lambda: link.ask().carried > 100)
+        Path("full").touch()
+        self.wait_for("it is broken off", lambda: link.ask().word == "broken")
+        carried = link.ask().carried
+        self.assertEqual(Path("pins").read_text().splitlines()[-1], "off")
+        for _ in range(10):
+            link.synced(os.path.getsize("out"))
+            self.assertEqual((link.ask().carried, link.ask().word), (carried, "broken"))
+        link.anew()
+        time.sleep(0.1)
+        self.assertNotEqual(link.ask().behind, 0)
+        self.assertLess(link.kept()[0], carried)
+        os.unlink("full")
+        self.wait_for("another session goes on", lambda: (link.ask().word, link.ask().behind) == ("works", 0))
+        self.wait_for("the record has it", lambda: link.kept()[0] == carried)
+        self.assertEqual(Record.read("position").stopped, "")
+        link.synced(os.path.getsize("out"))
+        self.wait_for("it goes on", lambda: link.ask().carried > carried + 10)
+        child.terminate()
+        said = child.communicate()[1]
+        self.assertIn(f"out: stopped after line {carried}: the record can't be kept; position: No space left on device;"
+                      " spindle and coolant off. Once it can, another session goes on\n", said)
+        at = Record.read("position")
+        self.assertEqual(Path("pins").read_text().count("P 1 0 0 1000"), at.lines - 1)
+
+    def test_once(self) -> None:
+        """So it is where a write fails once, and the next one doesn't: it doesn't end."""
+        Path("out").write_text(ON + "P 1 0 0 1000\n" * 9000)
+        child = self.begin("--follow", "--no-ask-tool", "--progress", "progress", "out", "first.toml", "position",
+                           env=preloaded("full", FULL))
+        link = self.linked()
+        link.synced(os.path.getsize("out"))
+        self.wait_for("it goes", lambda: link.ask().carried > 100)
+        Path("once").touch()
+        self.wait_for("it failed", lambda: not os.path.exists("once"))
+        for _ in range(20):
+            before = link.ask()
+            time.sleep(0.02)
+        self.assertTrue(before.word == "broken" or link.ask().carried > before.carried, before)
+        self.assertIsNone(child.poll())
+
+    def test_ends(self) -> None:
+        """Ctrl-C ends it all the same, with the record as it stands where that can be kept by then."""
+        Path("out").write_text(ON + "P 1 0 0 1000\n" * 3000)
+        child = self.begin("--follow", "--no-ask-tool", "--progress", "progress", "out", "first.toml", "position",
+                           env=preloaded("full", FULL))
+        link = self.linked()
+        link.synced(os.path.getsize("out"))
+        self.wait_for("it goes", lambda: link.ask().carried > 100)
+        Path("full").touch()
+        self.wait_for("it is broken off", lambda: link.ask().word == "broken")
+        carried = link.ask().carried
+        os.unlink("full")
+        child.terminate()
+        child.communicate()
+        self.assertEqual((child.returncode, Record.read("position").lines), (1, carried))
+
+
+class FullForPython(FullForTheRecord, PlayerTest):
+    """tools/ngc-player."""
+
+
+class FullForC(FullForTheRecord, InC, PlayerTest):
+    """tools/player."""
 
 
 class COverSink(InC, OverSink):

@@ -1,7 +1,8 @@
-"""Power is lost in jobs by chance, and what the motors made is judged (power.py); so is whether the judge finds faults.
+"""Power is lost in jobs by chance, and what the motors made is judged (power.py); and the judge finds planted faults.
 
-NGC_POWER_S says for how many seconds jobs are tried (default 40)."""
+NGC_POWER_S says for how many seconds jobs are tried in all (default 45)."""
 import os
+import random
 import sys
 import unittest
 from pathlib import Path
@@ -9,11 +10,66 @@ from pathlib import Path
 sys.path.insert(0, str(Path(__file__).resolve().parent))
 
 import power  # noqa: E402
+from power_path import Ledger, Legs, Uncut, Wrong  # noqa: E402
+from power_shop import CUT, SYNC, WRITE, Call, left_of, mark_lasting  # noqa: E402
 from session_support import ngc  # noqa: E402
+
+SECONDS = float(os.environ.get("NGC_POWER_S", "45"))
+
+
+class Judge(unittest.TestCase):
+    """The judge's own model, by hand."""
+
+    def ledger(self) -> Ledger:
+        """Three steps of X, a wait, and one down, with the spindle on."""
+        uncut = Uncut()
+        for line in (b"S 1 900.000000 0 0 0 0", *[b"P 1 0 0 50"] * 3, b"D 9", b"P 0 0 -1 50"):
+            uncut.take(line)
+        return Ledger(uncut, outputs=uncut.last)
+
+    def test_path(self) -> None:
+        """On along it and back; what is made elsewhere, with the spindle off, or left out is wrong."""
+        ledger = self.ledger()
+        ledger.goes(ledger.uncut.moves[:4], 4)
+        ledger.goes([b"P -1 0 0 50"], 2)
+        self.assertEqual((ledger.on, ledger.made, ledger.steps, ledger.back), (2, 4, (2, 0, 0), 1))
+        self.assertRaisesRegex(Wrong, "is at its end", ledger.goes, [b"P -1 0 0 50"], 2)
+        for change, why in (({"on": 3}, "is made at"), ({"steps": (1, 0, 0)}, "and begins at"),
+                            ({"outputs": ("0", "0", "0", "0")}, "is made with"), ({"made": 1}, "never made")):
+            wrong = self.ledger()
+            wrong.__dict__.update({"on": 2, "made": 2, "steps": (2, 0, 0)} | change)
+            self.assertRaisesRegex(Wrong, why, wrong.cut, b"P 1 0 0 50")
+
+    def test_legs(self) -> None:
+        """Up, over, down, and on along the path."""
+        ledger = self.ledger()
+        ledger.steps, ledger.on, ledger.legs = (0, 1, 0), None, Legs(2, 2, (2, 0, 0))
+        ledger.made = 2
+        over = [b"P 1 -1 0 50", b"P 1 0 0 50"]
+        self.assertRaisesRegex(Wrong, "where legs lead up", ledger.goes, over, 3)
+        ledger.goes([b"P 0 0 1 50"] * 2 + over + [b"P 0 0 -1 50"] * 2 + [b"P 1 0 0 50"], 3)
+        self.assertEqual((ledger.on, ledger.made, ledger.steps), (3, 3, (3, 0, 0)))
+
+    def test_disk(self) -> None:
+        """What a sync that failed was to write isn't lasting, also once another one succeeds; what is behind it is. A
+        part of an append is kept, a file isn't cut, or has a hole."""
+        calls = [Call(WRITE, 2, b"bbbb", 4, 1, 2, False), Call(SYNC, 0, b"", 0, 3, 4, True),
+                 Call(WRITE, 6, b"cccc", 4, 5, 6, False), Call(SYNC, 0, b"", 0, 7, 8, False),
+                 Call(CUT, 8, b"", 0, 9, 10, False), Call(WRITE, 8, b"dddd", 4, 11, 12, False)]
+        mark_lasting(calls)
+        chance = random.Random(1)
+        left = {keeps: {left_of(b"aa", calls, keeps, chance, True) for _ in range(200)}
+                for keeps in ("all", "none", "first", "torn", "hole")}
+        self.assertEqual(left["all"], {b"aabbbbccdddd"})
+        self.assertEqual(left["none"], {b"aa\0\0\0\0cccc"})
+        first = {b"aa\0\0\0\0cccc", b"aabbbbcccc", b"aabbbbcc", b"aabbbbccdddd"}
+        self.assertEqual(left["first"], first)
+        self.assertLess(first | {b"aab\0\0\0cccc", b"aabbbbccd"}, left["torn"])
+        self.assertEqual(left["hole"], {head + tail for head in (b"aabbbb", b"aa\0\0\0\0") for tail in (b"ccdddd",)})
 
 
 class Power(unittest.TestCase):
-    """The judge, over a file as OUT, with tools/player."""
+    """Over a file, a pipe and a step sink, with tools/player."""
 
     @classmethod
     def setUpClass(cls) -> None:
@@ -22,11 +78,29 @@ class Power(unittest.TestCase):
         cls.addClassCleanup(cls.tools.consoles.close)
 
     def test_planted(self) -> None:
-        """Each planted fault is found, and none where none is planted."""
+        """Each planted fault is found, where the motors aren't or what isn't on, and nothing where none is planted."""
         for plant in power.PLANTS:
             found = power.try_plant(self.tools, plant, 1)
-            self.assertRegex(found, "motors stand at|is made with|legs lead|is at its end", plant)
+            self.assertRegex(found, "motors stand at|is made with|legs lead|is at its end|are on the disk", plant)
         self.assertEqual(power.try_plant(self.tools, "", 1), "")
+
+    def judged(self, over: str, share: float, seed: int) -> None:
+        """Jobs of seeds from this one on, over a file, a pipe or a sink, for a share of the seconds."""
+        found = power.tried(self.tools, power.Options(over=over, has_moments=False), seed, SECONDS * share)
+        self.assertEqual((found.wrong, found.shown), ([], []))
+        self.assertGreaterEqual(found.chains, 1)
+
+    def test_file(self) -> None:
+        """No line of a file is lost."""
+        self.judged("file", 0.6, 1)
+
+    def test_pipe(self) -> None:
+        """Over a pipe no more than OUT is ahead."""
+        self.judged("pipe", 0.2, 2)
+
+    def test_sink(self) -> None:
+        """What a sink made is known."""
+        self.judged("sink", 0.2, 3)
 
 
 if __name__ == "__main__":

@@ -712,8 +712,8 @@ class Recovering(WithOperator):
         self.assertEqual(face.said, ["recover is for what the last session left, before anything else is done"])
 
     def test_place_within_a_cycle(self) -> None:
-        """The place that is shown is that of the segment, which isn't the block's first: the way out of a hole at X0.002
-        Y0.003, from its bottom at Z-0.004."""
+        """The place that is shown is that of the segment, which isn't the block's first: the way out of a hole at
+        X0.002 Y0.003, from its bottom at Z-0.004."""
         self.device()
         text = "F60\nG81 X0.002 Y0.003 Z-0.004 R0.001\nM2\n"
         self.run_ngc(f"load {len(text)}\n{text}start\ntick 19\nquit\n")
@@ -997,7 +997,7 @@ class BesideThePath(WithOperator):
     """Where the motors aren't where the record's line leads, as once they were homed or measured: the steps of OUT tell
     where the open segment begins, from that line on. `legs` go up to Z 0.004, over, and down."""
 
-    LEGS = ("yes", "0.004", "600", "yes", "yes")
+    LEGS = ("0.004", "600", "yes", "yes")
 
     def lost_again(self) -> None:
         """Power is lost before anything is typed, until the device's log tells nothing any more."""
@@ -1043,7 +1043,7 @@ class BesideThePath(WithOperator):
             child.communicate()
             self.assertIn("\npath 0.003000 0.000000 0.002000\n", Path("position").read_text())
         self.lost_again()
-        operator, _ = self.operate("yes", "yes", "yes", words=("--untimed", "--at", "0.003", "0", "0.002"))
+        operator, _ = self.operate("yes", "yes", words=("--untimed", "--at", "0.003", "0", "0.002"))
         self.assertNotIn("path", Path("position").read_text())
         operator.do("recover")
         self.assertEqual(self.pins()[:2], ["P 0 0 -1 50"] * 2)
@@ -1068,7 +1068,7 @@ class BesideThePath(WithOperator):
         child.kill()
         child.communicate()
         self.assertIn("\npath 0.003000 0.000000 0.002000\n", Path("position").read_text())
-        operator, _ = self.operate(*self.LEGS)
+        operator, _ = self.operate("yes", *self.LEGS)
         operator.do("recover")
         self.assertEqual(self.pins()[1:6], ["P 0 0 -1 100"] * 4 + ["S 0 0.000000 0 0 0 0"])
 
@@ -1081,7 +1081,7 @@ class BesideThePath(WithOperator):
 
     def go_on_from_beside(self) -> None:
         """The motors are 0.02 mm beside the second of these lines: by legs to it, and on."""
-        operator, face = self.operate("yes", "0.004", "600", "yes", words=("--untimed", "--at", "0.002", "0.02", "0"))
+        operator, face = self.operate("0.004", "600", "yes", words=("--untimed", "--at", "0.002", "0.02", "0"))
         operator.do("recover")
         self.assertIn("by the record the motors aren't on the path of OUT: legs lead to it, and then on along 4 lines"
                       " of OUT", face.said)
@@ -1111,6 +1111,65 @@ class BesideThePath(WithOperator):
 
 
 class BesideInC(InC, BesideThePath):
+    """tools/player."""
+
+
+class Questions(WithOperator):
+    """What is asked from a cut to cutting again, as docs/RECOVERY.md counts it: with the spindle on, and all answered
+    as they lead on. `recover` is the one command."""
+
+    def cut(self, real: Callable[[int], None], size: int) -> None:
+        """Cuts OUT."""
+        real(size)
+
+    def lost(self, out: str) -> tuple[str, ...]:
+        """G1 Z-0.010 is open, under a spindle that turned; all of OUT is carried out. Where the motors are then."""
+        self.device()
+        text = "M3 S900\nG0 X0.003\nG1 Z-0.010 F60\nM2\n"
+        reader = subprocess.Popen(["cat", out], stdout=subprocess.DEVNULL) if out == "axis" else None
+        self.run_ngc(f"load {len(text)}\n{text}start\ntick 18\nquit\n", out)
+        mark, lines, size, at = None, 0, 0, Position((1000, 1000, 1000), (3000, 0, -6000))
+        if reader:
+            reader.wait()
+        else:
+            source = Source("out")
+            texts, size = Path("out").read_text().splitlines(), source.size()
+            lines, mark = len(texts), source.mark(size)
+            at = Position((1000, 1000, 1000)).take_all(read_line(text, 1) for text in texts)
+            source.close()
+        Path("position").write_bytes(Record(f"{self.folder}/{out}", lines, size, OFF, at.nm, mark).text())
+        return tuple(str(at).split())
+
+    def asked(self, out: str, *answers: str, words: tuple[str, ...] = ()) -> list[str]:
+        """The first words of each question."""
+        operator, face = self.operate(*answers, out=out, words=("--untimed", *words))
+        operator.do("recover")
+        self.assertEqual(operator.look()[0].half, "none", face.said)
+        last = [said.strip().splitlines()[-1] for said, _ in face.asked]
+        return [said.split(":")[0].split("?")[0].split(",")[0] for said in last]
+
+    def test_file(self) -> None:
+        """Along OUT; without the first one where the place was told, as by --at where the record has it."""
+        self.lost("out")
+        self.assertEqual(self.asked("out", "yes", "yes", "yes", "yes"), [
+            "Do they stand there", "on was", "yes goes there", "yes goes on with the cut"])
+
+    def test_file_told(self) -> None:
+        """The place is told to the player."""
+        at = self.lost("out")
+        self.assertEqual(self.asked("out", "yes", "yes", "yes", words=("--at", *at)), [
+            "on was", "yes goes there", "yes goes on with the cut"])
+
+    def test_pipe(self) -> None:
+        """By legs."""
+        os.mkfifo("axis")
+        self.lost("axis")
+        self.assertEqual(self.asked("axis", "yes", "0.001", "", "yes", "yes", "yes"), [
+            "Do they stand there", "by legs then", "How fast down", "on was", "yes goes there",
+            "yes goes on with the cut"])
+
+
+class QuestionsInC(InC, Questions):
     """tools/player."""
 
 
@@ -1154,8 +1213,8 @@ class EndsWhereItBegan(WithOperator):
         self.lost(lines, count)
         operator, face = self.operate("yes", "yes", "yes")
         lost = len(lines) - count
-        self.assertIn(f"out: {lost} lines that were handed out were lost with the power, and are put back: ngc run hands"
-                      " out the same ones again", face.said)
+        self.assertIn(f"out: {lost} lines that were handed out were lost with the power, and are put back: ngc run"
+                      " hands out the same ones again", face.said)
         operator.do("run")
         self.assertIn("nothing is done: lines stand in OUT", face.said[-1])
         operator.do("recover")
@@ -1214,12 +1273,32 @@ class EndsWhereItBegan(WithOperator):
         self.assertEqual(Path("mill.dev.out").read_bytes(), before)
         operator.console.ask("tool 1 0.5")
         operator.console.load(b"M2\n")  # begins it anew
-        operator.session.passed(replace(operator.console.status(), half="program"))
+        operator.session.passed(replace(operator.console.status(), half="mdi"))
         self.assertEqual(Path("mill.dev.out").read_bytes(), before)
         operator.session.passed(operator.console.status())
         note, device = link.noted(), Device.read("mill.dev")
         self.assertEqual((note.epoch, note.records, note.entries, note.size, note.begins),
                          (device.epoch, 0, device.state.entries, 11, 11))
+
+    def test_as_left(self) -> None:
+        """Over any number of power ons `run` goes on with the next line of a program without a question, as long as
+        nothing else was done since; a line of one's own that moved is still known after them."""
+        self.device()
+        operator, face = self.begun("")
+        operator.load("a program", b"G21 G90\nG0 X0.003\nM0\nG0 X0.006\nM0\nG0 X0.009\nM2\n")
+        operator.do("run")
+        for typed, questions in (("", []), ("G0 Y0.002", ["go on all the same"])):
+            operator.do(typed)
+            for _ in range(3):
+                link = operator.session.meter.link
+                self.wait_for("the record has all", lambda: link.kept()[0] == len(self.lines()))
+                operator.console.kill()
+                self.player.kill()
+                self.player.communicate()
+                operator, face = self.operate("yes")
+            operator.do("run")
+            self.assertEqual([said.split("?")[0] for said, _ in face.asked], questions, face.said)
+        self.assertEqual(operator.look()[1].at.split()[0], "0.009000")
 
     def test_another_out(self) -> None:
         """An OUT that was emptied, as at the start of a day, or that is another one, has lost nothing."""
@@ -1306,8 +1385,8 @@ class Holes(WithOperator):
         self.with_hole(14, 40, 1, (1000, 0, 0))
         operator, face = self.operate("yes", "yes", "yes")
         said = [said for said in face.said if said.startswith("out: ")]
-        self.assertEqual(said, ["out: behind its line 1, at byte 11, 26 bytes of zeros stood in the place of lines, which"
-                                " the disk lost. It\nis cut off there, with 6 lines behind them that no motor carried"
+        self.assertEqual(said, ["out: behind its line 1, at byte 11, 26 bytes of zeros stood in the place of lines,"
+                                " which the disk lost. It\nis cut off there, with 6 lines behind them that no motor carried"
                                 " out", "out: 2 lines that were handed out were lost with the power, and are put back:"
                                 " ngc run hands out the same ones again"])
         operator.do("recover")
@@ -1327,8 +1406,8 @@ class Holes(WithOperator):
         """Zeros at the end, where the file is as long as it was to be."""
         self.with_hole(55, 120, 4, (3000, 0, 1000))
         _, face = self.operate()
-        self.assertIn("out: behind its line 5, at byte 55, 65 bytes of zeros stood in the place of lines, which the disk"
-                      " lost. It\nis cut off there, with 0 lines behind them that no motor carried out", face.said)
+        self.assertIn("out: behind its line 5, at byte 55, 65 bytes of zeros stood in the place of lines, which the"
+                      " disk lost. It\nis cut off there, with 0 lines behind them that no motor carried out", face.said)
         self.assertEqual(Path("out").stat().st_size, 55)
 
     def test_never_cut(self) -> None:
@@ -1430,8 +1509,8 @@ class Unsynced(WithOperator):
         self.disk.fails = True
         self.operator.do("G0 X0.5")
         why = self.operator.session.meter.link.failed
-        self.assertEqual(why, "out: it can't be synced: Input/output error. What was handed out last may be lost, though"
-                         " it can be read, and no motor makes it before it is on the disk. Once the disk is well, quit,"
+        self.assertEqual(why, "out: it can't be synced: Input/output error. What was handed out last may be lost,"
+                         " though it can be read, and no motor makes it before it is on the disk. Once the disk is well, quit,"
                          " and start this again: it writes OUT again")
         self.assertIn(f"{why}; nothing more is handed out", self.face.said)
         handed_out = Path("out").read_bytes()

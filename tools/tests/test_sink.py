@@ -8,117 +8,32 @@ import subprocess
 import sys
 import tempfile
 import unittest
-import zlib
 from collections.abc import Iterator
 from pathlib import Path
-from typing import NamedTuple
 
 sys.path.insert(0, str(Path(__file__).resolve().parent))
 
 from player_support import SANITIZERS, built, has_sanitizers  # noqa: E402
 from session_support import TOOLS  # noqa: E402
+from sink_frames import (ANSWER, ASKED, BROKEN, DEAD, HUNG, INPUT, LEAST, LINE, LINE_SWITCH, MARK, MS,  # noqa: E402
+                         NEW, NOTHING, OUTPUT, REST, RUNS, SILENT, STANDS, STEEP, STOPPED, SWITCH, TOKEN, TOUCHED, WORD,
+                         Answer, answers, begin_frame, framed, slope_of, steep, stop_frame, switches, unstuffed, word,
+                         words_frame)
+from sink_support import IS_CHIP, bench, seen  # noqa: E402
 
 SINK = TOOLS / "sink"
-MS = 8000  # ticks
-LEAST = 40
-TOKEN = 4_000_000_000
-MARK = 2**60 + 3
 NO_MARK = 2**64 - 1
-LINE, LINE_SWITCH = 0x80 << 24, 0x02
-REST, OUTPUT, SWITCH = 0x40, 0x80, 0x01
 FIFO = 2048
-STEEP = 100  # the byte of a slope of 49,152: from 20,000 words a second it takes 559 to stop
-NEW, STANDS, RUNS, STOPPED, BROKEN = range(5)
-NOTHING, SILENT, WORD, ASKED, TOUCHED, INPUT, DEAD = range(7)
 SEEKS, BEGINS, LINKED, ENDED, RESET = range(5)
 TAKEN, LATER, REFUSED = range(3)
 WINDOW = 20 * MS
 RUN_COUNT = int(os.environ.get("NGC_SINK_RUNS", "40"))
+ON_HOST = unittest.skipIf(IS_CHIP, "it is of exact ticks, of what no pin shows, or of more than the line carries then")
 
 
 def program(*parts: Path) -> str:
     """The path of a program of tools/sink, with the sanitizers where there are any."""
     return built("-std=c99", *(SANITIZERS if has_sanitizers() else ("-O2",)), "-I", SINK, sources=parts)
-
-
-def stuffed(body: bytes) -> bytes:
-    """A body as it goes over the line: each zero replaced by how far it is to the next, and one at the end."""
-    return b"".join(bytes([len(run) + 1]) + run for run in body.split(b"\0")) + b"\0"
-
-
-def framed(body: bytes) -> bytes:
-    """A body with its CRC as it goes over the line."""
-    return stuffed(body + struct.pack("<I", zlib.crc32(body)))
-
-
-def word(value: int, bits: int) -> bytes:
-    """A word's five bytes."""
-    return struct.pack("<IB", value, bits)
-
-
-def steep(ticks: int, bits: int) -> tuple[int, int]:
-    """A word with a slope."""
-    return ticks | STEEP << 24, bits
-
-
-def slope_of(value: int) -> int:
-    """How much the square of the rate may change from a word to the next; 2^42 over the square of its ticks."""
-    return (8 | value >> 24 & 7) << (value >> 27 & 15)
-
-
-def words_frame(session: int, first: int, *words: tuple[int, int]) -> bytes:
-    """A frame of words."""
-    return framed(struct.pack("<BII", 1, session, first) + b"".join(word(*each) for each in words))
-
-
-def begin_frame(session: int, stops: int = 0, low: int = 0, halts: int = 0) -> bytes:
-    """A frame that ends a session and begins the next."""
-    return framed(struct.pack("<BIIHHHQ", 2, session, TOKEN, stops, halts, low, MARK))
-
-
-def stop_frame(session: int, at_once: int = 0) -> bytes:
-    """A frame that stops."""
-    return framed(struct.pack("<BIB", 3, session, at_once))
-
-
-class Answer(NamedTuple):
-    """What an answer says."""
-
-    session: int
-    taken: int
-    made: int
-    state: int
-    fault: int
-    inputs: int
-    lost: int
-    token: int
-    touched: int = 0
-    dry: int = 0
-    mark: int = 0
-    lines: int = 0
-
-
-ANSWER = "<BIIIBBHHIIHQI"
-
-
-def answers(line: bytes) -> list[Answer]:
-    """The answers of a line without damage."""
-    found = []
-    for frame in line.split(b"\0")[:-1]:
-        body = unstuffed(frame + b"\0")
-        kind, *fields, crc = struct.unpack(ANSWER + "I", body)
-        assert kind == 4 and crc == zlib.crc32(body[:-4]), frame
-        found.append(Answer(*fields))
-    return found
-
-
-def unstuffed(frame: bytes) -> bytes:
-    """The body of a frame, with its CRC."""
-    body, at = b"", 0
-    while frame[at]:
-        body += frame[at + 1:at + frame[at]] + b"\0"
-        at += frame[at]
-    return body[:-1]
 
 
 class Child:
@@ -152,7 +67,7 @@ class Sink(Child):
 
     def __init__(self) -> None:
         """Starts it with boot 1."""
-        super().__init__(program(*(SINK / name for name in ("sink_posix.c", "sink.c", "make.c", "wire.c"))), "1")
+        super().__init__(*bench())
         self.line = os.open(self.child.stdout.readline().strip(), os.O_RDWR | os.O_NOCTTY)
         self.wrote = self.read = self.now = 0
 
@@ -207,12 +122,6 @@ class Sender(Child):
     def step(self, now: int, line: bytes) -> list[bytes]:
         """The frames that it sends after these bytes came."""
         return self.tell(f"step {now} {line.hex()}")
-
-
-def switches(spindle: int, speed: int, mist: int, flood: int, selected: int, slot: int) -> list[tuple[int, int]]:
-    """The two words of outputs."""
-    value = speed >> 32 << 20 | slot << 12 | selected << 4 | flood << 3 | mist << 2 | spindle
-    return [(speed & 0xffffffff, OUTPUT | REST), (value, OUTPUT | SWITCH | REST)]
 
 
 def lasts(each: tuple[int, int]) -> int:
@@ -400,6 +309,12 @@ class SinkTest(unittest.TestCase):
         self.sink.ask("inputs 0")
         self.boot()
 
+    def check_gaps(self, gaps: list[int], wanted: list[int]) -> None:
+        """Ticks between steps: exactly these, on the chip within a microsecond of them."""
+        self.assertEqual(len(gaps), len(wanted))
+        off = max(abs(gap - each) for gap, each in zip(gaps, wanted))
+        self.assertLessEqual(off, 8 if IS_CHIP else 0, gaps)
+
     def boot(self) -> int:
         """Starts the chip again; the session's number."""
         type(self).boots += 1
@@ -427,6 +342,7 @@ class Bytes(SinkTest):
         events, _ = self.sink.run(10, begin_frame(0x00010000) + frame)
         self.assertEqual([event[1:] for event in events if not is_off(event)], [(1, 0), (2, 2)])
 
+    @ON_HOST
     def test_times(self) -> None:
         """Words are made in their times, and at their end it stands; an S line's outputs come in their place."""
         session = self.began()
@@ -450,6 +366,7 @@ class Bytes(SinkTest):
         self.assertEqual([after.made - answer.made for answer, after in zip(found, found[1:5])], [5] * 4)
         self.assertEqual({answer.state for answer in found[1:5]}, {RUNS})
 
+    @ON_HOST
     def test_begins(self) -> None:
         """It begins with a rest in hand, with 10 ms, or with 256 words; not with less."""
         for words, is_begun in (([(LEAST, 1)] * 200, False), ([(LEAST, 1)] * 255, False), ([(LEAST, 1)] * 256, True),
@@ -484,6 +401,7 @@ class Bytes(SinkTest):
         for frame, taken, lost in cases:
             self.assertEqual(self.sink.last(5, frame)[:7], (session, taken, 0, STANDS, NOTHING, 0, lost), frame)
 
+    @ON_HOST
     def test_room(self) -> None:
         """A frame for which the FIFO has no room is lost, whole."""
         session = self.began()
@@ -516,6 +434,7 @@ class Bytes(SinkTest):
         self.assertEqual((answer.made, answer.mark, answer.lines), (9, NO_MARK, 5))
         self.assertEqual(self.sink.last(6, begin_frame(session))[-2:], (MARK, 0))
 
+    @ON_HOST
     def test_sessions(self) -> None:
         """A session ends only by its number, and while nothing runs. The count goes on; old frames are nothing then."""
         session = self.began()
@@ -548,7 +467,7 @@ class Faults(SinkTest):
     def after(self, ms: int, line: bytes) -> Answer:
         """The last answer, by when spindle and coolant were turned off and nothing came after that; the tool stays."""
         events, sent = self.sink.run(ms, line)
-        self.assertEqual(events[-1][1:], (0, 0, 0, 0, 4, 5))
+        self.assertEqual(events[-1][1:], seen((0, 0, 0, 0, 4, 5)))
         self.assertEqual([event for event in events if is_off(event)], events[-1:])
         return answers(sent)[-1]
 
@@ -572,16 +491,16 @@ class Faults(SinkTest):
         events, line = self.sink.run(80, b"".join(words_frame(session, at + 2, *words[at:at + 40])
                                                   for at in range(0, 200, 40)))
         gaps = [after[0] - event[0] for event, after in zip(events, events[1:])]
-        self.assertEqual(gaps[:170], [2000] * 170)
+        self.check_gaps(gaps[:170], [2000] * 170)
         # The last n words before a rest last 2^21 over the root of n slopes each.
         slope = slope_of(STEEP << 24)
-        self.assertEqual(gaps[-22:], [math.ceil(2**21 / math.isqrt(slope * n)) for n in range(22, 0, -1)])
+        self.check_gaps(gaps[-22:], [math.ceil(2**21 / math.isqrt(slope * n)) for n in range(22, 0, -1)])
         self.assertEqual((answers(line)[-1][2:5], answers(line)[-1].dry), ((202, STANDS, NOTHING), 1))
         more = [steep(2000, 1)] * 40 + [steep(LEAST, REST)]
         events, line = self.sink.run(60, words_frame(session, 202, *more))
         gaps = [after[0] - event[0] for event, after in zip(events, events[1:])]
-        self.assertEqual(gaps[:22], [math.ceil(2**21 / math.isqrt(slope * n)) for n in range(1, 23)])
-        self.assertEqual(gaps[22:40], [2000] * 18)
+        self.check_gaps(gaps[:22], [math.ceil(2**21 / math.isqrt(slope * n)) for n in range(1, 23)])
+        self.check_gaps(gaps[22:39], [2000] * 17)
         self.assertEqual((answers(line)[-1][2:5], answers(line)[-1].dry), ((243, STANDS, NOTHING), 1))
 
     def test_goes_on_in_time(self) -> None:
@@ -597,7 +516,7 @@ class Faults(SinkTest):
         slope = slope_of(STEEP << 24)
         rates = [2**42 / each**2 for each in ticks[count - 2:-1]]
         self.assertTrue(all(abs(after - rate) < slope * 1.05 for rate, after in zip(rates, rates[1:])))
-        self.assertEqual(ticks[-2], 2000)
+        self.check_gaps(ticks[-2:-1], [2000])
         self.assertEqual((answers(line)[-1][2:5], answers(line)[-1].dry), ((243, STANDS, NOTHING), 0))
 
     def test_silent(self) -> None:
@@ -618,14 +537,16 @@ class Faults(SinkTest):
         words = [steep(4000, 1)] * 1900 + [steep(LEAST, 1 | REST)]  # 950 ms; a stop takes six words
         line = b"".join(words_frame(session, at + 2, *words[at:at + 48]) for at in range(0, len(words), 48))
         events, _ = self.sink.run(480, line)
-        events += self.sink.run(60)[0]
-        gaps = [after[0] - event[0] for event, after in zip(events, events[1:])]
+        events += self.sink.run(120)[0]
+        steps = [event for event in events if len(event) == 3]
+        gaps = [after[0] - event[0] for event, after in zip(steps, steps[1:])]
         slope = slope_of(STEEP << 24)
         left = math.ceil(2**21 / 4000) ** 2
         braked = [math.ceil(2**21 / math.isqrt(left - n * slope)) for n in range(1, 6)]
-        self.assertEqual((gaps[-7:-1], is_off(events[-1])), ([4000, *braked], True))
+        self.check_gaps(gaps[-6:], [4000, *braked])
+        self.assertTrue(is_off(events[-1]))
         answer = self.sink.last(5)
-        self.assertEqual(answer.made - 2, len(events) - 1)
+        self.assertEqual(answer.made - 2, len(steps))
         self.stopped(answer, answer.made, STOPPED, SILENT)
 
     def test_input(self) -> None:
@@ -644,6 +565,62 @@ class Faults(SinkTest):
             self.assertLessEqual(answer.made - made, 10)
             self.stopped(answer, answer.made, BROKEN, INPUT)
 
+    @ON_HOST
+    def test_debounce(self) -> None:
+        """An input that stops dead is heeded once it was on for debounce_us, within twice that; one look alone isn't
+        enough. In motion and at rest."""
+        for ticks in (800, MS, 16 * MS):
+            session = self.boot() + 1
+            self.sink.run(6, begin_frame(session - 1, stops=4, debounce_us=2000))
+            line = b"".join(words_frame(session, at, *[(ticks, 1)] * 40, (LEAST, REST)) for at in range(0, 820, 41))
+            self.sink.run(5, line)
+            self.sink.ask("inputs 4")
+            self.sink.run(1)
+            self.sink.ask("inputs 0")
+            answer = self.sink.last(6)
+            self.assertEqual((answer.state, answer.fault, answer.inputs), (RUNS, NOTHING, 0), ticks)
+            at = self.sink.now
+            self.sink.ask("inputs 4")
+            events, line = self.sink.run(10)
+            off = next(event[0] for event in events if len(event) == 7) - at
+            self.assertTrue(2 * MS <= off <= 5 * MS, (ticks, off))
+            told = [answer.inputs for answer in answers(line) if answer.state in (STANDS, RUNS)]
+            self.assertEqual((answers(line)[-1].fault, answers(line)[-1].inputs, set(told) - {0}), (INPUT, 4, set()))
+            self.sink.ask("inputs 0")
+
+    @ON_HOST
+    def test_hung(self) -> None:
+        """The main loop doesn't come by any more: the timer alone brings the motors to rest, by the slopes."""
+        session = self.began()
+        words = [steep(400, 1)] * 2000  # 20,000 a second, from which a stop takes 559 words and 56 ms
+        line = b"".join(words_frame(session, at + 2, *words[at:at + 48]) for at in range(0, len(words), 48))
+        self.sink.run(20, line)
+        self.sink.ask("hang 130")
+        at = self.sink.now
+        events, _ = self.sink.run(129)
+        steps = [event for event in events if len(event) == 3]
+        gaps = [after[0] - event[0] for event, after in zip(steps, steps[1:])]
+        slope, left = slope_of(STEEP << 24), math.ceil(2**21 / 400) ** 2
+        begun = len(gaps) - gaps[::-1].index(400)
+        self.assertTrue(20 * MS <= steps[begun][0] - at < 22 * MS, steps[begun][0] - at)
+        self.assertEqual(gaps[begun:begun + 555],
+                         [math.ceil(2**21 / math.isqrt(left - n * slope)) for n in range(1, 556)])
+        self.assertLess(len(gaps), begun + 562)
+        self.assertTrue(is_off(events[-1]))
+        answer = self.sink.last(10)
+        self.assertEqual(answer[3:5], (STOPPED, HUNG))
+        self.stopped(answer, answer.made, STOPPED, HUNG)
+
+    @ON_HOST
+    def test_comes_by(self) -> None:
+        """A main loop that is late for less than 20 ms is no fault."""
+        session = self.began()
+        words = [(400, 1)] * 1000
+        line = b"".join(words_frame(session, at + 2, *words[at:at + 48]) for at in range(0, len(words), 48))
+        self.sink.run(5, line)
+        self.sink.ask("hang 18")
+        self.assertEqual(self.sink.last(26)[3:5], (RUNS, NOTHING))
+
     def test_halts(self) -> None:
         """An input that brings it to rest: by the slopes, and it says after how many words it came on."""
         session = self.began(halts=2)
@@ -653,7 +630,7 @@ class Faults(SinkTest):
         self.sink.ask("inputs 2")
         answer = self.after(200, b"")
         self.assertEqual(answer[3:6], (STOPPED, TOUCHED, 2))
-        self.assertEqual(answer.touched, made)
+        self.assertIn(answer.touched - made, (0, 1) if IS_CHIP else (0,))  # its inputs come on a little later
         self.assertAlmostEqual(answer.made - answer.touched, 90, delta=2)
         self.assertEqual(self.sink.last(5, begin_frame(session)).touched, 0)
 
@@ -666,6 +643,7 @@ class Faults(SinkTest):
         self.sink.ask("inputs 0")
         self.assertEqual(self.sink.last(6)[1:5], (0, 0, STOPPED, TOUCHED))
 
+    @ON_HOST
     def test_input_at_rest(self) -> None:
         """At rest too, and within a long wait."""
         self.began(1)
@@ -680,6 +658,7 @@ class Faults(SinkTest):
         self.assertLessEqual(events[0][0] - self.sink.now + 5 * MS, MS)
         self.stopped(answers(line)[-1], 3, STOPPED, INPUT)
 
+    @ON_HOST
     def test_word(self) -> None:
         """A word that isn't one: nothing of its frame is taken, and it comes to rest."""
         bad = [(39, 1), (0, REST), (LEAST, OUTPUT), (LEAST, OUTPUT | SWITCH), (LEAST, OUTPUT | REST | 4),
@@ -714,6 +693,7 @@ class Faults(SinkTest):
         self.assertEqual((events, answers(line)[-1]), ([], (now, 0, 0, NEW, NOTHING, 0, 0, 0, 0, 0, 0, 0)))
 
 
+@ON_HOST
 class Sent(SinkTest):
     """Both halves, over a line."""
 

@@ -1,34 +1,16 @@
 -- A lifetime of a device in a file is one of a device, since what each loss of power leaves is a stop.
-use Rattle.std.proofs.Common.{◌≡◌, ◌≤◌, ℕ, List, [], ◌∷◌, ◌++◌, Bool, true, false, Option, None, Some, refl, sym, ap, subst, inl, ◌∙◌}
+use Rattle.std.proofs.Common.{◌≡◌, ◌≤◌, ℕ, List, [], ◌∷◌, ◌++◌, Option, None, Some, sym, ap, subst, inl, ◌∙◌}
 use Rattle.ng_canon.specs.declared.geometry.Geometry.{Geometry}
-use Rattle.ng_rig.specs.Rig.{Device}
 use Rattle.ng_rig.specs.Continuation.{IsSynced}
 use Rattle.ng_rig.specs.Trace.{Image, Trace, Began, reads, items, moment, trace_at, IsStop}
-use Rattle.ng_session.specs.declared.event.Event.{Event}
-use Rattle.ng_session.specs.declared.reply.Reply.{Reply}
-use Rattle.ng_core.specs.AnsweredEvents.{AreAnsweredEvents, IsAnsweredEvent}
 use Rattle.ng_core.specs.Lifetime.{DeviceSession, EndsSession, GivenEvents, IsDeviceSession, IsFoundAs, IsLifetime, StopsSession}
-use Rattle.ng_core.specs.Model.{ControllerModel}
 use Rattle.ng_core.specs.Power.{PowerOnResult, power_on_rig}
 use Rattle.ng_file.specs.Promise.{Promise, IsLeft}
 use Rattle.ng_file.specs.Rig.{device_of, sector_count, storage_at}
 use Rattle.ng_file.specs.Sectors.{image_of}
 use Rattle.ng_file.specs.declared.rig.FileRig.{FileRig}
+use Rattle.ng_console.proofs.HonestDeviceLemmas.{honest-after-all, honest-powered}
 use Rattle.ng_console.specs.FileLifetime.{EndsInFile, IsFileLifetime, IsFileSession, LosesPower}
-
--- an event leaves an honest device honest
-honest-after : {A R : Type 0} (seen : R → Device) (event : Event A) (r : Reply) (broken : Bool) (old new : ControllerModel R) → old.journal.broken ≡ broken
-    → IsAnsweredEvent seen event r old new → (seen old.journal.rig).honest → (seen new.journal.rig).honest
-honest-after seen event r false old new is t honest = (t.serves is).carried.does.keeps honest
-honest-after {R = R} seen event r true old new is t honest = subst (λ (c : ControllerModel R). (seen c.journal.rig).honest) (sym (t.refuses is).0) honest
-
-pub honest-after-all : {A R : Type 0} (seen : R → Device) (events : List (Event A)) (replies : List Reply) (old new : ControllerModel R)
-    → AreAnsweredEvents seen events replies old new → (seen old.journal.rig).honest → (seen new.journal.rig).honest
-honest-after-all {R = R} seen [] [] old new t honest = subst (λ (c : ControllerModel R). (seen c.journal.rig).honest) (sym t) honest
-honest-after-all seen [] (r ∷ replies) old new t honest = absurd t
-honest-after-all seen (event ∷ events) [] old new t honest = absurd t
-honest-after-all seen (event ∷ events) (r ∷ replies) old new t honest =
-    honest-after-all seen events replies t.0 new t.1.1 (honest-after seen event r old.journal.broken old t.0 refl t.1.0 honest)
 
 module _ {S W A E : Type 0} (content : S → Option (List ℕ)) (promise : S → Promise)
     (law : (rig : FileRig S W A) (t : ℕ) (image : Image) → (device_of content promise rig).honest → t ≤ moment (device_of content promise rig).trace
@@ -80,7 +62,7 @@ module _ {S W A E : Type 0} (content : S → Option (List ℕ)) (promise : S →
         found = subst (IsFoundAs s.is_grown left) (sym (ap reads f.over.begins)) f.found;
         geometry_is = f.geometry_is;
         powers = f.powers;
-        ends = given s image f.over.begins s.given ((f.powers.powers f.enough s.settings.tools (λ header force format. refl)).keeps honest) f.ends;
+        ends = given s image f.over.begins s.given (honest-powered (device_of content promise) s.settings s.rig s.answer f.powers honest) f.ends;
       }
 
   pub lifetime : (geometry : Geometry) (left : Image) (life : List (DeviceSession E (FileRig S W A))) → IsFileLifetime content promise geometry left life

@@ -5,4 +5,6 @@ mod JobWordLemmas
 mod DryRunLemmas
 mod DeviceHeaderLemmas
 mod DeviceCopyLemmas
+mod HonestDeviceLemmas
 mod FileLifetimeLemmas
+mod SettlingLemmas

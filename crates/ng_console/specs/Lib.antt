@@ -3,6 +3,7 @@ pub mod SettingsFile
 pub mod Refusals
 pub mod DryRuns
 pub mod Format
+pub mod Settling
 pub mod Operating
 pub mod Pacing
 pub mod Program

@@ -33,17 +33,18 @@ module _ {F : Type 0} (bytes_of : F → Option (List ℕ)) where
   RunsChosen content (Ok settings) block_delete None program old new status = RunsFile settings block_delete program old new status
   RunsChosen content (Err why) block_delete from program old new status = RefusesSettings why old new status
 
+module _ {F : Type 0} (bytes_of contents : F → Option (List ℕ)) where
   -- what the job asks for, of files that were opened or not, and of the text of an operator
   abbrev pub JobSpec : Job → Option (List ℕ) → Option (List ℕ) → Option (List ℕ) → ℕ → Type 0
   JobSpec (Dry program from settings block_delete) text old new status =
       (settings_file : Option (Result F Error)) × (device : Option (Result (OpenedFile F) NoDevice)) × (program_file : Result F Error)
       × (is_some settings_file ≡ is_some settings) × (is_some device ≡ is_some from)
       × ((chosen : Result Settings NoSettings) × GivesChoice bytes_of settings_file chosen
-      × RunsChosen (λ (file : OpenedFile F). None) chosen block_delete device program_file old new status)
+      × RunsChosen bytes_of (λ (file : OpenedFile F). None) chosen block_delete device program_file old new status)
   JobSpec (Format device large) text old new status = (opened : Result (OpenedFile F) NoDevice)
       × FormatsOpened (λ (file : OpenedFile F). None) (λ (file : OpenedFile F). no_promise) large opened old new
       status
   JobSpec (Grow device) text old new status =
       (opened : Result (OpenedFile F) NoDevice) × GrowsOpened (λ (file : OpenedFile F). None) (λ (file : OpenedFile F). None) opened old new status
-  JobSpec (Run device settings out) text old new status = Operates bytes_of text old new status
+  JobSpec (Run device settings out) text old new status = Operates bytes_of contents text old new status
   JobSpec (Pace settings machine total) text old new status = Paces bytes_of total text old new status

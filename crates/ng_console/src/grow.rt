@@ -2,6 +2,7 @@
 ghost use Rattle.std.specs.Prelude.{◌≡◌, ◌≤◌, ◌⊎◌, IfErr, IfOk, IfSome, IsErrOf, OnOk, Some, false, is_some, true};
 ghost use Rattle.ng_num.specs.declared.fault.Fault.TheVariants.{DeviceFailed, NotFormatted};
 ghost use Rattle.ng_file.specs.Bytes.{Lengthened, LengthenedInPart, sector_of};
+ghost use Rattle.ng_file.specs.WeakPromise.{HoldsNothingMore, IfWeaklyPromised};
 ghost use Rattle.ng_layout.specs.Header.{header_in};
 ghost use Rattle.ng_layout.specs.Stands.{newer};
 ghost use Rattle.ng_console.specs.Grow.{GrowsFile, GrowsInPart, GrowsOpened, is_device, large_bytes};
@@ -91,6 +92,7 @@ pub(crate) fn is_device<S: Storage>(file: &mut S) -> io::Result<bool>
     ensures value { IfOk result (λ truth. IfSome (S.content file.old) (λ held. truth ≡ is_device held)) }
     ensures stays { S.content file.new ≡ S.content file.old }
     ensures honest { (S.promise file.old).honest → (S.promise file.new).honest }
+    ensures weakly { IfWeaklyPromised (S.weak_promise file.old) (S.weak_promise file.new) (HoldsNothingMore (S.weak_promise file.old) (S.weak_promise file.new)) }
 {
     let length = file.length()?;
     if length < LEAST_BYTES {
@@ -110,6 +112,7 @@ fn read_header<S: Storage>(file: &mut S, is_large: bool, sector: u64) -> io::Res
         (sector_of sector held))) }
     ensures stays { S.content file.new ≡ S.content file.old }
     ensures honest { (S.promise file.old).honest → (S.promise file.new).honest }
+    ensures weakly { IfWeaklyPromised (S.weak_promise file.old) (S.weak_promise file.new) (HoldsNothingMore (S.weak_promise file.old) (S.weak_promise file.new)) }
 {
     let mut bytes = [0; SECTOR_BYTES];
     file.read_at(sector * SECTOR_BYTES as u64, &mut bytes)?;

@@ -6,7 +6,8 @@
 //! the line that says why not (`format_rig`); that `grow` appends zeros to what the device held, or writes the line
 //! that says why not (`grow_file`); that `run` is the console's conversation over the device in a file, or writes the
 //! line that says why there is none; and that `pace` writes the lines that it reads, each behind the time at which it
-//! is due (`ngc`, for any job).
+//! is due (`ngc`, for any job). Of a file of settings or of a machine at most a mebibyte and a byte is read
+//! (`read_whole`).
 //!
 //! Each job is done by another crate: `ng_dry` reads a program and writes its text, `ng_journal` formats a device, and
 //! `ng_run` talks to an operator; `ng_motion` reads what motors allow, and `ng_schedule` paces lines. `clap` parses the
@@ -32,3 +33,4 @@ pub use from_device::dry_from_device;
 pub use grow::grow_file;
 pub use operating::operate_device;
 pub use program::{ngc, run_dry, start};
+pub use settings_file::{NoBytes, read_whole};

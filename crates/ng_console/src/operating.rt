@@ -1,21 +1,27 @@
 //! The job `run`: an operator commands a controller over a device.
-ghost use Rattle.std.specs.Prelude.{◌≡◌, ◌≤◌, Result, Some, IfOk, IfSome, OnOk};
+ghost use Rattle.std.specs.Prelude.{◌≡◌, ◌≤◌, Result, Some, IfErr, IfOk, IfSome, OnOk};
 ghost use Rattle.ng_file.specs.declared.device.NoDevice.{NoDevice};
 ghost use Rattle.ng_file.specs.declared.opened.OpenedFile.{OpenedFile};
 ghost use Rattle.ng_file.specs.Promise.{IsDurable};
-ghost use Rattle.ng_console.specs.Operating.{OperatesChosen, OperatesDevice, OperatesOpened};
+ghost use Rattle.ng_file.specs.WeakPromise.{IfWeaklyPromised};
+ghost use Rattle.ng_console.specs.Operating.{LeavesFilesAlone, OperatesChosen, OperatesDevice, OperatesOpened, OperatesSettled};
+ghost use Rattle.ng_console.specs.Settling.{SettlesTheRest};
 
 use crate::format::{refuse_device, refuse_storage};
 use crate::grow::is_device;
 use crate::program::refuse_settings;
 use crate::settings_file::NoSettings;
-use ng_file::{FileRig, Hold, NoDevice, NotHeld, Storage, is_same_file, open_device, rewrite};
+use ng_file::{
+    Beginning, FileRig, Hold, NoDevice, NotHeld, RecordedRig, Storage, is_same_file, open_device,
+    rewrite,
+};
 use ng_run::{FAILED, console};
 use ng_settings::Settings;
 use std::alloc::Global;
 use std::fs::OpenOptions;
 use std::io;
 use std::io::{ErrorKind, Read, Write};
+use std::marker::Brand;
 use std::rt::Files;
 
 /// Operates the machine of a device with the settings that were found, and returns the exit status. If there are none,
@@ -31,7 +37,7 @@ pub(crate) fn operate_chosen<R: Files + AllocGlobal, I: Read, W: Write>(
 ) -> io::Result<u8>
 where
     R::File: Hold,
-    ensures run { IfOk result (OperatesChosen R.File chosen (I.remaining reader.old) (W.contents writer.old) (W.contents writer.new)) }
+    ensures run { IfOk result (OperatesChosen R.File.contents chosen (I.remaining reader.old) (W.contents writer.old) (W.contents writer.new)) }
     ensures range { IfOk result (λ status. status ≤ 2) }
 {
     match chosen {
@@ -62,13 +68,23 @@ where
     R::File: Hold,
     ensures run { IfOk result
         (λ status. (device : Result (OpenedFile R.File) NoDevice)
-        × OperatesOpened settings device (I.remaining reader.old) (W.contents writer.old)
+        × OperatesOpened R.File.contents settings device (I.remaining reader.old) (W.contents writer.old)
         (W.contents writer.new) status) }
     ensures range { IfOk result (λ status. status ≤ 2) }
 {
     match open_device(rt, device) {
         Ok(file) => match open_out(rt, out) {
-            Ok(out) => operate_device(rt.alloc(), settings, file, out, reader, writer),
+            Ok(out) => {
+                let (status, _, _) = operate_device(
+                    rt.alloc(),
+                    settings,
+                    file,
+                    out,
+                    reader,
+                    writer,
+                );
+                status
+            }
             Err(_) => Ok(FAILED),
         },
         Err(why) => refuse_device(writer, why),
@@ -91,8 +107,8 @@ where
 
 /// Operates the machine of the device in these bytes, and appends what is handed out to a file. Before that it makes
 /// what a read of them returns durable (`settle`). If that fails, the line of J1 is written, and nothing else is done.
-/// The error is the writer's, and is possible only then, or if the length can't be read or there is no memory for a
-/// line of the file.
+/// It gives the bytes and the file back. The error is the writer's, and is possible only then, or if the length can't
+/// be read or there is no memory for a line of the file.
 pub fn operate_device<S: Storage + Drop, O: Write + Drop, I: Read, W: Write>(
     alloc: Global,
     settings: Settings,
@@ -100,21 +116,44 @@ pub fn operate_device<S: Storage + Drop, O: Write + Drop, I: Read, W: Write>(
     out: O,
     reader: &mut I,
     writer: &mut W,
-) -> io::Result<u8>
-    ensures run { IfOk result
-        (OperatesDevice S.content S.lasting S.promise settings device out (I.remaining reader.old) (W.contents writer.old)
-        (W.contents writer.new)) }
-    ensures range { IfOk result (λ status. status ≤ 2) }
+) -> (io::Result<u8>, S, O)
+    ensures run { IfOk result.0 (λ status.
+        OperatesDevice S.content O.contents S.promise settings (I.remaining reader.old) (W.contents writer.old) (W.contents writer.new)
+        S.lasting S.weak_promise device out status result.1 result.2) }
+    ensures failed { IfErr result.0 (λ error. LeavesFilesAlone S.content device result.1 out result.2) }
+    ensures range { IfOk result.0 (λ status. status ≤ 2) }
 {
     if settle(&mut device).is_err() {
-        return refuse_device(writer, NoDevice::Unusable);
+        return (refuse_device(writer, NoDevice::Unusable), device, out);
     }
-    match FileRig::over(alloc, device, out) {
+    operate_settled::<S, O, I, W, Brand>(alloc, settings, device, out, reader, writer)
+}
+
+/// Operates the machine of a device that is settled, and gives the bytes and the file back. What that held at first is
+/// known by a type (`Beginning`).
+fn operate_settled<S: Storage + Drop, O: Write + Drop, I: Read, W: Write, B: Beginning>(
+    alloc: Global,
+    settings: Settings,
+    device: S,
+    out: O,
+    reader: &mut I,
+    writer: &mut W,
+) -> (io::Result<u8>, S, O)
+    requires { B.first ≡ O.contents out }
+    ensures run { IfOk result.0 (λ status.
+        OperatesSettled S.content O.contents S.promise settings (I.remaining reader.old) (W.contents writer.old) (W.contents writer.new)
+        device out status result.1 result.2) }
+    ensures failed { IfErr result.0 (λ error. LeavesFilesAlone S.content device result.1 out result.2) }
+    ensures range { IfOk result.0 (λ status. status ≤ 2) }
+{
+    match FileRig::over_or_back(alloc, device, out) {
         Ok(rig) => {
-            let (status, _) = console(alloc, reader, writer, rig, settings);
-            Ok(status)
+            let rig = RecordedRig::<S, O, Global, B>::of(rig);
+            let (status, rig) = console(alloc, reader, writer, rig, settings);
+            let (device, out) = rig.into_parts();
+            (Ok(status), device, out)
         }
-        Err(error) => refuse_storage(writer, error),
+        Err((error, device, out)) => (refuse_storage(writer, error), device, out),
     }
 }
 
@@ -139,9 +178,12 @@ fn settle<S: Storage>(device: &mut S) -> io::Result<()>
     ensures lasts { OnOk result (IfSome (S.lasting device.new) (λ held. S.content device.new ≡ Some held)) }
     ensures honest { (S.promise device.old).honest → (S.promise device.new).honest }
     ensures durable { (S.promise device.old).honest → OnOk result (IsDurable (S.content device.new) (S.promise device.new)) }
+    ensures weakly { IfWeaklyPromised (S.weak_promise device.old) (S.weak_promise device.new)
+        (OnOk result (IfSome (S.content device.old) (λ held. SettlesTheRest held (S.weak_promise device.old) (S.weak_promise device.new)))) }
 {
-    if is_device(device)? {
-        rewrite(device)?;
+    if !is_device(device)? {
+        return device.sync();
     }
+    rewrite(device)?;
     device.sync()
 }

@@ -1,12 +1,14 @@
 //! The job `pace`: when each line of OUT is due.
-ghost use Rattle.std.specs.Prelude.{◌≡◌, ◌≢◌, ◌≤◌, IfOk, IfSome, OnOk, Result};
+ghost use Rattle.std.specs.Prelude.{◌≡◌, ◌≢◌, ◌≤◌, IfOk, IfSome, OnOk, Result, length};
 ghost use Rattle.std.specs.Io.KnownBytes.{Appends};
+ghost use Rattle.ng_pace.specs.Axes.{AreLimits};
 ghost use Rattle.ng_pace.specs.declared.limits.Limits.{Limits};
 ghost use Rattle.ng_console.specs.Pacing.{FindsIn, FindsLimits, IsPaced, PacesChosen, PacesFound};
 ghost use Rattle.ng_console.specs.Pacing.{pace_status, refused_machine_text, shown_of};
+ghost use Rattle.ng_console.specs.SettingsFile.{most_bytes};
 
 use crate::program::refuse_settings;
-use crate::settings_file::NoSettings;
+use crate::settings_file::{NoBytes, NoSettings, read_whole};
 use ng_canon::Geometry;
 use ng_motion::{MotionFault, limits};
 use ng_pace::Limits;
@@ -25,13 +27,17 @@ const REFUSED: u8 = 1;
 pub(crate) enum NoLimits {
     /// The file can't be opened or read, or there is no memory for its bytes.
     Unread,
+    /// The file is longer than 1,048,576 bytes.
+    TooLong,
     /// The text is refused.
     Refused(MotionFault),
 }
 
 /// The limits of a text.
 fn limits_of_text(alloc: Global, text: &[u8], machine: &Geometry) -> Result<Limits, NoLimits>
+    requires { length text.now ≤ most_bytes }
     ensures finds { FindsLimits text.now machine.now result }
+    ensures met { IfOk result AreLimits }
     ensures read { result ≢ Err NoLimits.Unread }
 {
     match limits(alloc, text, machine) {
@@ -46,12 +52,13 @@ fn limits_of_file<R: Read + Drop>(
     mut file: R,
     machine: &Geometry,
 ) -> Result<Limits, NoLimits>
-    ensures { IfSome (R.remaining file) (λ text. FindsLimits text machine.now result) }
+    ensures finds { IfSome (R.remaining file) (λ text. FindsLimits text machine.now result) }
+    ensures met { IfOk result AreLimits }
 {
-    let mut bytes = Vec::new(alloc);
-    match file.read_to_end(&mut bytes) {
-        Ok(_) => limits_of_text(alloc, bytes.as_slice(), machine),
-        Err(_) => Err(NoLimits::Unread),
+    match read_whole(alloc, &mut file) {
+        Ok(bytes) => limits_of_text(alloc, bytes.as_slice(), machine),
+        Err(NoBytes::TooLong) => Err(NoLimits::TooLong),
+        Err(NoBytes::Unread) => Err(NoLimits::Unread),
     }
 }
 
@@ -61,7 +68,8 @@ fn limits_of_opened<R: Read + Drop>(
     opened: io::Result<R>,
     machine: &Geometry,
 ) -> Result<Limits, NoLimits>
-    ensures { FindsIn R.remaining opened machine.now result }
+    ensures finds { FindsIn R.remaining opened machine.now result }
+    ensures met { IfOk result AreLimits }
 {
     match opened {
         Ok(file) => limits_of_file(alloc, file, machine),
@@ -106,6 +114,7 @@ fn pace_lines<I: Read, W: Write>(
     reader: &mut I,
     writer: &mut W,
 ) -> u8
+    requires { AreLimits limits }
     ensures run { IsPaced limits total (I.remaining reader.old) (W.contents writer.old) (W.contents writer.new) result }
     ensures range { result ≤ 2 }
 {
@@ -113,8 +122,8 @@ fn pace_lines<I: Read, W: Write>(
     pace_status(&ended)
 }
 
-/// The same with the limits that were found. If there are none, no line is read, and if the machine was refused, the
-/// line of its fault is written. The error is the writer's while it writes that.
+/// The same with the limits that were found. If there are none, no line is read, and if the machine's file is too long
+/// or was refused, a line says so. The error is the writer's while it writes that.
 fn pace_found<I: Read, W: Write>(
     alloc: Global,
     found: Result<Limits, NoLimits>,
@@ -122,6 +131,7 @@ fn pace_found<I: Read, W: Write>(
     reader: &mut I,
     writer: &mut W,
 ) -> io::Result<u8>
+    requires { IfOk found AreLimits }
     ensures run { IfOk result
         (PacesFound found total (I.remaining reader.old) (W.contents writer.old) (W.contents writer.new)) }
     ensures range { IfOk result (λ status. status ≤ 2) }
@@ -129,6 +139,10 @@ fn pace_found<I: Read, W: Write>(
     match found {
         Ok(limits) => Ok(pace_lines(alloc, limits, total, reader, writer)),
         Err(NoLimits::Unread) => Ok(FAILED),
+        Err(NoLimits::TooLong) => {
+            writer.write_all(b"refused MACHINE: it is longer than 1,048,576 bytes\n")?;
+            Ok(FAILED)
+        }
         Err(NoLimits::Refused(fault)) => {
             refuse_machine(writer, fault)?;
             Ok(FAILED)

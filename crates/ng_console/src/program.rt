@@ -42,7 +42,7 @@ where
     R::File: Hold,
     ensures status { result ≤ 2 }
     ensures run { (result ≡ 2) ⊎ ((texts : List (List ℕ)) × ((job : Job) × RequestsJob texts job
-        × JobSpec R.File.remaining job (I.remaining reader.old) (W.contents writer.old)
+        × JobSpec R.File.remaining R.File.contents job (I.remaining reader.old) (W.contents writer.old)
         (W.contents writer.new) result)) }
 {
     let Ok(_streams) = open_streams(rt) else {
@@ -88,9 +88,10 @@ fn given_words<R: Env + AllocGlobal>(rt: &R) -> io::Result<Vec<String>> {
 /// line written says where and why. It is 2 in these cases, of which the first that holds counts:
 /// - The words ask for nothing that `ngc` does, or for help: clap's text is written.
 /// - Two of the three files of `run` are the same: nothing is written or created.
-/// - The settings file can't be opened or read: nothing is written. It is refused: one line with its fault is written.
+/// - The settings file can't be opened or read: nothing is written. It is longer than 1,048,576 bytes, of which one
+///   more is read at most, or it is refused: one line that says so is written.
 /// - Another file can't be opened or read, or the file for hand-outs can't be held: nothing is written. A device can't
-///   be used: one line with its fault is written.
+///   be used: one line with its fault is written. A machine's file is refused as settings are.
 /// - The device, the reader or the writer fails, or there is no memory.
 ///
 /// Source: own.
@@ -105,7 +106,7 @@ where
     ensures status { result ≤ 2 }
     ensures refused { ((job : Job) → RequestsJob (map (λ s. s.now) given.now) job → ⊥) → result ≡ 2 }
     ensures run { (result ≡ 2) ⊎ ((job : Job) × RequestsJob (map (λ s. s.now) given.now) job
-        × JobSpec R.File.remaining job (I.remaining reader.old) (W.contents writer.old)
+        × JobSpec R.File.remaining R.File.contents job (I.remaining reader.old) (W.contents writer.old)
         (W.contents writer.new) result) }
 {
     match words(rt.alloc(), given) {
@@ -128,7 +129,7 @@ fn carry_out<R: Files + AllocGlobal, I: Read, W: Write>(
 where
     R::File: Hold,
     ensures status { result ≤ 2 }
-    ensures run { (result ≡ 2) ⊎ JobSpec R.File.remaining job.entry (I.remaining reader.old) (W.contents writer.old)
+    ensures run { (result ≡ 2) ⊎ JobSpec R.File.remaining R.File.contents job.entry (I.remaining reader.old) (W.contents writer.old)
         (W.contents writer.new) result }
 {
     match job {
@@ -211,13 +212,17 @@ fn run_chosen<S: Storage + Drop, R: Read + Drop, W: Write, A: Allocator + Copy +
 }
 
 /// Reports why there are no settings, and returns the exit status. Nothing is written for a file that can't be read;
-/// the line of the fault for a text that is refused. The error is the writer's.
+/// a line for one that is too long, and for a text that is refused. The error is the writer's.
 pub(crate) fn refuse_settings<W: Write>(writer: &mut W, why: NoSettings) -> io::Result<u8>
     ensures run { IfOk result (RefusesSettings why (W.contents writer.old) (W.contents writer.new)) }
     ensures range { IfOk result (λ status. status ≤ 2) }
 {
     match why {
         NoSettings::Unread => Ok(FAILED),
+        NoSettings::TooLong => {
+            writer.write_all(b"refused SETTINGS: it is longer than 1,048,576 bytes\n")?;
+            Ok(FAILED)
+        }
         NoSettings::Refused(fault) => {
             refuse(writer, fault)?;
             Ok(FAILED)

@@ -1,6 +1,7 @@
-//! The settings of a run.
-ghost use Rattle.std.specs.Prelude.{◌≢◌, IfSome};
-ghost use Rattle.ng_console.specs.SettingsFile.{GivesSettings, GivesChoice};
+//! The settings of a run; the bytes of a file that may have only so many.
+ghost use Rattle.std.specs.Prelude.{◌≡◌, ◌≢◌, ◌<◌, ◌≤◌, ◌+◌, IfErr, IfOk, IfSome, MatchResult, length, take};
+ghost use Rattle.std.specs.Io.KnownBytes.{Consumes, IsAtEnd, Keeps};
+ghost use Rattle.ng_console.specs.SettingsFile.{GivesChoice, GivesSettings, ReadsFew, most_bytes};
 
 use ng_num::Fault;
 use ng_settings::{Settings, settings};
@@ -8,17 +9,76 @@ use std::alloc::Global;
 use std::io;
 use std::io::Read;
 
+/// The most bytes that a file of settings or of a machine may have.
+const MOST_BYTES: usize = 1_048_576;
+
+/// The bytes of a read.
+const BUFFER: usize = 8_192;
+
+/// Why a file gives no bytes.
+#[derive(Clone, Copy)]
+pub enum NoBytes {
+    /// It can't be read, or there is no memory for its bytes.
+    Unread,
+    /// It is longer than 1,048,576 bytes.
+    TooLong,
+}
+
 /// Why there are no settings.
 #[derive(Clone, Copy)]
 pub(crate) enum NoSettings {
     /// The file can't be opened or read, or there is no memory for its bytes.
     Unread,
+    /// The file is longer than 1,048,576 bytes.
+    TooLong,
     /// The text is refused.
     Refused(Fault),
 }
 
+/// Reads once into the front of a buffer, and so many bytes at most.
+fn read_front<R: Read>(file: &mut R, buffer: &mut [u8], most: usize) -> io::Result<usize>
+    requires { most ≤ length buffer.old }
+    ensures few { IfOk result (λ n. n ≤ most) }
+    ensures bytes { MatchResult result
+        (λ n. Consumes (R.remaining file.old) (R.remaining file.new) (take n buffer.new)
+        × (n ≡ 0 → 0 < most → IsAtEnd (R.remaining file.new)))
+        (λ error. Keeps (R.remaining file.old) (R.remaining file.new)) }
+{
+    match file.read(&mut buffer[..most]) {
+        Ok(n) => Ok(n),
+        Err(error) => Err(error),
+    }
+}
+
+/// All bytes of a file, up to its end, if they are 1,048,576 at most. Of a longer file so many are read, and one more:
+/// of one without an end too. Source: own.
+pub fn read_whole<R: Read>(alloc: Global, file: &mut R) -> Result<Vec<u8>, NoBytes>
+    ensures few { IfOk result (λ bytes. length bytes.items ≤ most_bytes) }
+    ensures whole { IfOk result (λ bytes. IfSome (R.remaining file.old) (λ text. bytes.items ≡ text)) }
+    ensures long { IfErr result (λ why. why ≡ NoBytes.TooLong
+        → IfSome (R.remaining file.old) (λ text. most_bytes < length text)) }
+    ensures read { ReadsFew (R.remaining file.old) (R.remaining file.new) }
+{
+    let mut bytes = Vec::new(alloc);
+    let mut buffer = [0u8; BUFFER];
+    while bytes.len() <= MOST_BYTES {
+        let most = (MOST_BYTES + 1 - bytes.len()).min(BUFFER);
+        match read_front(file, &mut buffer, most) {
+            Ok(0) => return Ok(bytes),
+            Ok(n) => {
+                if bytes.extend_from_slice(&buffer[..n]).is_err() {
+                    return Err(NoBytes::Unread);
+                }
+            }
+            Err(_) => return Err(NoBytes::Unread),
+        }
+    }
+    Err(NoBytes::TooLong)
+}
+
 /// The settings of a text.
 fn settings_in(alloc: Global, text: &[u8]) -> Result<Settings, NoSettings>
+    requires { length text.now ≤ most_bytes }
     ensures gives { GivesSettings text.now result }
     ensures read { result ≢ Err NoSettings.Unread }
 {
@@ -32,10 +92,10 @@ fn settings_in(alloc: Global, text: &[u8]) -> Result<Settings, NoSettings>
 fn settings_of<R: Read + Drop>(alloc: Global, mut file: R) -> Result<Settings, NoSettings>
     ensures { IfSome (R.remaining file) (λ text. GivesSettings text result) }
 {
-    let mut bytes = Vec::new(alloc);
-    match file.read_to_end(&mut bytes) {
-        Ok(_) => settings_in(alloc, bytes.as_slice()),
-        Err(_) => Err(NoSettings::Unread),
+    match read_whole(alloc, &mut file) {
+        Ok(bytes) => settings_in(alloc, bytes.as_slice()),
+        Err(NoBytes::TooLong) => Err(NoSettings::TooLong),
+        Err(NoBytes::Unread) => Err(NoSettings::Unread),
     }
 }
 

@@ -28,7 +28,7 @@ pub struct FileRig<S: Storage, W, A: Allocator> {
 }
 
 impl<S: Storage + Drop, W: Write + Drop, A: Allocator + Copy + Drop> FileRig<S, W, A> {
-    ghost use Rattle.std.specs.Prelude.{◌≡◌, ◌+◌, ◌*◌, ◌/◌, ◌%◌, ◌^◌, ◌<◌, ◌≤◌, IfOk, IfSome, OnOk, OnErr, is_err, is_ok, length, false, true};
+    ghost use Rattle.std.specs.Prelude.{◌≡◌, ◌+◌, ◌*◌, ◌/◌, ◌%◌, ◌^◌, ◌<◌, ◌≤◌, IfErr, IfOk, IfSome, OnOk, OnErr, is_err, is_ok, length, false, true};
     ghost use Rattle.ng_rig.specs.Calls.{FailureCountSpec};
     ghost use Rattle.std.specs.Io.KnownBytes.{Appends};
     ghost use Rattle.ng_file.specs.Bytes.{AppendsBeginning, Put, PutInPart};
@@ -50,18 +50,40 @@ impl<S: Storage + Drop, W: Write + Drop, A: Allocator + Copy + Drop> FileRig<S, 
         ensures honest { IfOk result (λ rig. (S.promise file).honest → IsDurable (S.content file) (S.promise file) → AreHonest S.content S.promise rig.sectors) }
         ensures handed { IfOk result (λ rig. HasHandedOut S.content W.contents (W.contents out) rig) }
     {
-        let line = Vec::with_capacity(alloc, LINE)?;
-        let sectors = Sectors::over(file)?;
-        Ok(FileRig {
-            sectors,
-            out,
-            line,
-            cut: false,
-            failures: 0,
-        })
+        match FileRig::over_or_back(alloc, file, out) {
+            Ok(rig) => Ok(rig),
+            Err((error, _, _)) => Err(error),
+        }
     }
 
-    /// Gives the file and the writer back. For callers of this crate alone: the programs end with their device.
+    /// The same; but where it fails it gives the file and the writer back.
+    pub fn over_or_back(alloc: A, file: S, out: W) -> Result<Self, (io::Error, S, W)>
+        ensures size { IfOk result (λ rig. IfSome (S.content file) (λ held. sector_count rig ≡ length held / 512)) }
+        ensures bytes { IfOk result (λ rig. S.content (storage rig) ≡ S.content file) }
+        ensures out { IfOk result (λ rig. outlet rig ≡ out) }
+        ensures failures { IfOk result (λ rig. failure_count rig ≡ 0) }
+        ensures trace { IfOk result (λ rig. trace_of S.content rig.sectors ≡ Began (image_of (sector_count rig) (S.content file))) }
+        ensures honest { IfOk result (λ rig. (S.promise file).honest → IsDurable (S.content file) (S.promise file) → AreHonest S.content S.promise rig.sectors) }
+        ensures handed { IfOk result (λ rig. HasHandedOut S.content W.contents (W.contents out) rig) }
+        ensures back { IfErr result (λ e. (S.content e.1 ≡ S.content file) × (e.2 ≡ out)) }
+    {
+        let line = match Vec::with_capacity(alloc, LINE) {
+            Ok(line) => line,
+            Err(error) => return Err((io::Error::from(error), file, out)),
+        };
+        match Sectors::over(file) {
+            Ok(sectors) => Ok(FileRig {
+                sectors,
+                out,
+                line,
+                cut: false,
+                failures: 0,
+            }),
+            Err((error, file)) => Err((error, file, out)),
+        }
+    }
+
+    /// Gives the file and the writer back.
     pub fn into_parts(self) -> (S, W)
         ensures { (result.0 ≡ storage self) × (result.1 ≡ outlet self) }
     {

@@ -51,7 +51,7 @@ fn put_at<S: Storage>(file: &mut S, sector: usize, bytes: &[u8; 512]) -> io::Res
 }
 
 impl<S: Storage + Drop> Sectors<S> {
-    ghost use Rattle.std.specs.Prelude.{◌≡◌, ◌<◌, ◌≤◌, ◌+◌, ◌*◌, ◌/◌, ◌^◌, ℕ, IfOk, IfSome, OnOk, OnErr, length};
+    ghost use Rattle.std.specs.Prelude.{◌≡◌, ◌<◌, ◌≤◌, ◌+◌, ◌*◌, ◌/◌, ◌^◌, ℕ, IfErr, IfOk, IfSome, OnOk, OnErr, length};
     ghost use Rattle.ng_rig.specs.Calls.{WriteSpec, SyncSpec};
     ghost use Rattle.ng_rig.specs.Extent.{HasExtent};
     ghost use Rattle.ng_rig.specs.Trace.{Began, Handed, items, reads};
@@ -59,18 +59,22 @@ impl<S: Storage + Drop> Sectors<S> {
     ghost use Rattle.ng_file.specs.Promise.{IsDurable};
     ghost use Rattle.ng_file.specs.Sectors.{AreHonest, KeepsHonest, begun, image_of, trace_of};
 
-    /// The whole sectors of a file. Fails if its length can't be read.
-    pub(crate) fn over(mut file: S) -> io::Result<Sectors<S>>
+    /// The whole sectors of a file. Fails if its length can't be read, and then gives the file back.
+    pub(crate) fn over(mut file: S) -> Result<Sectors<S>, (io::Error, S)>
         ensures count { IfOk result (λ s. IfSome (S.content file) (λ held. s.count ≡ length held / 512)) }
         ensures bytes { IfOk result (λ s. S.content s.file ≡ S.content file) }
         ensures trace { IfOk result (λ s. trace_of S.content s ≡ Began (image_of s.count (S.content file))) }
         ensures honest { IfOk result (λ s. (S.promise file).honest → IsDurable (S.content file) (S.promise file) → AreHonest S.content S.promise s) }
+        ensures back { IfErr result (λ e. S.content e.1 ≡ S.content file) }
     {
-        let count = (file.length()? / SECTOR as u64) as usize;
+        let length = match file.length() {
+            Ok(length) => length,
+            Err(error) => return Err((error, file)),
+        };
         let files = Past::new().and(&file);
         Ok(Sectors {
             file,
-            count,
+            count: (length / SECTOR as u64) as usize,
             done: Past::new(),
             files,
         })

@@ -5,13 +5,14 @@ use Rattle.ng_motion.specs.declared.axis.AxisName.{AxisName}
 use Rattle.ng_motion.specs.declared.axis.AxisName.TheVariants.{X, Y, Z}
 use Rattle.ng_motion.specs.Name.{told}
 use Rattle.ng_motion.specs.declared.fault.MotionFault.{MotionFault}
-use Rattle.ng_motion.specs.declared.fault.MotionFault.TheVariants.{NotToml, OutOfMemory, NoTable, UnknownKey}
+use Rattle.ng_motion.specs.declared.fault.MotionFault.TheVariants.{NotToml, OutOfMemory, UnknownTable, NoTable, UnknownKey}
 use Rattle.ng_motion.specs.declared.fault.MotionFault.TheVariants.{NoAcceleration, OutOfRange, TooWeak, TooStrong}
 use Rattle.ng_motion.specs.declared.fault.MotionFault.TheVariants.{TooSlow}
 
 abbrev pub cause_text : MotionFault → List ℕ
 cause_text NotToml = codes ": not TOML"
 cause_text OutOfMemory = codes ": out of memory"
+cause_text (UnknownTable name) = codes ": has a table that isn't one of its nine: "
 cause_text NoTable = codes " motion: missing"
 cause_text (UnknownKey name) = codes " motion: has a key that isn't one of its five: "
 cause_text NoAcceleration = codes " accel_mm_s2: missing"
@@ -29,8 +30,9 @@ axis_text X = codes "X"
 axis_text Y = codes "Y"
 axis_text Z = codes "Z"
 
--- the key that is none, or the axis, if that is the fault
+-- the table or the key that is none, or the axis, if that is the fault
 abbrev pub name_told : MotionFault → List ℕ
+name_told (UnknownTable name) = told name
 name_told (UnknownKey name) = told name
 name_told (TooWeak axis) = axis_text axis
 name_told (TooStrong axis) = axis_text axis

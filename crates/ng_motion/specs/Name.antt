@@ -1,5 +1,5 @@
--- The name of a key that is none, as it is told (own): its first 64 bytes, with a question mark for each that isn't
--- printed.
+-- The name of a table or a key that is none, as it is told (own): its first 64 bytes, with a question mark for each
+-- that isn't printed.
 use Rattle.std.specs.Prelude.{ℕ, Bool, ◌&&◌, List, map, take, nat_le, if◌then◌else◌}
 use Rattle.ng_motion.specs.declared.name.KeyName.{KeyName}
 

@@ -12,6 +12,9 @@ pub enum MotionFault {
     /// The text isn't TOML.
     NotToml,
     OutOfMemory,
+    /// A name at the top is none of the nine tables of a machine's file: of those the first, in the order of their
+    /// names.
+    UnknownTable(KeyName),
     /// There is no table `[motion]`.
     NoTable,
     /// The table has a key that is none of its five: of those the first, in the order of their names.
@@ -36,6 +39,7 @@ impl MotionFault {
         match self {
             MotionFault::NotToml => b": not TOML",
             MotionFault::OutOfMemory => b": out of memory",
+            MotionFault::UnknownTable(_) => b": has a table that isn't one of its nine: ",
             MotionFault::NoTable => b" motion: missing",
             MotionFault::UnknownKey(_) => b" motion: has a key that isn't one of its five: ",
             MotionFault::NoAcceleration => b" accel_mm_s2: missing",
@@ -64,12 +68,12 @@ impl MotionFault {
         }
     }
 
-    /// The key that is none, or the axis; nothing for any other fault.
+    /// The table or the key that is none, or the axis; nothing for any other fault.
     pub fn name(&self) -> &[u8]
         ensures { result.now ≡ name_told self.now }
     {
         match self {
-            MotionFault::UnknownKey(name) => name.as_slice(),
+            MotionFault::UnknownTable(name) | MotionFault::UnknownKey(name) => name.as_slice(),
             MotionFault::TooWeak(axis) | MotionFault::TooStrong(axis) => axis.text(),
             _ => b"",
         }

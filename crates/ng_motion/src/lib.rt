@@ -2,7 +2,8 @@
 //!
 //! `limits` reads the table `[motion]` of a text, in millimetres, and returns what a pacer takes, in steps; or it
 //! returns a fault, whose text names the key and its range. specs/Given.antt has the keys, their ranges and the faults,
-//! specs/Steps.antt how millimetres become steps. Other tables of the text are others' and aren't looked at.
+//! specs/Steps.antt how millimetres become steps. The other eight tables of a machine's file are a player's: what is in
+//! them isn't looked at, and a name that is none of the nine is refused.
 //!
 //! The crate `toml` defines what TOML is, and which table a text stands for; `ng_pace` takes the limits. Memory is
 //! allocated only for the parsed table.

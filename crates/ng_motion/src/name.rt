@@ -1,4 +1,4 @@
-//! The name of a key, as it is told.
+//! The name of a table or a key, as it is told.
 ghost use Rattle.std.specs.Prelude.{◌≡◌, ◌≤◌, length, map, take};
 ghost use Rattle.ng_motion.specs.Name.{shown_byte, shown_name, told};
 

@@ -1,16 +1,44 @@
 //! Limits read from a text.
-ghost use Rattle.std.specs.Prelude.{◌≡◌, IfNone, IfSome, MatchResult, Some, codes};
+ghost use Rattle.std.specs.Prelude.{◌≡◌, IfNone, IfSome, MatchOption, MatchResult, None, Some, codes};
 ghost use Rattle.toml.specs.Data.{Members};
 ghost use Rattle.toml.specs.View.{table_view};
-ghost use Rattle.ng_motion.specs.Reading.{AreLimitsOf, GivesAtRoot, IsMotion, IsRefused, IsRootFault};
+ghost use Rattle.ng_motion.specs.Reading.{AreLimitsOf, GivesAtRoot, HasUnknownTable, IsMotion, IsRefused, IsRootFault};
+ghost use Rattle.ng_motion.specs.Reading.{is_table, unknown_table};
 
 use crate::fault::MotionFault;
 use crate::given::{read_given, value_at};
+use crate::name::KeyName;
 use crate::steps::limits_of;
 use ng_canon::Geometry;
 use ng_pace::Limits;
 use std::alloc::Global;
 use toml::Table;
+
+/// Whether a name is that of a table of a machine's file.
+#[tactic(auto, unfolding(crate::specs::Reading::is_table))]
+fn is_table(name: &str) -> bool
+    ensures { result ≡ is_table name.now }
+{
+    name == "motion"
+        || name == "window"
+        || name == "wait"
+        || name == "spindle"
+        || name == "backlash"
+        || name == "sink"
+        || name == "inputs"
+        || name == "home"
+        || name == "setter"
+}
+
+/// The first name at the top that isn't that of a table of a machine's file.
+fn unknown_table(root: &Table) -> Option<KeyName>
+    ensures { MatchOption result (unknown_table (table_view root.now) ≡ None) (HasUnknownTable (table_view root.now)) }
+{
+    match root.keys().find(|name| !is_table(name.as_str())) {
+        Some(name) => Some(KeyName::of(name.as_str().as_bytes())),
+        None => None,
+    }
+}
 
 /// The table `[motion]`.
 fn motion_table(root: &Table) -> Option<&Table>
@@ -27,6 +55,9 @@ fn motion_table(root: &Table) -> Option<&Table>
 fn limits_in(root: &Table, machine: &Geometry) -> Result<Limits, MotionFault>
     ensures { MatchResult result (GivesAtRoot (table_view root.now) machine.now) (IsRootFault (table_view root.now) machine.now) }
 {
+    if let Some(name) = unknown_table(root) {
+        return Err(MotionFault::UnknownTable(name));
+    }
     let Some(motion) = motion_table(root) else {
         return Err(MotionFault::NoTable);
     };
@@ -39,11 +70,12 @@ fn limits_in(root: &Table, machine: &Geometry) -> Result<Limits, MotionFault>
 /// The limits of the motors of a machine, in steps, from a TOML text with a table `[motion]` (own). The machine's steps
 /// turn millimetres into steps, rounded down, so that nothing is exceeded.
 ///
-/// Refused, in this order: a text that isn't TOML, or has no `[motion]`; a key there that is none of its five, of those
-/// the first by name; no `accel_mm_s2`; a value of another type or outside its key's range, the keys in the order of
-/// `Key`; an axis that gains less than 3 steps a second, each second, then one that gains more than 1,000,000,000; a
-/// rate of less than one step a second. `OutOfMemory` if memory runs out. Without `start_mm_min` or `rate_mm_min` they
-/// are 0; `slack_steps` is 2, `most_percent` 100.
+/// Refused, in this order: a text that isn't TOML; a table or a key at its top that is none of the nine tables of a
+/// machine's file, of those the first by name; no `[motion]`; a key there that is none of its five, of those the first
+/// by name; no `accel_mm_s2`; a value of another type or outside its key's range, the keys in the order of `Key`; an
+/// axis that gains less than 3 steps a second, each second, then one that gains more than 1,000,000,000; a rate of less
+/// than one step a second. `OutOfMemory` if memory runs out. Without `start_mm_min` or `rate_mm_min` they are 0;
+/// `slack_steps` is 2, `most_percent` 100. Of the other eight tables only the names are looked at.
 pub fn limits(alloc: Global, text: &[u8], machine: &Geometry) -> Result<Limits, MotionFault>
     ensures { MatchResult result (AreLimitsOf text.now machine.now) (IsRefused text.now machine.now) }
 {

@@ -10,6 +10,7 @@ pub mod Interval
 pub mod Pacer
 pub mod Paced
 pub mod WaitingPulses
+pub mod Wanted
 pub mod Stream
 pub mod Legs
 pub mod Making

@@ -21,7 +21,8 @@ pub(crate) const GREATEST: u64 = 0x400_0000_0000_0000;
 /// The greatest acceleration and the greatest rate that limits may have.
 const GREATEST_LIMIT: u64 = 1_000_000_000;
 
-/// What the motors allow, by axes.
+/// What the motors allow, by axes. C passes it as it is (`ng_pace_c`).
+#[repr(C)]
 #[derive(Clone, Copy, Debug, PartialEq, Eq)]
 pub struct Limits {
     /// In steps a second, each second: 3 to 1,000,000,000.

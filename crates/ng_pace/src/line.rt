@@ -1,6 +1,7 @@
 //! Lines, and their own times.
-ghost use Rattle.std.specs.Prelude.{◌≡◌, ◌+◌, ◌-◌, ◌*◌, ◌/◌, ◌^◌, min};
+ghost use Rattle.std.specs.Prelude.{◌≡◌, ◌≤◌, ◌+◌, ◌-◌, ◌*◌, ◌/◌, ◌^◌, min};
 ghost use Rattle.ng_pace.specs.Due.{IsPercent, least_ns, own_square, own_square_of};
+ghost use Rattle.ng_pace.specs.Wanted.{wanted_by};
 
 use ng_canon::Item;
 
@@ -46,7 +47,7 @@ pub(crate) fn least_ns(percent: u64, item: &Item) -> u64
 
 /// The square at which pulses of so many microseconds come, at so many percent of their rate.
 pub(crate) fn own_square(percent: u64, us: u64) -> u64
-    requires { IsPercent percent }
+    requires { percent ≤ 200 }
     ensures { result ≡ own_square percent us }
 {
     let rate = (2_560_000 * percent / us.max(1)).max(1);
@@ -61,5 +62,16 @@ pub(crate) fn own_square_of(percent: u64, item: &Item) -> u64
     match item {
         Item::Pulse(pulse) => own_square(percent, pulse.period_us),
         Item::Dwell { .. } | Item::Switch(_) => 0,
+    }
+}
+
+/// The square that is wanted at an item, at so many percent of its rate; any, where everything stands still.
+pub(crate) fn wanted_by(percent: u64, item: &Item) -> u64
+    requires { percent ≤ 200 }
+    ensures { result ≡ wanted_by percent item.now }
+{
+    match item {
+        Item::Pulse(pulse) => own_square(percent, pulse.period_us),
+        Item::Dwell { .. } | Item::Switch(_) => u64::MAX,
     }
 }

@@ -1,13 +1,14 @@
 //! The pacer: lines in, and out again with their times.
 ghost use Rattle.std.specs.Prelude.{◌≡◌, ◌↔◌, ◌⊎◌, ◌≤◌, ◌<◌, ◌++◌, ◌∷◌, [], length, nat_le};
-ghost use Rattle.std.specs.Prelude.{Err, IfOk, IfErr, IfSome, IfNone};
+ghost use Rattle.std.specs.Prelude.{Err, IfOk, IfErr, IfSome, IfNone, IsTrue, IsFalse};
 ghost use Rattle.ng_pace.specs.Due.{IsPercent, IsNoPercent};
 ghost use Rattle.ng_pace.specs.Paced.{IsGiven, Waits};
+ghost use Rattle.ng_pace.specs.Wanted.{wanted_of};
 
 use crate::fault::PaceFault;
 use crate::limits::is_percent;
 use crate::line::Line;
-use crate::planning::{Slot, ahead, take};
+use crate::planning::{Slot, ahead, take, wanted};
 use crate::root::root_of;
 use crate::stepping::{Given, rest_of, square_after, square_at, time_of};
 use std::alloc::Allocator;
@@ -104,6 +105,22 @@ impl<A: Allocator> Pacer<A> {
         ensures { result ≡ self.now.capacity }
     {
         self.slots.capacity()
+    }
+
+    /// Whether everything stands still before the next line.
+    pub(crate) fn is_at_rest(&self) -> bool
+        ensures yes { IsTrue result → self.now.square ≡ 0 }
+        ensures no { IsFalse result → 0 < self.now.square }
+    {
+        self.square == 0
+    }
+
+    /// The square that is wanted at the next line, at so many percent of the rates.
+    pub(crate) fn wanted(&self, percent: u64) -> u64
+        requires { percent ≤ 200 }
+        ensures { result ≡ wanted_of percent self.now.known }
+    {
+        wanted(&self.slots, percent)
     }
 
     /// Takes a line, behind all that are known. The motion stays as it is. Source: own.

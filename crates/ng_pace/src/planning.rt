@@ -2,8 +2,9 @@
 ghost use Rattle.std.specs.Prelude.{◌≡◌, ◌<◌, ◌≤◌, ◌+◌, ◌/◌, ◌∷◌, [], IfSome, IfNone, IsTrue, IsFalse};
 ghost use Rattle.std.specs.VecDeque.{deque_capacity};
 ghost use Rattle.ng_pace.specs.Planning.{IsPlan, IsWhole, IsFresh, IsTaken, StandsFirst, ahead, most_now, lines_of};
+ghost use Rattle.ng_pace.specs.Wanted.{wanted_of};
 
-use crate::line::Line;
+use crate::line::{Line, wanted_by};
 use std::alloc::Allocator;
 use std::collections::VecDeque;
 
@@ -102,4 +103,21 @@ pub(crate) fn take<A: Allocator>(slots: &mut VecDeque<Slot, A>, planned: &mut us
 {
     *planned = refresh(slots, *planned).saturating_sub(1);
     slots.pop_front()
+}
+
+/// The square that is wanted at the first line, at so many percent of the rates.
+pub(crate) fn wanted<A: Allocator>(slots: &VecDeque<Slot, A>, percent: u64) -> u64
+    requires { percent ≤ 200 }
+    ensures { result ≡ wanted_of percent (lines_of slots.now.items) }
+{
+    match slots.get(0) {
+        None => u64::MAX,
+        Some(first) => match slots.get(1) {
+            None => wanted_by(percent, &first.line.item),
+            Some(next) => wanted_by(percent, &first.line.item).min(wanted_by(
+                percent,
+                &next.line.item,
+            )),
+        },
+    }
 }

@@ -1,5 +1,5 @@
 //! A stream of items, whose limits are found from its pulses.
-ghost use Rattle.std.specs.Prelude.{◌≡◌, ◌↔◌, ◌≤◌, ◌<◌, ◌+◌, ◌*◌, ◌++◌, ◌∷◌, [], List};
+ghost use Rattle.std.specs.Prelude.{◌≡◌, ◌↔◌, ◌≤◌, ◌<◌, ◌+◌, ◌-◌, ◌*◌, ◌^◌, ◌++◌, ◌∷◌, [], List};
 ghost use Rattle.std.specs.Prelude.{length, min, nat_le, IsTrue, IsFalse, Err, IfOk, IfSome, IfNone};
 ghost use Rattle.std.specs.VecDeque.{deque_capacity};
 ghost use Rattle.ng_pace.specs.Axes.{AccelerateTooLittle, AccelerateTooMuch, AreLimits, GoTooFast, HaveAxes};
@@ -8,6 +8,7 @@ ghost use Rattle.ng_pace.specs.WaitingPulses.{WaitFew, WaitSome};
 ghost use Rattle.ng_pace.specs.Stream.{Keeps, Adds, StandsAt, StandsLast, full_of};
 ghost use Rattle.ng_pace.specs.Stream.{square_behind, no_pulse, still_line, timed_waiting};
 ghost use Rattle.ng_pace.specs.Paced.{Waits};
+ghost use Rattle.ng_pace.specs.Wanted.{wanted_at};
 ghost use Rattle.ng_pace.specs.Rest.{StandsBehind};
 ghost use Rattle.ng_pace.specs.Making.{Marks, stop_of};
 ghost use Rattle.ng_pace.specs.Legs.{Leg, lines_of, pulses_of};
@@ -255,6 +256,33 @@ impl<A: Allocator> Stream<A> {
             → 0 < length self.now.motion.known }
     {
         self.pacer.capacity() <= self.pacer.len() + self.waiting.len()
+    }
+
+    /// Whether the limits of a line are final, so that `next` gives one wherever some motion is wanted. Source: own.
+    pub fn is_ready(&self) -> bool
+        ensures yes { IsTrue result → 0 < length self.now.motion.known }
+        ensures no { IsFalse result → self.now.motion.known ≡ [] }
+    {
+        self.pacer.len() > 0
+    }
+
+    /// Whether everything stands still before the next line. Source: own.
+    pub fn is_at_rest(&self) -> bool
+        ensures yes { IsTrue result → self.now.motion.square ≡ 0 }
+        ensures no { IsFalse result → 0 < self.now.motion.square }
+    {
+        self.pacer.is_at_rest()
+    }
+
+    /// The square that is wanted for `next` at so many percent of the controller's rates; any, from the greatest
+    /// percentage of the limits on. Source: own.
+    pub fn wanted(&self, percent: u64) -> u64
+        ensures { result ≡ wanted_at self.now.limits.most_percent percent self.now.motion.known }
+    {
+        if percent >= self.limits.most_percent {
+            return u64::MAX;
+        }
+        self.pacer.wanted(percent)
     }
 
     /// Takes an item, after all that are known. The motion stays as it is. Source: own.

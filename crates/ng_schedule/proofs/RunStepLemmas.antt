@@ -10,6 +10,8 @@ use Rattle.ng_pace.specs.Stream.{all_items}
 use Rattle.ng_schedule.specs.Schedule.{BeginsNoLine, lines_of}
 use Rattle.ng_text.specs.Split.{HasNoNewline}
 use Rattle.ng_schedule.specs.Private.Parts.{IsStopped, IsUnderWay, StopSpec, TakeSpec, item_lines}
+use Rattle.ng_schedule.specs.declared.ending.Halt.TheVariants as halt
+use Rattle.ng_schedule.specs.declared.ending.ScheduleFault.TheVariants as schedule_fault
 use Rattle.ng_schedule.specs.declared.ending.Stop.{Stop}
 use Rattle.ng_schedule.specs.declared.ending.Stop.TheVariants as stop
 use Rattle.ng_schedule.specs.declared.giving.Schedule.{Schedule}
@@ -113,6 +115,13 @@ module _ {Z : Type 0} where
       nothing [] is = refl
       nothing (c ∷ cs) is = absurd (cc is)
   StopSpec-more limits start w bytes more s (stop.Halted why) h = HaltSpec-more limits start w bytes more s why h
+
+  -- no line is stopped at for limits that can't be met
+  pub stops_for_no_limits : (limits : Limits) (start w : Option (List ℕ)) (bytes : List ℕ) (s : Schedule Z) (why : Stop)
+      → StopSpec limits start w bytes s why → why ≢ stop.Halted (halt.Fault schedule_fault.Limits)
+  stops_for_no_limits limits start w bytes s stop.NotALine h is = cc
+  stops_for_no_limits limits start w bytes s (stop.Halted halt.TooLate) h is = cc
+  stops_for_no_limits limits start w bytes s (stop.Halted (halt.Fault fault)) h is = h.0 cc
 
   -- a line that was stopped at is within more bytes
   pub stops_within : (limits : Limits) (start w : Option (List ℕ)) (before taken line after bytes left : List ℕ)

@@ -252,15 +252,18 @@ HaltSpec-more {Z} limits start w bytes more s halt.TooLate h =
       number = h.number;
     }
 HaltSpec-more {Z} limits start w bytes more s (halt.Fault fault) h =
-    record {
-      timed = h.timed;
-      never_sooner = h.never_sooner;
-      left = h.left;
-      paced = h.paced;
-      rest = h.rest ++ more;
-      lines = ap (λ l. l ++ more) h.lines ∙ append_assoc (lines_of h.timed) h.rest more;
-      out = h.out;
-      written = h.written;
-      after = h.after;
-      begins = h.begins;
+    (h.0, cut_more h.1)
+  where
+    cut_more : IsCut limits s.shown start w bytes → IsCut limits s.shown start w (bytes ++ more)
+    cut_more before = record {
+      timed = before.timed;
+      never_sooner = before.never_sooner;
+      left = before.left;
+      paced = before.paced;
+      rest = before.rest ++ more;
+      lines = ap (λ l. l ++ more) before.lines ∙ append_assoc (lines_of before.timed) before.rest more;
+      out = before.out;
+      written = before.written;
+      after = before.after;
+      begins = before.begins;
     }

@@ -1,5 +1,5 @@
 //! The end of a run.
-ghost use Rattle.std.specs.Prelude.{◌≡◌, ◌≢◌, ◌++◌, [], List, OnOk, Option, ℕ};
+ghost use Rattle.std.specs.Prelude.{◌≡◌, ◌≢◌, ◌++◌, [], IfErr, List, OnOk, Option, ℕ};
 ghost use Rattle.ng_pace.specs.declared.limits.Limits.{Limits};
 ghost use Rattle.ng_schedule.specs.Flush.{FlushSpec};
 ghost use Rattle.ng_schedule.specs.Schedule.{BeginsNoLine, ScheduleSpec, end_text};
@@ -23,6 +23,7 @@ fn put_end<W: Write, A: Allocator + Copy + Drop>(
     ensures drains { FlushSpec (W.contents writer.old) (W.contents writer.new)
         (text.old.items ++ end_text shown ns) text.new.items result }
     ensures empty { OnOk result (text.new.items ≡ []) }
+    ensures limits { IfErr result (λ fault. fault ≢ ScheduleFault.Limits) }
 {
     match shown {
         Shown::Lines => flush(text, writer),
@@ -33,9 +34,11 @@ fn put_end<W: Write, A: Allocator + Copy + Drop>(
 impl<A: Allocator + Copy + Drop> Schedule<A> {
     /// Ends the run: no more lines are given.
     fn halt<W: Write>(&mut self, writer: &mut W, halt: Halt) -> Result<Ended, ScheduleFault>
-        ensures { (limits : Limits) (start : Option (List ℕ)) (bytes more : List ℕ)
+        ensures step { (limits : Limits) (start : Option (List ℕ)) (bytes more : List ℕ)
             → HaltSpec limits start (W.contents writer.old) bytes self.old halt
             → ScheduleSpec limits self.old.shown (bytes ++ more) start (W.contents writer.new) result }
+        ensures limits { halt ≢ Halt.Fault ScheduleFault.Limits
+            → IfErr result (λ fault. fault ≢ ScheduleFault.Limits) }
     {
         match halt {
             Halt::Fault(fault) => Err(fault),
@@ -57,9 +60,10 @@ impl<A: Allocator + Copy + Drop> Schedule<A> {
 
     /// Ends the run: all lines are there.
     fn finish<W: Write>(&mut self, writer: &mut W) -> Result<Ended, ScheduleFault>
-        ensures { (limits : Limits) (start : Option (List ℕ)) (bytes : List ℕ)
+        ensures step { (limits : Limits) (start : Option (List ℕ)) (bytes : List ℕ)
             → IsUnderWay limits start (W.contents writer.old) bytes [] self.old
             → ScheduleSpec limits self.old.shown bytes start (W.contents writer.new) result }
+        ensures limits { IfErr result (λ fault. fault ≢ ScheduleFault.Limits) }
     {
         match self.give_all(writer) {
             Ok(()) => match put_end(self.shown, &mut self.text, writer, self.due_ns) {
@@ -72,9 +76,10 @@ impl<A: Allocator + Copy + Drop> Schedule<A> {
 
     /// Ends the run: what follows isn't a line.
     fn refuse<W: Write>(&mut self, writer: &mut W) -> Result<Ended, ScheduleFault>
-        ensures { (limits : Limits) (start : Option (List ℕ)) (bytes rest : List ℕ)
+        ensures step { (limits : Limits) (start : Option (List ℕ)) (bytes rest : List ℕ)
             → IsUnderWay limits start (W.contents writer.old) bytes [] self.old → rest ≢ [] → BeginsNoLine rest
             → ScheduleSpec limits self.old.shown (bytes ++ rest) start (W.contents writer.new) result }
+        ensures limits { IfErr result (λ fault. fault ≢ ScheduleFault.Limits) }
     {
         match self.give_all(writer) {
             Ok(()) => {
@@ -102,9 +107,11 @@ impl<A: Allocator + Copy + Drop> LineSplitter<A> {
         writer: &mut W,
         stop: Stop,
     ) -> Result<Ended, ScheduleFault>
-        ensures { (limits : Limits) (start : Option (List ℕ)) (bytes more : List ℕ)
+        ensures step { (limits : Limits) (start : Option (List ℕ)) (bytes more : List ℕ)
             → StopSpec limits start (W.contents writer.old) bytes self.old.schedule stop
             → ScheduleSpec limits self.old.schedule.shown (bytes ++ more) start (W.contents writer.new) result }
+        ensures limits { stop ≢ Stop.Halted (Halt.Fault ScheduleFault.Limits)
+            → IfErr result (λ fault. fault ≢ ScheduleFault.Limits) }
     {
         match stop {
             Stop::NotALine => self.schedule.refuse(writer),
@@ -115,9 +122,10 @@ impl<A: Allocator + Copy + Drop> LineSplitter<A> {
     /// Ends the run: there are no more bytes.
     pub(crate) fn close<W: Write>(&mut self, writer: &mut W) -> Result<Ended, ScheduleFault>
         requires { HasNoNewline self.old.partial.items }
-        ensures { (limits : Limits) (start : Option (List ℕ)) (bytes : List ℕ)
+        ensures step { (limits : Limits) (start : Option (List ℕ)) (bytes : List ℕ)
             → IsUnderWay limits start (W.contents writer.old) bytes self.old.partial.items self.old.schedule
             → ScheduleSpec limits self.old.schedule.shown bytes start (W.contents writer.new) result }
+        ensures limits { IfErr result (λ fault. fault ≢ ScheduleFault.Limits) }
     {
         if self.partial.is_empty() {
             return self.schedule.finish(writer);

@@ -1,5 +1,5 @@
 //! A run between two lines, and the lines that it gives.
-ghost use Rattle.std.specs.Prelude.{◌≡◌, ◌+◌, ◌<◌, ◌++◌, [], ℕ, List, Option, Bool, true, false, IfOk, OnOk, IsFalse, IsTrue, length};
+ghost use Rattle.std.specs.Prelude.{◌≡◌, ◌≢◌, ◌+◌, ◌<◌, ◌++◌, [], ℕ, List, Option, Bool, true, false, IfErr, IfOk, OnOk, IsFalse, IsTrue, length};
 ghost use Rattle.ng_canon.specs.declared.item.Item.{Item};
 ghost use Rattle.ng_lines.specs.Lines.{IsItem, item_line};
 ghost use Rattle.ng_pace.specs.Stream.{all_items};
@@ -37,8 +37,9 @@ fn put_shown<W: Write, A: Allocator + Copy + Drop>(
     due_ns: u64,
     item: Item,
 ) -> Result<(), ScheduleFault>
-    ensures { FlushSpec (W.contents writer.old) (W.contents writer.new)
+    ensures moves { FlushSpec (W.contents writer.old) (W.contents writer.new)
         (text.old.items ++ due_text shown due_ns item) text.new.items result }
+    ensures limits { IfErr result (λ fault. fault ≢ ScheduleFault.Limits) }
 {
     match shown {
         Shown::Lines => put_due(text, writer, due_ns, item),
@@ -57,6 +58,7 @@ impl<A: Allocator + Copy + Drop> Schedule<A> {
         ensures none { IfOk result (λ gave. IsFalse gave → self.old.stream.motion.known ≡ []) }
         ensures same { IfOk result (λ gave. IsFalse gave → self.new.stream ≡ self.old.stream) }
         ensures waiting { self.new.stream.waiting ≡ self.old.stream.waiting }
+        ensures limits { IfErr result (λ halt. halt ≢ Halt.Fault ScheduleFault.Limits) }
         ensures shown { self.new.shown ≡ self.old.shown }
     {
         let Some(given) = self.stream.next(u64::MAX) else {
@@ -102,7 +104,7 @@ impl<A: Allocator + Copy + Drop> Schedule<A> {
         self.stream.end();
         match self.give_next(writer) {
             Ok(true) => Ok(()),
-            // No line is known.
+            // It can't be that none is known: as many are as fit. So `HaltSpec` has no fault of limits.
             Ok(false) => Err(Halt::Fault(ScheduleFault::Limits)),
             Err(halt) => Err(halt),
         }
@@ -149,6 +151,7 @@ impl<A: Allocator + Copy + Drop> Schedule<A> {
             → IsUnderWay limits start (W.contents writer.old) bytes partial self.old
             → GiveSpec true limits start (W.contents writer.new) bytes partial self.new result }
         ensures all { OnOk result (all_items self.new.stream ≡ []) }
+        ensures limits { IfErr result (λ halt. halt ≢ Halt.Fault ScheduleFault.Limits) }
         ensures shown { self.new.shown ≡ self.old.shown }
     {
         self.stream.end();

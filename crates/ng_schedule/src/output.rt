@@ -1,5 +1,5 @@
 //! Writing the text of a run.
-ghost use Rattle.std.specs.Prelude.{◌≡◌, ◌++◌, ◌∷◌, [], OnOk, OnErr, codes};
+ghost use Rattle.std.specs.Prelude.{◌≡◌, ◌≢◌, ◌++◌, ◌∷◌, [], IfErr, OnOk, OnErr, codes};
 ghost use Rattle.std.specs.Fmt.{decimal};
 ghost use Rattle.ng_lines.specs.Lines.{item_line};
 ghost use Rattle.ng_schedule.specs.Flush.{FlushSpec, WritesOrBeginning};
@@ -13,7 +13,8 @@ use std::io::Write;
 
 /// Writes all bytes. After a fault a beginning of them has been written.
 fn write_out<W: Write>(writer: &mut W, bytes: &[u8]) -> Result<(), ScheduleFault>
-    ensures { WritesOrBeginning (W.contents writer.old) (W.contents writer.new) bytes.now result }
+    ensures writes { WritesOrBeginning (W.contents writer.old) (W.contents writer.new) bytes.now result }
+    ensures limits { IfErr result (λ fault. fault ≢ ScheduleFault.Limits) }
 {
     let mut written: usize = 0;
     while written < bytes.len() {
@@ -40,6 +41,7 @@ pub(crate) fn flush<W: Write, A: Allocator + Copy + Drop>(
 ) -> Result<(), ScheduleFault>
     ensures moves { FlushSpec (W.contents writer.old) (W.contents writer.new) text.old.items text.new.items result }
     ensures empty { OnOk result (text.new.items ≡ []) }
+    ensures limits { IfErr result (λ fault. fault ≢ ScheduleFault.Limits) }
 {
     match write_out(writer, text.as_slice()) {
         Ok(()) => {
@@ -56,7 +58,8 @@ fn relieve<W: Write, A: Allocator + Copy + Drop>(
     text: &mut Vec<u8, A>,
     writer: &mut W,
 ) -> Result<(), ScheduleFault>
-    ensures { FlushSpec (W.contents writer.old) (W.contents writer.new) text.old.items text.new.items result }
+    ensures moves { FlushSpec (W.contents writer.old) (W.contents writer.new) text.old.items text.new.items result }
+    ensures limits { IfErr result (λ fault. fault ≢ ScheduleFault.Limits) }
 {
     if text.len() < FULL {
         return Ok(());
@@ -72,8 +75,9 @@ pub(crate) fn put_due<W: Write, A: Allocator + Copy + Drop>(
     due_ns: u64,
     item: Item,
 ) -> Result<(), ScheduleFault>
-    ensures { FlushSpec (W.contents writer.old) (W.contents writer.new)
+    ensures moves { FlushSpec (W.contents writer.old) (W.contents writer.new)
         (text.old.items ++ (decimal due_ns ++ 32 ∷ item_line item)) text.new.items result }
+    ensures limits { IfErr result (λ fault. fault ≢ ScheduleFault.Limits) }
 {
     match push_numbered(text, due_ns, item) {
         Ok(()) => relieve(text, writer),
@@ -105,6 +109,7 @@ pub(crate) fn put_last<W: Write, A: Allocator + Copy + Drop>(
     ensures drains { FlushSpec (W.contents writer.old) (W.contents writer.new)
         (text.old.items ++ (before.now ++ decimal number ++ after.now)) text.new.items result }
     ensures empty { OnOk result (text.new.items ≡ []) }
+    ensures limits { IfErr result (λ fault. fault ≢ ScheduleFault.Limits) }
 {
     match push_parts(text, before, number, after) {
         Ok(()) => flush(text, writer),

@@ -1,5 +1,6 @@
 //! A run: lines go in, and their times come out.
-ghost use Rattle.std.specs.Prelude.{◌≡◌, [], IfOk, IfSome};
+ghost use Rattle.std.specs.Prelude.{◌≡◌, ◌≢◌, [], IfErr, IfOk, IfSome};
+ghost use Rattle.ng_pace.specs.Axes.{AreLimits};
 ghost use Rattle.ng_pace.specs.Calls.{IsEmpty};
 ghost use Rattle.ng_schedule.specs.Schedule.{ScheduleSpec};
 
@@ -21,6 +22,16 @@ const READS: u64 = 1_000_000_000;
 /// The bytes of a read.
 const BUFFER: usize = 65_536;
 
+/// What is told of a stream that isn't made.
+fn fault_of(fault: PaceFault) -> ScheduleFault
+    ensures { fault ≡ PaceFault.OutOfMemory → result ≡ ScheduleFault.Memory }
+{
+    match fault {
+        PaceFault::OutOfMemory => ScheduleFault::Memory,
+        _ => ScheduleFault::Limits,
+    }
+}
+
 impl<A: Allocator + Copy + Drop> Schedule<A> {
     /// A run before its first line, with all the memory that it ever takes.
     fn new(alloc: A, limits: Limits, shown: Shown) -> Result<Schedule<A>, ScheduleFault>
@@ -29,11 +40,11 @@ impl<A: Allocator + Copy + Drop> Schedule<A> {
         ensures shown { IfOk result (λ s. s.shown ≡ shown) }
         ensures due { IfOk result (λ s. s.due_ns ≡ 0) }
         ensures number { IfOk result (λ s. s.number ≡ 1) }
+        ensures limits { AreLimits limits → IfErr result (λ fault. fault ≢ ScheduleFault.Limits) }
     {
         let stream = match Stream::new(alloc, limits, LINES) {
             Ok(stream) => stream,
-            Err(PaceFault::OutOfMemory) => return Err(ScheduleFault::Memory),
-            Err(_) => return Err(ScheduleFault::Limits),
+            Err(fault) => return Err(fault_of(fault)),
         };
         match Vec::with_capacity(alloc, CAPACITY) {
             Ok(text) => Ok(Schedule {
@@ -61,7 +72,7 @@ impl<A: Allocator + Copy + Drop> Schedule<A> {
 ///
 /// The lines are read through a buffer of fixed size, by at most 1,000,000,000 reads; memory for 8,192 lines is taken
 /// once, and memory doesn't grow. After a `ScheduleFault` a beginning of the text has been written; `Limits` and
-/// `Memory` come before the first read. Source: own.
+/// `Memory` come before the first read, and `Limits` only for what a pacer can't meet. Source: own.
 pub fn schedule<R: Read, W: Write, A: Allocator + Copy + Drop>(
     alloc: A,
     reader: &mut R,
@@ -69,8 +80,9 @@ pub fn schedule<R: Read, W: Write, A: Allocator + Copy + Drop>(
     limits: Limits,
     shown: Shown,
 ) -> Result<Ended, ScheduleFault>
-    ensures { IfSome (R.remaining reader.old) (λ text.
+    ensures run { IfSome (R.remaining reader.old) (λ text.
         ScheduleSpec limits shown text (W.contents writer.old) (W.contents writer.new) result) }
+    ensures limits { AreLimits limits → IfErr result (λ fault. fault ≢ ScheduleFault.Limits) }
 {
     let schedule = match Schedule::new(alloc, limits, shown) {
         Ok(schedule) => schedule,

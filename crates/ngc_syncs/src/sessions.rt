@@ -36,13 +36,14 @@ pub fn answers(alloc: Global, disk: &mut Disk, asked: &str) -> Result<Vec<u8>> {
     let mut reader = asked.as_bytes();
     let mut text = Vec::new(alloc);
     let lent = Lent { disk };
-    operate_device(
+    let (status, _, _) = operate_device(
         alloc,
         Settings::standard(),
         lent,
         io::sink(),
         &mut reader,
         &mut text,
-    )?;
+    );
+    status?;
     Ok(text)
 }

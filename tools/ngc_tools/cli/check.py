@@ -52,7 +52,7 @@ Mend these, and check again."""
 LIKE = 10  # warnings of one kind that are shown
 MOST = 200  # refusals that are looked at, if nothing else is asked for ..
 MOST_ASKED = 5000  # .. and dry runs for them: each begins with the program's first line
-MOST_FOR_ALL = 1000  # dry runs after which no more are looked for where all are asked for, and so many are found
+MOST_FOR_ALL = 500  # dry runs after which no more are looked for where all are asked for, and so many are found
 
 
 def make_parser() -> argparse.ArgumentParser:

@@ -165,7 +165,7 @@ def prepared(args: argparse.Namespace, voice: Voice, stack: ExitStack) -> Player
     if machine is None and manner.timed:
         voice.say(f"{args.out}: no --machine: no ramps, and no motor follows full rates from rest")
     stack.callback(player.close)
-    player.is_untold = is_untold
+    player.is_untold, player.is_sure = is_untold, at_nm is not None
     if args.go_to_line is not None:
         Going(player, settings, args, voice).prepare(found, begun)
     if args.progress:

@@ -59,7 +59,8 @@ _TABLES: Mapping[str, Mapping[str, _Key]] = {
     "spindle": {"max_rpm": _Key(range(1, 10_000_000))},
     "backlash": {"steps": _Key(range(MOST_BACKLASH + 1), 3)},
     "sink": {"line": _Key((), 0, 'the path of the sink\'s serial line in "quotes", of at most 255 bytes'),
-             "baud": _Key(_BAUDS, words="one of the rates of a serial line, 115200 to 4000000")},
+             "baud": _Key(_BAUDS, words="one of the rates of a serial line, 115200 to 4000000"),
+             "debounce_us": _Key(range(10_001))},
     "inputs": {"emergency_stop": _Key(_INPUT), "limits_low": _Key(_INPUT, 3), "limits_high": _Key(_INPUT, 3),
                "door": _Key(_INPUT), "spindle_at_speed": _Key(_INPUT), "probe": _Key(_INPUT),
                "on_while_low": _Key(range(16), _MOST_INPUTS, "at most sixteen whole numbers from 0 to 15"),
@@ -70,7 +71,8 @@ _TABLES: Mapping[str, Mapping[str, _Key]] = {
              "way_mm": _Key(range(1, 100_001), 3), "agree_um": _Key(range(1_000_001))},
     "setter": {"height_um": _Key(_UM, words=f"a whole number of micrometres from {_UM[0]} to {_UM[-1]}")},
 }
-_KEYS = {"motion": "one of its five", "sink": "line or baud", "inputs": "one of its eight", "home": "one of its nine"}
+_KEYS = {"motion": "one of its five", "sink": "line, baud or debounce_us", "inputs": "one of its eight",
+         "home": "one of its nine"}
 _NEEDED = {"motion": ("accel_mm_s2",), "sink": ("line",), "setter": ("height_um",),
            "home": ("order", "switch", "direction", "fast_mm_min", "slow_mm_min", "pull_off_um", "at_um")}
 

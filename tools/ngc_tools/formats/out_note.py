@@ -1,4 +1,5 @@
-"""What OUT had as the device's log had so many records: one sector of text beside the device, as docs/RECOVERY.md has it.
+"""What OUT had as the device's log had so many records: one sector of text beside the device, of which docs/RECOVERY.md
+speaks.
 
 The log tells what was handed out since, to the line. So what OUT lost with the power is known, also where it led
 nowhere: a circle, a drilled hole, a wait."""
@@ -15,14 +16,16 @@ from ngc_tools.formats.device import Device
 SUFFIX = ".out"
 _SIZE = 512  # bytes: a disk writes them whole or not at all
 _HEADER = struct.Struct("<8s8xQ")  # of a device, docs/DEVICE.md: its mark and its epoch
-_TEXT = re.compile(rb"out (\d{1,19}) (\d{1,19})\nlog (\d{1,13}) (\d{1,4}) (\d{1,13})\nbytes (\d{1,18}) (\d{1,18})\n +\n")
+_TEXT = re.compile(rb"out (\d{1,19}) (\d{1,19})\nlog (\d{1,13}) (\d{1,4}) (\d{1,13})\n"
+                   rb"bytes (\d{1,18}) (\d{1,18}) ([01])\n +\n")
 
 
 @dataclass(frozen=True, slots=True)
 class OutNote:
-    """OUT, known by its inode and when it was made, had `size` bytes on the disk as the device had `entries` entries and
-    the log of its `epoch` so many `records`, with nothing under way. The half-done segment began behind `begins` bytes
-    of it; that is `size` where none was."""
+    """OUT, known by its inode and when it was made, had `size` bytes on the disk as the device had `entries` entries
+    and the log of its `epoch` so many `records`, with nothing under way. The half-done segment began behind `begins`
+    bytes of it; that is `size` where none was. `as_left`: nothing was done since the program was left for its next
+    line."""
 
     inode: int
     born_ns: int
@@ -31,11 +34,12 @@ class OutNote:
     entries: int
     size: int
     begins: int
+    as_left: int = 0
 
     def text(self) -> bytes:
         """What stands in the file, 512 bytes."""
         said = (f"out {self.inode} {self.born_ns}\nlog {self.epoch} {self.records} {self.entries}\n"
-                f"bytes {self.size} {self.begins}\n")
+                f"bytes {self.size} {self.begins} {self.as_left:d}\n")
         return said.encode().ljust(_SIZE - 1) + b"\n"
 
     def is_of(self, device: Device) -> bool:

@@ -33,8 +33,8 @@ _DELETES = ("delete on",)
 
 @dataclass(frozen=True, slots=True)
 class FileRecord:
-    """A player's record of a file: the motors are at `steps`, where the first `size` bytes of OUT lead. Where they aren't
-    there, and it is known, that is `path`."""
+    """A player's record of a file: the motors are at `steps`, where the first `size` bytes of OUT lead. Where they
+    aren't there, and it is known, that is `path`."""
 
     size: int
     steps: Steps
@@ -136,9 +136,10 @@ class Finder:
         with opened(out) as file:
             size = os.fstat(file.fileno()).st_size
             text = mmap.mmap(file.fileno(), 0, access=mmap.ACCESS_READ) if size else b""
-            if kept.size > text.rfind(b"\n") + 1:
-                raise CannotTell(f"{out} has {text.rfind(bytes([10])) + 1:,} bytes of whole lines, and the record counts"
-                                 f" {kept.size:,}: they don't belong together")
+            whole = text.rfind(b"\n") + 1
+            if kept.size > whole:
+                raise CannotTell(f"{out} has {whole:,} bytes of whole lines, and the record counts {kept.size:,}: they"
+                                 " don't belong together")
             size = end_of_lines(text, kept.size)  # behind a hole nothing tells where it leads
             ends = kept.ends(text[kept.size:size])
             found = self._by_end(text, size, ends[0]) if self.is_whole else None

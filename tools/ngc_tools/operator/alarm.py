@@ -9,8 +9,8 @@ _TAKEN_BROKEN = ("jog", "seek", "reference", "hold", "stop", "off")
 _CAUSES = {"emergency_stop": "emergency stop", "limits": "limit", "sink": "step sink lost"}
 _CAME = "{cause}: the motors stand, spindle and coolant are off, and where the machine is isn't known. home comes first"
 _FORBIDS = "nothing is done: {cause}. home comes first; until then where and quit alone are taken"
-_BROKEN = ("nothing is done: what the player had in hand in the alarm is never carried out, and so nothing that comes"
-           " after. stop begins another session, which goes on as after a loss of power")
+_BROKEN = ("nothing is done: what the player had in hand as it broke off is never carried out, and so nothing that"
+           " comes after. stop begins another session, which goes on as after a loss of power")
 _LEFT = ("the alarm stands: {left} isn't homed. home {left} does it, where the machine's file says how; else measure"
          " it, and type reference X Y Z with what you measured: the player counts {at}")
 _NUMBERS = ("reference X Y Z, in mm: the player counts {at}; player stands for the number of an axis that is homed"

@@ -12,6 +12,7 @@ from ngc_tools.ngc.run import CannotRun, refusal
 from ngc_tools.operator.face import WARNING, axes
 from ngc_tools.operator.modes import Difference, Restoring, differences, point_words, restoring
 from ngc_tools.operator.session import Session
+from ngc_tools.operator.synced import SyncedLink
 
 _TOLD = ("unit", "feed_mode", "plane", "distance", "retract", "system", "path_mode", "origin", "g92", "tool_length",
          "feed")
@@ -32,10 +33,32 @@ class Left:
         self._told = ""
 
     def find(self, found: Device) -> None:
-        """Takes how the program was left from the log of a device, as it stood before `ngc` was started."""
+        """Takes how the program was left from the log of a device, as it stood before `ngc` was started, else from what
+        was noted beside it."""
         if found.state.place:
             self.device = begins_at(found)
-            self.is_lost = self.device is None
+            self.is_lost = self.device is None and not self._is_noted(found)
+
+    def _is_noted(self, found: Device) -> bool:
+        """Whether it is noted that nothing was done since the program was left for its next line; what was done since
+        the note the log tells."""
+        link = self.session.meter.link if self.session.meter else None
+        note = link.noted() if isinstance(link, SyncedLink) else None
+        if note is None or not note.as_left:
+            return False
+        if note.is_of(found):
+            self.device = Device(found.before(note.records)) if note.records < len(found.records) else None
+            return True
+        older = found.without_header() if not found.records else None
+        before = Device(older) if older is not None else None
+        return before is not None and note.is_of(before) and note.entries == found.state.entries
+
+    def is_as_left(self) -> bool:
+        """Whether nothing was done since the program was left for its next line."""
+        if self.device is None:
+            return not self.is_lost
+        now = self.session.stored()
+        return isinstance(now, Device) and now.state.entries == self.device.state.entries
 
     def keep(self) -> None:
         """Something is about to be done between two lines of the program; what stands now is kept, once."""

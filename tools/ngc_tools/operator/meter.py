@@ -83,7 +83,8 @@ class Meter:
         return True
 
     def _asked(self) -> Report:
-        """How far the player is. Raises NoAnswer, also where nothing more may be handed out, or counts as handed out."""
+        """How far the player is. Raises NoAnswer, also where nothing more may be handed out, or counts as handed
+        out."""
         if self.link.failed:
             raise NoAnswer(self.link.failed)
         return self.link.ask()

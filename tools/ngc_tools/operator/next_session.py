@@ -13,6 +13,10 @@ from ngc_tools.operator.session import BROKEN, Session
 from ngc_tools.operator.synced import SyncedLink
 from ngc_tools.player.progress import NoAnswer
 
+_HAS_LINES = "the player doesn't let go of its lines"
+_NO_RECORD = """\
+the player can't keep its record yet, and so begins no other session. Once there is room, again; else end it there, and
+start one with a new record, and --at with what the last one said"""
 _PATIENCE_S = 5.0  # how long motors may take to come to rest, and a player to let go of its lines
 
 
@@ -60,7 +64,7 @@ class NextSession:
         until = time.monotonic() + _PATIENCE_S
         while (report := link.ask()).behind or report.word == BROKEN:
             if time.monotonic() > until:
-                raise NoAnswer(f"{link.path}: the player doesn't let go of its lines")
+                raise NoAnswer(f"{link.path}: {_NO_RECORD if report.word == BROKEN else _HAS_LINES}")
             time.sleep(0.005)
         self.session.take(report)
 

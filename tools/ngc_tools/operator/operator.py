@@ -110,7 +110,8 @@ class Operator:
         say_opening(self.session, self.places, self.left, found)
         status = self.console.status()
         self.taken_up = None
-        self.recover.begin(status)
+        self.recover.begin(status, self.left.is_as_left() and status.half != "mdi")
+        self.session.noted = status.entries
         self.session.told = status.place
 
     def do(self, line: str) -> None:
@@ -127,6 +128,8 @@ class Operator:
             self._mdi(typed.line, typed.anyway)
         if typed.word in CHOSEN or are_keys(typed.line):
             self.choices.keep()
+        if not self.work.is_amid:
+            self.session.note_out(self.left.is_as_left)
 
     def load(self, name: str, text: bytes) -> bool:
         """Stores a program that people call `name`, once a dry run tried it; whether it is stored. Raises Ended."""
@@ -138,7 +141,6 @@ class Operator:
         if refused(session, reply, "load"):
             return False
         session.program, session.told = Program(text), 0
-        session.note_out(self.console.status())
         self.face.say(f"{reply}: {name}, {len(text):,} bytes, {session.program.count} lines")
         return True
 
@@ -504,7 +506,6 @@ class Operator:
         self.session.own = ""
         if ended == SINGLE:
             ended = self.console.ask("hold")[0]
-        self.session.note_out(self.console.status())
         return ended
 
     def _say_stand(self, ended: str) -> None:

@@ -4,6 +4,8 @@ The player moves them, since it has the machine's words, its pins and its record
 too. It is sent by a datagram that names bytes of OUT, and takes that only at rest with nothing in hand; where they lead
 it reads itself. So no word of a console can make it leave the lines that were handed out, but for legs, which go up
 first, and the straight line of `resume`, which goes at a feed."""
+from functools import partial
+
 from ngc_tools.formats.device import Device
 from ngc_tools.formats.machine import MOST_PERCENTS
 from ngc_tools.formats.position import Position, millimetres, nanometres
@@ -43,6 +45,9 @@ By the record the motors stand at {at}, behind line {line} of OUT.
 and a motor that turned went on for a while. Where steps may be lost, answer no: home the machine, and start
 the player anew with --at X Y Z.
 Do they stand there? yes goes on, anything else ends: """
+SURE = """\
+The motors stand at {at}, behind line {line} of OUT: that was told since the player began, by a person, a home or the
+step sink"""
 NO_LINES = """\
 Without lines of OUT legs alone lead on, from {at}, where the motors stand by the record.
 What was handed out and not carried out is never cut then, and is cut off OUT. yes goes on, anything else ends: """
@@ -71,14 +76,15 @@ class Recover:
         self.session.face.say("nothing is done: " + left, REFUSED)
         return True
 
-    def begin(self, status: Status) -> None:
-        """Says as the session begins what is left."""
+    def begin(self, status: Status, as_left: bool = False) -> None:
+        """Says as the session begins what is left. `as_left`: nothing was done since the program was left for its next
+        line."""
         self._entries = status.entries
         if self.found is None:
             return
         for said in self.found.said:
             self.session.face.say(said, WARNING)
-        self.session.noting(self.found.note)
+        self.session.noting(partial(self.found.note, as_left))
         beginning = self.found.recovery.beginning
         if self.found.is_left():
             self.session.face.say(LEFT.format(line=self.found.recovery.lines), WARNING)
@@ -271,6 +277,9 @@ class Recover:
         if confirmed_nm == tuple(map(nanometres, report.at.split())):
             return True
         at, line = axes(report.at.split()), report.carried
+        if self.session.meter.link.is_sure():
+            self.session.face.say(SURE.format(at=at, line=line))
+            return True
         return self.session.agrees(STANDS.format(at=at, line=line, past=self.past().words()))
 
     def past(self) -> Past:

@@ -169,6 +169,7 @@ class OutFound:
     recovery: Recovery
     said: list[str]
     is_sent: bool = False  # the motors are on a way, and what stands behind its end isn't cut off yet
+    as_left: bool = False  # nothing was done since the program was left for its next line
     _at_nm: Point = (0, 0, 0)
 
     @staticmethod
@@ -279,13 +280,14 @@ class OutFound:
         if found is None or found.size > size or found.missing:
             self.link.forget()
         else:
-            self.link.note(size, found.size)
+            self.link.note(size, found.size, self.as_left)
 
-    def note(self) -> None:
-        """Notes how OUT stands as a session has begun, if that is known. Raises OSError."""
-        found, size = self.recovery.beginning, self.link.size()
+    def note(self, as_left: bool) -> None:
+        """Notes how OUT stands as a session has begun, if that is known. `as_left`: nothing was done since the program
+        was left for its next line. Raises OSError."""
+        found, size, self.as_left = self.recovery.beginning, self.link.size(), as_left
         if found is not None and not found.missing and found.size <= size:
-            self.link.note(size, found.size)
+            self.link.note(size, found.size, as_left)
 
     def cut(self, size: int) -> None:
         """Cuts off what stands behind so many bytes, where the motors are, and goes on from there. No record on a disk

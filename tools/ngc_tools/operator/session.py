@@ -24,6 +24,9 @@ came with lines in hand, so that no more line of the session is carried out, and
 DOOR, SPINDLE, OTHER = "door", "spindle", "other"
 """What holds motors that nobody told to hold from here."""
 NOT_NOTED = "what OUT has isn't noted beside the device, by which lines are told that are lost with the power"
+_BROKE_OFF = """\
+the player carries out no more line of this session, and says why at its own terminal: as where its record can't be
+kept, on a full disk. Once that is mended, stop begins another session, which goes on as after a loss of power"""
 _LEAST_ROOM = 4096  # bytes: a page of a file
 _MACHINE_S = 0.3  # a player that tells its inputs does so in that time; others are deaf for that question
 
@@ -70,6 +73,7 @@ class Session:
     gone: bool = False
     on_alarm: Callable[[], None] = lambda: None
     machine: MoveReport | None = None
+    noted: int = -1  # so many entries there were as it was noted what OUT has
     is_deaf: bool = False  # the player doesn't tell its inputs
     has_opened: bool = False  # the door was open since the motors are held
     has_failed: bool = False  # they came to be held as they waited for the spindle's speed
@@ -102,12 +106,17 @@ class Session:
             with suppress(NoAnswer):  # the next question says it
                 self.meter.link.passed(status)
             if status.half == "none":
-                self.noting(partial(self.meter.link.note_end, True))
+                self.noting(partial(self.meter.link.note_end, not self.own, True))
 
-    def note_out(self, status: Status) -> None:
-        """Notes what OUT, a file, has where no block is under way."""
-        if status.half == "none" and self.meter and isinstance(self.meter.link, SyncedLink):
-            self.noting(self.meter.link.note_end)
+    def note_out(self, as_left: Callable[[], bool]) -> None:
+        """Notes what OUT, a file, has as a command is done, if no block is under way and something is an entry since.
+        `as_left` says whether nothing was done since the program was left for its next line."""
+        if not self.meter or not isinstance(self.meter.link, SyncedLink) or self.meter.link.notes is None:
+            return
+        status = self.console.status()
+        if status.half == "none" and status.entries != self.noted:
+            self.noted = status.entries
+            self.noting(partial(self.meter.link.note_end, as_left()))
 
     def noting(self, note: Callable[[], None]) -> None:
         """Has it noted what OUT has; says once why that can't be."""
@@ -118,7 +127,8 @@ class Session:
 
     def take(self, report: Report) -> None:
         """Takes what the player says."""
-        was_alarm, before, self.seen = self.is_in(ALARM), self.seen, report
+        was_alarm, was_broken = self.is_in(ALARM), self.is_in(ALARM, BROKEN)
+        before, self.seen = self.seen, report
         if not report.is_held:
             self.has_opened = self.has_failed = False
         elif before is not None and not before.is_held:
@@ -126,6 +136,8 @@ class Session:
         self.face.moved(report)
         if self.is_in(ALARM) and not was_alarm:
             self.on_alarm()
+        if self.is_in(BROKEN) and not was_broken:
+            self.face.say(_BROKE_OFF, WARNING)
 
     def see_machine(self, machine: MoveReport | None) -> None:
         """Takes what it says of moves without lines, and of its inputs."""

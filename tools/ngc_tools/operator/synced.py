@@ -32,8 +32,8 @@ _PART = re.compile(rb"[PDS](?: [-0-9. ]{0,198})?")  # of a line of OUT
 
 @dataclass(frozen=True, slots=True)
 class Hole:
-    """Behind the first `at` bytes of OUT, its line `line`, zeros stood in the place of lines, `zeros` bytes of them. OUT
-    is cut off there, with `lines` lines that stood behind."""
+    """Behind the first `at` bytes of OUT, its line `line`, zeros stood in the place of lines, `zeros` bytes of them.
+    OUT is cut off there, with `lines` lines that stood behind."""
 
     at: int
     line: int
@@ -165,9 +165,10 @@ class SyncedLink(Link):
         """What was noted last of OUT; None where nothing was."""
         return self.notes.read() if self.notes else None
 
-    def note(self, size: int, begins: int) -> None:
+    def note(self, size: int, begins: int, as_left: bool) -> None:
         """Notes that OUT has so many bytes, which are synced before, as the device stands now, with nothing under way;
-        the half-done segment begins behind `begins` bytes, which is `size` without one. Raises OSError."""
+        the half-done segment begins behind `begins` bytes, which is `size` without one. `as_left`: nothing was done
+        since the program was left for its next line. Raises OSError."""
         if self.notes is None or self.failed:
             return
         if self.told != self.size():
@@ -177,13 +178,13 @@ class SyncedLink(Link):
             device = Device.read(self.notes.device)
             self._epoch = device.epoch
             self.notes.write(OutNote(what.st_ino & (2**63 - 1), born_ns(self.file), device.epoch, len(device.records),
-                                     device.state.entries, size, begins))
+                                     device.state.entries, size, begins, as_left))
 
-    def note_end(self, is_anew: bool = False) -> None:
+    def note_end(self, as_left: bool, is_anew: bool = False) -> None:
         """The same of all that OUT has, without a half-done block; with `is_anew` only where the device was written
         anew since. Raises OSError."""
         if self.notes is not None and not (is_anew and self.notes.epoch() == self._epoch):
-            self.note(self.size(), self.size())
+            self.note(self.size(), self.size(), as_left)
 
     def forget(self) -> None:
         """What was noted isn't true of what OUT is to have. Raises OSError."""

@@ -24,6 +24,7 @@ _WORDS = tuple((re.compile(pattern), said) for pattern, said in (
     (r"Once (it|the player) answers( again)?, (again|run goes on); if it is gone, quit, and start a player and this"
      r" again", r"Once \1 answers again, Run goes on; if it is gone, start it, then Start ngc again"),
     (r"Once the disk is well, quit, and start this again: it", "Once the disk is well, Start ngc again: that"),
+    (r"stop begins another session", "Start ngc again begins another session"),
     (r"home comes first; until then where and quit alone are taken", "home comes first"),
     (r"quit, start (the player|player) and this again, and go on as after a loss of power",
      "start the player, then Start ngc again, and go on as after a loss of power"),

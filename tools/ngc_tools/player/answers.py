@@ -13,6 +13,8 @@ from ngc_tools.player.progress import KEPT, PERCENT, QUESTION, SPINDLE, SYNCED, 
 class Asked(Protocol):
     """The player, as the thread that answers sees it. Each of these may be called while it carries out a line."""
 
+    is_sure: bool  # where the motors are was told by a person since it began
+
     def report(self) -> Report:
         """How far it is."""
 
@@ -115,7 +117,7 @@ class Answers:
         elif match := SYNCED.fullmatch(text):
             self._player.synced(int(match[1]))
         elif KEPT.fullmatch(text):
-            self._listener.answer(text + b" " + kept_text(self._player.kept()), sender)
+            self._listener.answer(text + b" " + kept_text(self._player.kept(), self._player.is_sure), sender)
         elif text.startswith((b"along ", b"legs ", b"straight ", b"switch ")):
             self._player.go_where(text)
         elif text == b"last":

@@ -101,8 +101,9 @@ class Keeper:
         carried out. Raises OSError or BadRecord."""
         self.worst_ms = 0.0
         self._found_ms = found_ms
-        self.failed: OSError | None = None
-        self._file = file
+        self.failed: OSError | None = None  # why it can't be kept now ..
+        self.why: OSError | None = None  # .. and why it couldn't be last
+        self._file, self.path = file, file.path
         self._standing = standing
         self._end = threading.Event()
         self.kept: Record | None = None  # what stands on the disk
@@ -115,8 +116,6 @@ class Keeper:
         """Syncs the last record. Raises OSError if a write or a sync failed."""
         self._end.set()
         self._thread.join()
-        if self.failed:
-            raise self.failed
         self._keep()
 
     def _work(self) -> None:
@@ -125,8 +124,9 @@ class Keeper:
             try:
                 was_newer = self._keep()
             except OSError as error:
-                self.failed = error
-                return
+                self.failed = self.why = error
+                continue
+            self.failed = None
             if was_newer:
                 self.worst_ms = max(self.worst_ms, (time.monotonic() - self._kept_s) * 1000)
             self._kept_s = taken

@@ -14,7 +14,7 @@ from ngc_tools.player.keeper import Keeper
 from ngc_tools.player.manner import Anew, Counts, Manner, Stopped
 from ngc_tools.player.person import Person
 from ngc_tools.player.pins import Pins
-from ngc_tools.player.progress import MOVED, Report
+from ngc_tools.player.progress import BROKEN, MOVED, Report
 from ngc_tools.player.retrace import Goes, read_errand
 from ngc_tools.player.schedule import Schedule
 from ngc_tools.player.source import Source
@@ -38,6 +38,8 @@ class Player(Goes):
         self.is_off = begun.is_off
         self.path_nm = begun.path_nm
         self.screws = self.backlash.known(begun.screws)
+        self.is_sure = False  # where the motors are was told by a person since it began
+        self.is_broken = False  # no more line of this session is carried out
         self.is_untold = False  # the motors moved without lines, and nobody said since that `ngc` knows where they are
         self.counts = Counts()
         self.schedule = Schedule(manner.timed)
@@ -111,8 +113,11 @@ class Player(Goes):
             received += self._wants_anew and received == self.lines
             return Report(self.lines, received, tool is not None, str(self.position), self.out,
                           self.outputs, tool or 0, self._stands_held and tool is None and not self.is_untold,
-                          self.percent, self._wants, MOVED if self.is_untold else "works", self.spindle.percent,
-                          self.again)
+                          self.percent, self._wants, self._word(), self.spindle.percent, self.again)
+
+    def _word(self) -> str:
+        """What it does, but for a tool and a hold."""
+        return BROKEN if self.is_broken else MOVED if self.is_untold else "works"
 
     def stand_at(self, at_nm: tuple[int, int, int]) -> None:
         """Takes where the machine stands, as after its axes were moved by hand, if nothing is behind: `ngc` knows it
@@ -122,6 +127,7 @@ class Player(Goes):
             position = Position(self.position.step_nm, at_nm)
             is_behind = self.source.received != self.lines and position.steps != self.position.steps
             if not is_behind and not self.errand:
+                self.is_sure = self.is_sure or position.steps != self.position.steps
                 told = zip(self.position.steps, position.steps, self.screws)
                 self.screws = [screw if was == now else UNKNOWN for was, now, screw in told]
                 self._leave_path(self.position.nm)
@@ -199,6 +205,33 @@ class Player(Goes):
                 return
             except Anew:
                 self._begin_anew()
+            except Stopped as why:
+                if why.word != "record" or self.answers is None or self.stops:
+                    raise
+                self._await_record(why)
+
+    def _await_record(self, why: Stopped) -> None:
+        """Stands where the record can't be kept, with spindle and coolant off, until it can, and another session
+        follows: no more line of this one is carried out. Raises Stopped, or OSError of the pins."""
+        self._turn_off()
+        cause = f"{self.keeper.path}: {self.keeper.why.strerror}"
+        self.manner.said(f"{self.source.path}: {why}; {cause}; spindle and coolant off. Once it can, another session"
+                         " goes on")
+        self.is_broken = True
+        while not (self._wants_anew and self.keeper.failed is None):
+            if self.stops or self.answers.ended:
+                raise why
+            with self._lock:
+                self._drop_lines()
+            time.sleep(SLICE_NS / 1e9)
+        self._begin_anew()
+
+    def _drop_lines(self) -> None:
+        """Lets go of what is in hand or stands in OUT, at rest. The lock is held."""
+        self._take_all()
+        self.source.go_to(self.lines, self.size)
+        self.source.limit = self.size if self.source.is_file else None
+        self.errand = None
 
     def _begin_anew(self) -> None:
         """Begins the next session, at rest: spindle and coolant are off, what is in hand or stands in OUT is let go,
@@ -206,10 +239,8 @@ class Player(Goes):
         if self.is_on():
             self._turn_off()
         with self._lock:
-            self._take_all()
-            self.source.go_to(self.lines, self.size)
-            self.source.limit = self.size if self.source.is_file else None
-            self.errand = self.again = None
+            self._drop_lines()
+            self.again, self.is_broken = None, False
             self.is_held = self._stands_held = False
             self._tool, self._left_ns = None, 0
             self._wants_anew = False

@@ -31,7 +31,8 @@
 `kept N`
     is answered by `kept N lines L bytes B age MS`: so many lines and bytes are carried out by the record on the disk,
     and it was so old at most, in milliseconds, as the next one came; 0 where that isn't known. `path X Y Z` behind is
-    where these lines lead, where the motors aren't there and it is known.
+    where these lines lead, where the motors aren't there and it is known. `sure` stands last where, since the player
+    began, a person told where the motors are, all axes were homed, or a step sink said what it made.
 `along BYTES`, `along BYTES S ..`
     The motors go to where the first BYTES bytes of OUT, a file, lead: on along its lines, or back. It is taken while
     the player stands still and nothing is in hand. What stands behind, as outputs, is switched on first. Until they are
@@ -81,7 +82,7 @@ PERCENT = re.compile(rb"percent ([1-9][0-9]{0,2})")
 SPINDLE = re.compile(rb"spindle percent ([1-9][0-9]{0,2})")
 _OTHER = "it is of another version: take a player and a console of one version"
 _LONGEST = 192  # bytes of a datagram to a player
-_KEPT = re.compile(r"lines (\d+) bytes (\d+) age (\d+)(?: path (\S+ \S+ \S+))?")
+_KEPT = re.compile(r"lines (\d+) bytes (\d+) age (\d+)(?: path (\S+ \S+ \S+))?( sure)?")
 _WORDS = "works|held|moves|moved|alarm|broken|waits spindle"
 _REPORT = re.compile(rf"carried (\d+) received (\d+) ({_WORDS}|waits tool (\d{{1,3}})) reference (\S+ \S+ \S+)"
                      r" outputs (S \d \S+ \d \d \d+ \d+)(?: again (S \d \S+ \d \d \d+ \d+))? percent (\d+)"
@@ -91,6 +92,8 @@ UNDER_WAY = "moves"
 """What a report says while a move without lines is under way."""
 MOVED = "moved"
 """What a report says behind a move without lines, until the player is told that `ngc` knows where the machine is."""
+BROKEN = "broken"
+"""What a report says where no more line of this session is carried out."""
 _POINT = r"none|\S+ \S+ \S+"
 _MACHINE = re.compile(rf"does (stands|(?:home|jog|seek) \S+) homed ([XYZ]+|none) alarm (\w+) on (\S+)"
                       rf" touched ({_POINT}) ended (\d+) (.*)", re.DOTALL)
@@ -190,10 +193,11 @@ def _switch(text: str) -> Switch | None:
     return line if isinstance(line, Switch) else None
 
 
-def kept_text(record: Record) -> bytes:
-    """What is answered of the record on the disk."""
+def kept_text(record: Record, is_sure: bool) -> bytes:
+    """What is answered of the record on the disk. `is_sure`: where the motors are was told since the player began."""
     path = f" path {' '.join(map(millimetres, record.path_nm))}" if record.path_nm not in (None, record.at_nm) else ""
-    return f"lines {record.lines} bytes {record.size} age {record.age_ms}{path}".encode()
+    sure = " sure" if is_sure else ""
+    return f"lines {record.lines} bytes {record.size} age {record.age_ms}{path}{sure}".encode()
 
 
 class Listener:
@@ -363,6 +367,11 @@ class Link:
         """Where the lines lead that the record counts, as `7.21 0 0`, where the motors aren't there and it is known;
         else nothing. Raises NoAnswer."""
         return self._kept()[4] or ""
+
+    def is_sure(self) -> bool:
+        """Whether where the motors are was told by a person, a home or a step sink, since the player began. Raises
+        NoAnswer."""
+        return self._kept()[5] is not None
 
     def _kept(self) -> re.Match[str]:
         self.count += 1

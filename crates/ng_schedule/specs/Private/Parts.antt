@@ -14,6 +14,7 @@ use Rattle.ng_schedule.specs.Schedule.{BeginsNoLine, Timed, lines_of, span, time
 use Rattle.ng_schedule.specs.declared.ending.Shown.{Shown}
 use Rattle.ng_schedule.specs.declared.ending.Halt.{Halt}
 use Rattle.ng_schedule.specs.declared.ending.Halt.TheVariants as halt
+use Rattle.ng_schedule.specs.declared.ending.ScheduleFault.TheVariants as schedule_fault
 use Rattle.ng_schedule.specs.declared.ending.Stop.{Stop}
 use Rattle.ng_schedule.specs.declared.ending.Stop.TheVariants as stop
 use Rattle.ng_schedule.specs.declared.giving.Schedule.{Schedule}
@@ -98,10 +99,10 @@ pub record IsCut (limits : Limits) (shown : Shown) (old new : Option (List ℕ))
   pub after : List ℕ
   pub begins : timed_text shown 0 timed ≡ out ++ after
 
--- no more lines are given
+-- no more lines are given, and not for limits that can't be met
 abbrev pub HaltSpec : {Z : Type 0} → Limits → Option (List ℕ) → Option (List ℕ) → List ℕ → Schedule Z → Halt → Type 0
 HaltSpec limits old new bytes s halt.TooLate = IsTooLate limits old new bytes s
-HaltSpec limits old new bytes s (halt.Fault fault) = IsCut limits s.shown old new bytes
+HaltSpec limits old new bytes s (halt.Fault fault) = (fault ≢ schedule_fault.Limits) × IsCut limits s.shown old new bytes
 
 -- no more lines are taken
 abbrev pub StopSpec : {Z : Type 0} → Limits → Option (List ℕ) → Option (List ℕ) → List ℕ → Schedule Z → Stop → Type 0

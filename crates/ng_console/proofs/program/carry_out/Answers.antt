@@ -13,7 +13,7 @@ told P (Err e) status is h = inl is
 
 pub returns-after-from-clause-run : goal.returns-after-from-clause-run
 returns-after-from-clause-run g c =
-    let P : ℕ → Type 0 = λ status. JobSpec g.R.File.Read.remaining (Dry c.in-Dry.program c.in-Dry.from c.in-Dry.settings c.in-Dry.block_delete)
+    let P : ℕ → Type 0 = λ status. JobSpec g.R.File.Read.remaining g.R.File.Write.contents (Dry c.in-Dry.program c.in-Dry.from c.in-Dry.settings c.in-Dry.block_delete)
     (g.I.Read.remaining c.args.reader.now) (g.W.Write.contents c.args.writer.now) (g.W.Write.contents c.run_chosen.new.writer) status in
     let has_settings : is_some c.match-settings.settings ≡ is_some c.in-Dry.settings = elim c.match-settings.branch [
       | in-Some w ↦ ap is_some w.settings-is ∙ sym (ap is_some w.in-Some.is)
@@ -37,7 +37,7 @@ returns-after-from-clause-run g c =
 
 pub returns-in-Format-clause-run : goal.returns-in-Format-clause-run
 returns-in-Format-clause-run g c =
-    let P : ℕ → Type 0 = λ status. JobSpec g.R.File.Read.remaining (Format c.in-Format.device c.in-Format.large) (g.I.Read.remaining c.args.reader.now)
+    let P : ℕ → Type 0 = λ status. JobSpec g.R.File.Read.remaining g.R.File.Write.contents (Format c.in-Format.device c.in-Format.large) (g.I.Read.remaining c.args.reader.now)
     (g.W.Write.contents c.args.writer.now) (g.W.Write.contents c.format_opened.new.writer) status in
     rw c.in-Format.is (told P c.format_opened.result c.unwrap_or-in-Format.result c.unwrap_or-in-Format.ensures
     (IfOk-weaker c.format_opened.result _ P (λ status h. (c.make_device-opened.result, h)) c.format_opened.ensures.run))

@@ -4,6 +4,7 @@ use Rattle.std.proofs.lemmas.Iterator.Consumers.{YieldsList-from_rest}
 use Rattle.std.proofs.lemmas.Iterator.Search.{find_from_yields_List}
 use Rattle.std.specs.BTreeMap.{keys}
 use Rattle.std.specs.List.{find}
+use Rattle.ng_motion.specs.Key.{is_key}
 use Rattle.ng_motion.specs.Name.{shown_name}
 use Rattle.ng_motion.specs.Given.{unknown_key}
 use Rattle.ng_motion.proofs.NameLemmas.{is_unknown, unknown_in_names}
@@ -12,18 +13,18 @@ use Rattle.ng_motion.proofs.given.unknown_key.Goals as goal
 pub returns-in-Some : goal.returns-in-Some
 unfolding unknown_key
 returns-in-Some c =
-    let found : option_map (λ x. x.now) c.find.result ≡ find is_unknown (keys c.args.table.now) =
-    find_from_yields_List is_unknown _ _ c.find.result c.find.ensures.ran (YieldsList-from_rest _ c.keys.ensures.rest) (λ x b q k. search (rules, tests)) in
+    let found : option_map (λ x. x.now) c.find.result ≡ find (is_unknown is_key) (keys c.args.table.now) =
+    find_from_yields_List (is_unknown is_key) _ _ c.find.result c.find.ensures.ran (YieldsList-from_rest _ c.keys.ensures.rest) (λ x b q k. search (rules, tests)) in
     let name : option_map (λ x. x.now) c.find.result ≡ Some c.in-Some.name.now = ap (option_map (λ x. x.now)) c.in-Some.is in (
       string_bytes c.in-Some.name.now,
-      sym (unknown_in_names c.args.table.now.entries) ∙ ap (option_map string_bytes) (sym found ∙ name),
+      sym (unknown_in_names is_key c.args.table.now.entries) ∙ ap (option_map string_bytes) (sym found ∙ name),
       c.of.ensures ∙ ap shown_name (c.as_bytes.ensures.value ∙ c.as_str.ensures.value),
     )
 
 pub returns-in-None : goal.returns-in-None
 unfolding unknown_key
 returns-in-None c =
-    let found : option_map (λ x. x.now) c.find.result ≡ find is_unknown (keys c.args.table.now) =
-    find_from_yields_List is_unknown _ _ c.find.result c.find.ensures.ran (YieldsList-from_rest _ c.keys.ensures.rest) (λ x b q k. search (rules, tests)) in
+    let found : option_map (λ x. x.now) c.find.result ≡ find (is_unknown is_key) (keys c.args.table.now) =
+    find_from_yields_List (is_unknown is_key) _ _ c.find.result c.find.ensures.ran (YieldsList-from_rest _ c.keys.ensures.rest) (λ x b q k. search (rules, tests)) in
     let none : option_map (λ x. x.now) c.find.result ≡ None = ap (option_map (λ x. x.now)) c.in-None.is in
-    sym (unknown_in_names c.args.table.now.entries) ∙ ap (option_map string_bytes) (sym found ∙ none)
+    sym (unknown_in_names is_key c.args.table.now.entries) ∙ ap (option_map string_bytes) (sym found ∙ none)

@@ -3,15 +3,16 @@ use Rattle.ng_text.specs.Split.{HasNoNewline}
 use Rattle.ng_schedule.specs.Private.Parts.{IsUnderWay}
 use Rattle.ng_schedule.specs.declared.ending.ScheduleFault.TheVariants.{Reader}
 use Rattle.ng_schedule.proofs.FinishLemmas.{ScheduleSpec-from, begun, cut_broken, nothing_written, run_ends, run_stops}
+use Rattle.ng_schedule.proofs.RunStepLemmas.{stops_for_no_limits}
 use Rattle.ng_schedule.proofs.ScheduleRunLemmas.{cut}
 use Rattle.ng_text.proofs.KnownBytesLemmas.{Consumes-nil, Consumes-trans}
 use Rattle.ng_schedule.proofs.run.schedule.Goals as goal
 
-pub returns-in-Err : goal.returns-in-Err
-returns-in-Err g c = nothing_written c.args.limits c.args.shown _ _ c.in-Err.fault
+pub returns-in-Err-clause-run : goal.returns-in-Err-clause-run
+returns-in-Err-clause-run g c = nothing_written c.args.limits c.args.shown _ _ c.in-Err.fault
 
-pub returns-in-Err-read : goal.returns-in-Err-read
-returns-in-Err-read g c =
+pub returns-in-Err-read-clause-run : goal.returns-in-Err-read-clause-run
+returns-in-Err-read-clause-run g c =
     let so_far = c.loop-pass.invariant.0 in
     let s = c.loop-pass.splitter.schedule in
     run_stops c.args.limits _ _ _ _ so_far.0 c.args.shown (Err Reader) so_far.1
@@ -19,23 +20,23 @@ returns-in-Err-read g c =
     (cut c.args.limits _ _ so_far.0 c.loop-pass.splitter.partial.items s c.args.shown (sym c.loop-pass.invariant.2)
     so_far.2))
 
-pub returns-in-Ok-eq0 : goal.returns-in-Ok-eq0
-returns-in-Ok-eq0 g c =
+pub returns-in-Ok-eq0-clause-run : goal.returns-in-Ok-eq0-clause-run
+returns-in-Ok-eq0-clause-run g c =
     let so_far = c.loop-pass.invariant.0 in
     let r = c.in-Ok-eq0.ensures.bytes in
     let has_bytes : 0 < length c.read.new.buf = omega arith in
     run_ends c.args.limits _ _ _ _ _ so_far.0 _ _ c.args.shown c.close.result so_far.1 r.0 c.in-Ok-eq0.field-0-test (r.1 c.in-Ok-eq0.field-0-test has_bytes)
     (ScheduleSpec-from c.args.limits _ c.args.shown so_far.0 so_far.0 _ _ c.close.result
-    (sym c.loop-pass.invariant.2) refl (c.close.ensures c.args.limits _ so_far.0 so_far.2))
+    (sym c.loop-pass.invariant.2) refl (c.close.ensures.step c.args.limits _ so_far.0 so_far.2))
 
-pub returns-in-Err-take : goal.returns-in-Err-take
-returns-in-Err-take g c =
+pub returns-in-Err-take-clause-run : goal.returns-in-Err-take-clause-run
+returns-in-Err-take-clause-run g c =
     let so_far = c.loop-pass.invariant.0 in
     let r = c.in-Ok-read.ensures.bytes in
     let bytes = take c.in-Ok-read.n c.read.new.buf in
     run_stops c.args.limits _ _ _ _ (so_far.0 ++ bytes) c.args.shown c.stop.result (Consumes-trans _ _ _ _ _ so_far.1 r.0)
     (λ more. ScheduleSpec-from c.args.limits _ c.args.shown _ _ _ _ c.stop.result (sym (c.take.ensures.shown ∙ c.loop-pass.invariant.2)) refl
-    (c.stop.ensures c.args.limits _ (so_far.0 ++ bytes) more (c.in-Err-take.ensures.step c.args.limits _ so_far.0 so_far.2)))
+    (c.stop.ensures.step c.args.limits _ (so_far.0 ++ bytes) more (c.in-Err-take.ensures.step c.args.limits _ so_far.0 so_far.2)))
 
 pub loop-pass-preserved : goal.loop-pass-preserved
 loop-pass-preserved g c =
@@ -47,8 +48,8 @@ loop-pass-preserved g c =
       c.take.ensures.shown ∙ c.loop-pass.invariant.2,
     )
 
-pub returns : goal.returns
-returns g c =
+pub returns-clause-run : goal.returns-clause-run
+returns-clause-run g c =
     let so_far = c.loop-pass.invariant.0 in
     let s = c.loop-pass.splitter.schedule in
     run_stops c.args.limits _ _ _ _ so_far.0 c.args.shown (Err Reader) so_far.1
@@ -131,3 +132,9 @@ drop-splitter-requires-3 g c κs = search rules
 
 pub drop-splitter-requires-4 : goal.drop-splitter-requires-4
 drop-splitter-requires-4 g c κs = search rules
+
+pub returns-in-Err-take-clause-limits : goal.returns-in-Err-take-clause-limits
+returns-in-Err-take-clause-limits g c met =
+    let so_far = c.loop-pass.invariant.0 in
+    c.stop.ensures.limits (stops_for_no_limits c.args.limits _ _ _ c.take.new.self.schedule c.in-Err-take.stop
+    (c.in-Err-take.ensures.step c.args.limits _ so_far.0 so_far.2))

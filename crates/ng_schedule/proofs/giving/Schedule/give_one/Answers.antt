@@ -1,7 +1,7 @@
 use Rattle.std.proofs.Common.{◌≡◌, ◌∙◌, ◌+◌, ◌≤◌, [], ap, length, refl, subst, sym, false, arith}
 use Rattle.ng_pace.specs.Stream.{Flow}
 use Rattle.ng_schedule.specs.Private.Parts.{IsFull}
-use Rattle.ng_schedule.proofs.ScheduleRunLemmas.{cut, told}
+use Rattle.ng_schedule.proofs.ScheduleRunLemmas.{told}
 use Rattle.ng_schedule.proofs.StreamLemmas.{still_full}
 use Rattle.ng_schedule.proofs.giving.Schedule.give_one.Goals as goal
 
@@ -15,8 +15,8 @@ returns-in-Ok-false-give_next-clause-step g c limits start bytes partial here fu
     (record c.give_next.new.self { stream = c.end.new.self }) first none full' c.end.ensures refl refl refl
     refl in
     let full'' = still_full c.give_next.new.self.stream c.end.new.self c.end.ensures full' in
-    cut limits start _ bytes partial c.give_next-2.new.self c.give_next-2.new.self.shown refl
-    (c.in-Ok-false-give_next.ensures.step false limits start bytes partial ended (λ no. full''))
+    let none' : c.end.new.self.motion.known ≡ [] = c.in-Ok-false-give_next.ensures.none c.in-Ok-false-give_next.field-0-test in
+    absurd (omega (arith, full'', ap length none', ap length c.end.ensures.none, ended.streamed.capacity_is))
 
 pub returns-in-Err-give_next-clause-step : goal.returns-in-Err-give_next-clause-step
 returns-in-Err-give_next-clause-step g c limits start bytes partial here full =

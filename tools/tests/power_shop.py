@@ -1,0 +1,505 @@
+"""The programs of a job whose power is lost: a console, a player, a step sink; and what a loss of power leaves of their
+files, by what `power_disk.c` told of each call."""
+import json
+import mmap
+import os
+import random
+import select
+import signal
+import socket
+import struct
+import subprocess
+import sys
+import time
+from contextlib import suppress
+from dataclasses import dataclass, field
+from pathlib import Path
+
+from power_path import Steps, Uncut, Wrong
+
+HERE = Path(__file__).resolve().parent
+MACHINE = """[motion]
+accel_mm_s2 = [20000, 20000, 20000]
+most_percent = 150
+"""
+PATIENCE_S = int(os.environ.get("NGC_PATIENCE_S", "60"))
+FILES = ("mill.dev", "out", "position")
+SECTOR = 512
+
+
+ENTRY, HEAD = struct.Struct("=IIIIqqQQ"), struct.Struct("=QQQIIII64i")
+WRITE, SYNC, CUT, PUNCH = range(4)
+LOG_BYTES = 1 << 26
+
+
+@dataclass(slots=True)
+class Call:
+    """A call that changed a file, or synced it: when it began and ended, in ns, and whether what it wrote is lasting.
+    One that didn't end has no end."""
+
+    op: int
+    at: int
+    data: bytes
+    length: int
+    begun: int
+    ended: int
+    failed: bool
+    is_lasting: bool = False
+
+
+def read_log(path: Path) -> list[list[Call]]:
+    """The calls for each file, in order."""
+    calls: list[list[Call]] = [[] for _ in FILES]
+    with path.open("rb") as file:
+        end, = struct.unpack("=Q", file.read(8))
+        file.seek(0)
+        whole = file.read(end)
+    place = HEAD.size
+    while place + ENTRY.size <= len(whole):
+        size, state, which, op, at, length, begun, ended = ENTRY.unpack_from(whole, place)
+        if size == 0:
+            break
+        data = whole[place + ENTRY.size:place + ENTRY.size + length] if op == WRITE and state != 3 else b""
+        if state and which < len(FILES):
+            calls[which].append(Call(op, at, data, length, begun, ended, state == 3))
+        place += size
+    for each in calls:
+        mark_lasting(each)
+    return calls
+
+
+def mark_lasting(calls: list[Call]) -> None:
+    """Marks what a sync made lasting. What a sync that failed was to write isn't, whatever comes after it."""
+    waiting: list[Call] = []
+    for call in calls:
+        if call.op == SYNC and call.ended:
+            for each in waiting:
+                each.is_lasting = not call.failed and 0 < each.ended <= call.begun
+            waiting = [each for each in waiting if not 0 < each.ended <= call.begun]
+        elif call.op != SYNC and not call.failed:
+            waiting.append(call)
+
+
+class Image:
+    """A file's bytes, to which calls are applied."""
+
+    def __init__(self, content: bytes) -> None:
+        self.content = bytearray(content)
+
+    def apply(self, call: Call, begin: int = 0, end: int | None = None) -> None:
+        """All of a call, or these bytes of it."""
+        if call.op == CUT:
+            self._lengthen(call.at)
+            del self.content[call.at:]
+        elif call.op == PUNCH:
+            self.content[call.at:call.at + call.length] = bytes(
+                min(call.length, max(0, len(self.content) - call.at)))
+        elif call.op == WRITE:
+            data = call.data[begin:end]
+            self._lengthen(call.at + begin)
+            self.content[call.at + begin:call.at + begin + len(data)] = data
+
+    def _lengthen(self, size: int) -> None:
+        self.content += bytes(max(0, size - len(self.content)))
+
+
+KEEPS = ("all", "none", "first", "torn", "any", "hole")
+
+
+def left_of(before: bytes, calls: list[Call], keeps: str, chance: random.Random, is_torn: bool) -> bytes:
+    """What is left of a file: what was lasting, and of the rest all, none, the first calls, these with a part of the
+    next one, any sectors, or the last without some before it."""
+    image = Image(before)
+    open_calls = [call for call in calls if call.op != SYNC and not call.failed and not call.is_lasting]
+    kept = chance.randint(0, len(open_calls)) if keeps in ("first", "torn") else len(open_calls)
+    for call in calls:
+        if call.op == SYNC or call.failed:
+            continue
+        if call.is_lasting or keeps == "all":
+            image.apply(call)
+        elif keeps in ("first", "torn") and kept > 0:
+            kept -= 1
+            part = chance.randint(0, len(call.data)) if keeps == "torn" and is_torn and kept == 0 else None
+            image.apply(call, 0, part)
+        elif keeps == "any":
+            apply_sectors(image, call, chance)
+        elif keeps == "hole" and (chance.random() < 0.5 or call is open_calls[-1]):
+            image.apply(call)
+    return bytes(image.content)
+
+
+def apply_sectors(image: Image, call: Call, chance: random.Random) -> None:
+    """Any sectors of a call; of one that writes none all of it, or nothing."""
+    if call.op != WRITE:
+        if chance.random() < 0.5:
+            image.apply(call)
+        return
+    begin = 0
+    while begin < len(call.data):
+        end = min(len(call.data), begin + SECTOR - (call.at + begin) % SECTOR)
+        if chance.random() < 0.5:
+            image.apply(call, begin, end)
+        begin = end
+
+
+CONSOLES = """
+import json, os, signal, socket, sys
+sys.path.insert(0, sys.argv[1])
+from ngc_tools.cli.operate import main
+signal.signal(signal.SIGCHLD, signal.SIG_IGN)
+control = socket.socket(fileno=int(sys.argv[2]))
+while True:
+    text, files, _, _ = socket.recv_fds(control, 65536, 3)
+    if not text:
+        os._exit(0)
+    folder, given, words = json.loads(text)
+    os.chdir(folder)  # what is killed is known by it
+    child = os.fork()
+    if child == 0:
+        for at in range(3):
+            os.dup2(files[at], at)
+        for file in (*files, control.fileno()):
+            os.close(file)
+        signal.signal(signal.SIGCHLD, signal.SIG_DFL)
+        sys.stdin, sys.stdout, sys.stderr = os.fdopen(0), os.fdopen(1, "w"), os.fdopen(2, "w")
+        os.environ.update(given)
+        os._exit(main(words))
+    os.chdir("/")
+    for file in files:
+        os.close(file)
+    control.send(str(child).encode())
+"""
+
+
+class Consoles:
+    """Starts `ngc-operate` by a fork of one that is loaded already, with the words and streams of a command."""
+
+    def __init__(self, preload: str) -> None:
+        self.control, theirs = socket.socketpair()
+        words = [sys.executable, "-c", CONSOLES, str(HERE.parent), str(theirs.fileno())]
+        self.child = subprocess.Popen(words, env={**os.environ, "LD_PRELOAD": preload}, pass_fds=[theirs.fileno()])
+        theirs.close()
+
+    def start(self, folder: Path, env: dict[str, str], words: list[str]) -> tuple[int, int, int]:
+        """Its process, its input and its output."""
+        theirs_in, mine_in = os.pipe()
+        mine_out, theirs_out = os.pipe()
+        socket.send_fds(self.control, [json.dumps([str(folder), env, words]).encode()],
+                        [theirs_in, theirs_out, theirs_out])
+        child = int(self.control.recv(64))
+        os.close(theirs_in)
+        os.close(theirs_out)
+        return child, mine_in, mine_out
+
+    def close(self) -> None:
+        """Ends it."""
+        self.control.close()
+        self.child.wait()
+
+
+@dataclass
+class Job:
+    """A program, its uncut run, and what is typed at its stops. `over` is a file, a pipe, or a file and a step sink.
+    With ramps the motors follow `machine.toml`, are jogged at stops, held, and go at other rates."""
+
+    text: bytes
+    uncut: Uncut
+    typed: list[bytes] = field(default_factory=list)
+    over: str = "file"
+    has_ramps: bool = False
+    asks_tool: bool = False  # the player, before it goes on with another one
+
+    @property
+    def words(self) -> list[str]:
+        """The player's."""
+        return [*([] if self.asks_tool else ["-t"]), *(["-b", "4096"] if self.over == "pipe" else ["-f"]),
+                *([] if self.over == "sink" else ["-p", "pins"]),
+                *(["-m", "machine.toml"] if self.has_ramps else [])]
+
+    @property
+    def ahead(self) -> int:
+        """How many lines of OUT a loss of power may cost, by docs/OUTPUT.md: with ramps at 1.5 times 20 kHz, and 20
+        million steps/s2."""
+        return 0 if self.over != "pipe" else 990 if self.has_ramps else 100
+
+    def typed_at(self, move: int | None) -> bytes:
+        """The line that is typed before this move; nothing, if there is none."""
+        at = sorted({place for kind, place, _ in self.uncut.begins if kind == "mdi"})
+        return next((line for place, line in zip(at, self.typed) if self.uncut.begins["mdi", place, 0] == move), b"")
+
+
+class Sink:
+    """A step sink at a pseudo terminal, with a clock of its own. What it makes is told in a file."""
+
+    def __init__(self, program: str, folder: Path, boot: int, before: list[bytes]) -> None:
+        """`before` is what was made before."""
+        self.before = before
+        self.path = folder / f"sink-{boot}"
+        with self.path.open("wb") as said:
+            self.child = subprocess.Popen([program, str(boot)], stdin=subprocess.PIPE, stdout=said)
+        until = time.monotonic() + PATIENCE_S
+        while not self.path.read_bytes().endswith(b"\n") and time.monotonic() < until:
+            time.sleep(0.002)
+        line = self.path.read_text().splitlines()[0]
+        self.told = 0
+        self.tell("serve 20")
+        (folder / "machine.toml").write_text(f'{MACHINE}[sink]\nline = "{line}"\nbaud = 2000000\n')
+
+    def tell(self, line: str) -> None:
+        """Has it do a line of its input; what it made before is in the file then."""
+        self.child.stdin.write(line.encode() + b"\n")
+        self.child.stdin.flush()
+        self.told += 1
+        until = time.monotonic() + PATIENCE_S
+        while self.path.read_bytes().count(b"\n.") < self.told and time.monotonic() < until:
+            time.sleep(0.002)
+
+    def rest(self) -> None:
+        """Lets it make what it has, up to its rest: it hears nothing for half a second of its clock."""
+        self.tell("serve 1")
+        before, until = -1, time.monotonic() + PATIENCE_S
+        while len(self.lines()) != before and time.monotonic() < until:
+            before = len(self.lines())
+            time.sleep(0.8)
+        self.tell("serve 20")
+
+    def end(self) -> None:
+        """Its power is lost."""
+        self.child.kill()
+        self.child.wait()
+        self.child.stdin.close()
+
+    def lines(self) -> list[bytes]:
+        """What it made, as lines of OUT, whose times aren't known."""
+        self.tell("inputs 0")
+        whole = self.path.read_bytes().rpartition(b"\n")[0]
+        return self.before + [line for line in map(made_line, whole.split(b"\n")[1:]) if line]
+
+
+def made_line(text: bytes) -> bytes:
+    """A line of what a sink's pins did, as one of OUT; nothing of one without a step."""
+    kind, *rest = text.split()
+    if kind == b"S":
+        spindle, speed, mist, flood, selected, slot = map(int, rest[1:])
+        return b"S %d %d.%06d %d %d %d %d" % (spindle, speed // 10**6, speed % 10**6, mist, flood, selected, slot)
+    axes, down = map(int, rest[1:]) if kind == b"P" else (0, 0)
+    steps = tuple((axes >> axis & 1) * (-1 if down >> axis & 1 else 1) for axis in range(3))
+    return b"P %d %d %d 0" % steps if any(steps) else b""
+
+
+@dataclass
+class Tools:
+    """Where the programs are."""
+
+    ngc: str
+    player: str
+    preload: str
+    consoles: Consoles
+    sink: str
+    wrong_sink: str  # says that it made one line more
+
+
+class Lost(Exception):
+    """Power was lost, or the console is gone."""
+
+
+class Shop:
+    """A player and a console over the files of a folder, from their start to a loss of power."""
+
+    def __init__(self, tools: Tools, folder: Path, deeds: str, at: Steps | None, job: Job, sink: Sink | None) -> None:
+        """Starts the player. `deeds` are of power_disk.c, `at` is where the motors were measured."""
+        self.tools, self.folder, self.sink = tools, folder, sink
+        self.log = folder / "log"
+        with self.log.open("wb") as file:
+            file.write(HEAD.pack(HEAD.size, *[0] * 70))
+            file.truncate(LOG_BYTES)
+        with self.log.open("r+b") as file:
+            self.head = mmap.mmap(file.fileno(), HEAD.size)
+        self.before = {name: read_or_none(folder / name) for name in FILES}
+        self.said, self.killed, self.begun = "", False, time.monotonic()
+        self.deadline: float | None = None
+        self.alone: tuple[float, str] | None = None
+        (folder / "progress").unlink(missing_ok=True)
+        self.env = {"NGC_POWER": str(self.log), "NGC_POWER_DO": deeds}
+        measured = [] if at is None else ["-a", *(f"{each / 1000:.3f}" for each in at)]
+        self.player = self._start_player([*measured, *job.words])
+        self.hold_at = 0.0  # when Ctrl-C is pressed while something runs, if that isn't 0
+        self.console = self.into = self.out_of = -1
+
+    def _start_player(self, words: list[str]) -> subprocess.Popen[bytes]:
+        command = [self.tools.player, "-o", "1", "-s", "progress", *words, "out", "settings.toml", "position"]
+        env = {**os.environ, **self.env, "LD_PRELOAD": self.tools.preload, "NGC_POWER_ROLE": "player"}
+        with (self.folder / "said").open("ab") as said:
+            return subprocess.Popen(command, cwd=self.folder, env=env, stdin=subprocess.DEVNULL,
+                                    stdout=subprocess.DEVNULL, stderr=said)
+
+    def start_console(self) -> None:
+        """Starts the console, once the player listens."""
+        until = time.monotonic() + PATIENCE_S
+        while not (self.folder / "progress").exists():
+            if self.player.poll() is not None:
+                raise Lost
+            if time.monotonic() > until:
+                raise Wrong("the player doesn't listen")
+            time.sleep(0.002)
+        words = ["mill.dev", "settings.toml", "out", "--player", "progress", "--ngc", self.tools.ngc]
+        env = {**self.env, "NGC_POWER_ROLE": "console"}
+        self.console, self.into, self.out_of = self.tools.consoles.start(self.folder, env, words)
+
+    def stop_at(self, line: int, is_all: bool) -> None:
+        """Has the motors lose their power before the line of this number that they make."""
+        self.head[16:28] = struct.pack("=QI", line, is_all)
+
+    @property
+    def is_off(self) -> bool:
+        """Whether the motors have lost their power."""
+        return HEAD.unpack(self.head)[4] != 0
+
+    @property
+    def has_lost(self) -> bool:
+        """Whether power was lost, or one process was killed."""
+        return self.is_off or self.killed or HEAD.unpack(self.head)[5] != 0
+
+    def processes(self) -> list[int]:
+        """Those that are still there, by the folder in which they work."""
+        found = []
+        for pid in {*HEAD.unpack(self.head)[7:], self.console, self.player.pid}:
+            with suppress(OSError):
+                if pid > 0 and os.readlink(f"/proc/{pid}/cwd") == str(self.folder):
+                    found.append(pid)
+        return found
+
+    def spare(self) -> None:
+        """Power isn't lost any more, but by a deed."""
+        self.deadline = self.alone = None
+        self.stop_at(0, False)
+
+    def pins(self) -> int:
+        """How many lines the motors made up to now, since the job began."""
+        return len(self.lines())
+
+    def lines(self) -> list[bytes]:
+        """The lines that they made."""
+        if self.sink:
+            return self.sink.lines()
+        path = self.folder / "pins"
+        return path.read_bytes().split(b"\n")[:-1] if path.exists() else []
+
+    def type(self, text: str) -> None:
+        """Types a line."""
+        with suppress(BrokenPipeError):
+            os.write(self.into, text.encode() + b"\n")
+
+    def hear(self) -> str:
+        """What the console says up to its next prompt. Raises Lost, Wrong."""
+        said, until = "", time.monotonic() + PATIENCE_S
+        while not said or said.endswith("\n"):
+            if self.deadline and time.monotonic() > self.deadline or self.is_off and self._settles():
+                self.kill()
+                raise Lost
+            if self.alone and time.monotonic() > self.alone[0]:
+                self.kill_alone()
+            if 0 < self.hold_at < time.monotonic():
+                os.kill(self.console, signal.SIGINT)
+                self.hold_at = 0.0
+            if "waits for tool" in said:
+                self._says_go()
+            if "Ctrl-C three times ends ngc" in said and self.player.poll() is not None:
+                self.hold_at = time.monotonic()  # again and again, since nobody reads OUT any more
+            if time.monotonic() > until:
+                raise Wrong(f"no prompt for {PATIENCE_S} s")
+            if select.select([self.out_of], [], [], 0.01)[0]:
+                piece = os.read(self.out_of, 65536).decode()
+                said += piece
+                self.said += piece
+                if not piece:
+                    raise Lost
+        self.hold_at = 0.0
+        return said
+
+    def _says_go(self) -> None:
+        """The tool is in: somebody tells the player, as Enter does there."""
+        with suppress(OSError), socket.socket(socket.AF_UNIX, socket.SOCK_DGRAM) as link:
+            link.sendto(b"go", str(self.folder / "progress"))
+
+    def _settles(self) -> bool:
+        """Lets the record come to where the motors stand without power."""
+        before, until = b"", time.monotonic() + 1
+        while time.monotonic() < until:
+            time.sleep(0.06)
+            now = (self.folder / "position").read_bytes()
+            if now == before:
+                break
+            before = now
+        return True
+
+    def kill(self) -> None:
+        """Power is lost for all that is still there."""
+        self.killed = self.killed or bool(self.processes())
+        for pid in self.processes():
+            with suppress(ProcessLookupError):
+                os.kill(pid, signal.SIGKILL)
+        self.close()
+
+    def kill_alone(self) -> None:
+        """One process is killed."""
+        (_, which), self.alone = self.alone, None
+        names = {"console": [self.console], "player": [self.player.pid]}
+        others = [pid for pid in self.processes() if pid not in (self.console, self.player.pid)]
+        for pid in names.get(which, others):
+            os.kill(pid, signal.SIGKILL)
+        self.killed = True
+
+    def close(self) -> None:
+        """Waits for the end of all, for some seconds."""
+        for file in (self.into, self.out_of):
+            if file >= 0:
+                os.close(file)
+        self.into = self.out_of = -1
+        until = time.monotonic() + PATIENCE_S / 4
+        while (self.player.poll() is None or self.processes()) and time.monotonic() < until:
+            time.sleep(0.002)
+
+    def state(self, calls: list[list[Call]], chance: random.Random) -> tuple[bytes, bytes]:
+        """A device and an OUT that the disk may have kept."""
+        kept = chance.choice(("none", "first", "any", "any")), chance.choice(("none", "first", "torn"))
+        device, out = self.before["mill.dev"], self.before["out"]
+        return left_of(device, calls[0], kept[0], chance, False), left_of(out, calls[1], kept[1], chance, True)
+
+    def lose(self, calls: list[list[Call]], keeps: dict[str, str], chance: random.Random) -> bool:
+        """Makes of the files what the disk kept of them; whether that is another state than that of the kill."""
+        is_other = False
+        for which, name in enumerate(FILES):
+            before = self.before[name]
+            if before is None:
+                continue
+            now = (self.folder / name).read_bytes()
+            if left_of(before, [call for call in calls[which] if call.ended], "all", chance, False) != now and all(
+                    call.ended for call in calls[which]):
+                raise Wrong(f"the model of the disk isn't {name}")
+            if name == "out":
+                self._is_synced(left_of(before, calls[which], "none", chance, False))
+            if keeps[name] != "all":
+                left = left_of(before, calls[which], keeps[name], chance, name == "out")
+                is_other = is_other or left != now
+                with (self.folder / name).open("r+b") as file:
+                    file.write(left)
+                    file.truncate(len(left))
+        return is_other
+
+    def _is_synced(self, lasting: bytes) -> None:
+        """All that the motors did stands in OUT after a loss of power. Raises Wrong."""
+        size = int(record_of(self.folder).get("bytes", "0"))
+        if size > len(lasting):
+            raise Wrong(f"{size} bytes of OUT are carried out, and {len(lasting)} are on the disk")
+
+
+def read_or_none(path: Path) -> bytes | None:
+    """A file's bytes, if it is one."""
+    return path.read_bytes() if path.is_file() else None
+
+
+def record_of(folder: Path) -> dict[str, str]:
+    """The player's record."""
+    text = (folder / "position").read_text() if (folder / "position").exists() else ""
+    return dict(line.split(" ", 1) for line in text.splitlines() if " " in line.strip())
