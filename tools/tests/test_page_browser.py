@@ -570,6 +570,10 @@ class Moves(InBrowser):
         browser.wait("ngc.state.word === 'Ended' && document.getElementById('over').hidden")
         self.assertTrue(browser.js("document.getElementById('run').disabled"))
         self.assertFalse(browser.js("document.getElementById('restart').hidden"))
+        browser.press("Quit", "#quit")
+        browser.wait("!document.getElementById('over').hidden && document.getElementById('quit').disabled")
+        browser.press("Back", "#over button")
+        browser.wait("document.getElementById('over').hidden && !document.getElementById('quit').disabled")
 
     def test_axis_without_home(self) -> None:
         """Of an axis that can't be homed after an alarm a person writes where it stands: the entry is empty."""

@@ -53,6 +53,7 @@ async function asks(what, body, refused = why => log.refuse(why)) {
 }
 
 const run = () => asks('run');
+let quitting = null; // the sheet that asks whether the session is to end
 
 // ---- what the server says
 
@@ -105,7 +106,7 @@ function showWords(s) {
 function showControls(s) {
   $('takeover').hidden = s.yours;
   $('load').disabled = !app.isIdle;
-  $('quit').disabled = s.busy || !s.yours;
+  $('quit').disabled = s.busy || !s.yours || Boolean(quitting?.head.isConnected); // what it opens is open
   $('restart').hidden = !(s.yours && !s.over && (s.ended || s.broken));
   $('line').disabled = !(app.isRest && app.isFree && !s.recover?.left);
   enableDo();
@@ -143,7 +144,8 @@ function running(s) {
   if (s.ended) return ['Run', false, null];
   if (s.question) return ['Answer first', false, null];
   if (isThere(s)) return alarm.button(s);
-  if (s.waits && !s.player_gone) return [s.waits_tool ? `Tool ${s.waits_tool} is in` : 'Tool is out', s.yours, () => asks('go')];
+  const isIn = s.waits_tool ? `Tool ${s.waits_tool} is in` : 'Tool is out';
+  if (s.waits && !s.player_gone) return [isIn, s.yours, () => asks('go')];
   if (s.door_open && s.held_by && !isHalf) return ['Close the door', false, null];
   if (s.busy && s.held_by && s.held_by !== 'here') return ['Go on', s.yours, () => asks('release')];
   if (isHalf) return ['Recover', s.yours && !recovery.isOpen, () => recovery.begin()];
@@ -353,8 +355,9 @@ $('file').onchange = () => {
 };
 $('quit').onclick = () => {
   const isHalf = app.state.half !== 'none';
-  sheet.ask('End the session?', [sheet.said(isHalf ? 'A line stays half-done: it is taken up or given up in the next '
-    + 'session.' : 'What is stored stays.')], 'Quit', () => asks('quit'));
+  const stays = isHalf ? 'A line stays half-done: it is taken up or given up in the next session.'
+    : 'What is stored stays.';
+  quitting = sheet.ask('End the session?', [sheet.said(stays)], 'Quit', () => asks('quit'));
 };
 
 function look(isFlat) {

@@ -42,9 +42,9 @@ export function close() {
   $('over').replaceChildren();
 }
 
-// Asks for a yes, and does then what was wanted.
+// Asks for a yes, and does then what was wanted. Returns the parts of its sheet.
 export function ask(name, content, yes, does) {
-  open(name, content, [gap(), button('Back', close), go(yes, () => { close(); does(); })]);
+  return open(name, content, [gap(), button('Back', close), go(yes, () => { close(); does(); })]);
 }
 
 // ---- what stands on a sheet
