@@ -219,8 +219,8 @@ class Job:
     @property
     def ahead(self) -> int:
         """How many lines of OUT a loss of power may cost, by docs/OUTPUT.md: with ramps at 1.5 times 20 kHz, and 20
-        million steps/s2."""
-        return 0 if self.over != "pipe" else 990 if self.has_ramps else 100
+        million steps/s2, 1.2 v^2 / 2a + v / 50 + 520."""
+        return 0 if self.over != "pipe" else 1147 if self.has_ramps else 100
 
     def typed_at(self, move: int | None) -> bytes:
         """The line that is typed before this move; nothing, if there is none."""
