@@ -1,6 +1,6 @@
 """Power is lost in jobs by chance, and what the motors made is judged (power.py); and the judge finds planted faults.
 
-NGC_POWER_S says for how many seconds jobs are tried in all (default 45)."""
+NGC_POWER_S says for how many seconds jobs are tried in all (default 30)."""
 import os
 import random
 import sys
@@ -14,7 +14,7 @@ from power_path import Ledger, Legs, Uncut, Wrong  # noqa: E402
 from power_shop import CUT, SYNC, WRITE, Call, left_of, mark_lasting  # noqa: E402
 from session_support import ngc  # noqa: E402
 
-SECONDS = float(os.environ.get("NGC_POWER_S", "45"))
+SECONDS = float(os.environ.get("NGC_POWER_S", "30"))
 
 
 class Judge(unittest.TestCase):
