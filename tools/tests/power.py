@@ -178,6 +178,8 @@ class Person:
 
     def command(self, text: str) -> str:
         """What is typed at the console's prompt."""
+        if "the player can't keep its record yet" in text:  # it fails for good: another player, and --at
+            self.measures = self.leaves = True
         self.leaves = self.leaves or bool(re.search(FAILED, text))
         if self.leaves:
             return "quit"
