@@ -117,17 +117,19 @@ def boot(elf: str) -> Figures:
 
 
 def worked_frame(elf: str) -> Figures:
-    """The bytes of docs/SINK.md: X up, Y down."""
+    """The bytes of docs/SINK.md: X up, Y down, within a millisecond."""
     driver = begun(elf)
     text = (Path(__file__).resolve().parents[2] / "docs" / "SINK.md").read_text()
     block = text.partition("as it goes over the line:\n\n")[2].partition("\n\n")[0]
     assert driver.session == 65537
+    at = driver.chip.now
     driver.chip.send(bytes.fromhex(block))
     driver.pump(10 * MS_CYCLES)
     made = pulses(driver.chip.edges)
     assert [(pulse.axes, pulse.down) for pulse in made] == [(1, 0), (2, 2)], made
     gap = (made[1].cycle - made[0].cycle) / US
     assert 39.8 <= gap < 47, gap
+    assert made[0].cycle - at < MS_CYCLES, f"the first step comes {(made[0].cycle - at) / MS_CYCLES:.1f} ms after it"
     return {"gap_us": gap} | check_pins(driver.chip.edges)
 
 
