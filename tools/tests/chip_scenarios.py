@@ -168,7 +168,7 @@ def outputs_of_pins(edges: list[Edge]) -> tuple[int, int, int, int, int]:
 def switches(elf: str) -> Figures:
     """Each combination of spindle, mist and flood, and speeds, at their pins."""
     driver = begun(elf)
-    for rpm in (0, 1, 24_000, 30_000, 12_000.5, 23_999, 2 ** 24 - 1):
+    for rpm in (0, 1, 10, 1200, 24_000, 30_000, 12_000.5, 23_999, 2 ** 24 - 1):
         for which in range(12):
             direction, mist, flood = which % 3, which // 3 % 2, which // 6
             driver.give(spindle(direction, int(rpm * 1_000_000), mist, flood))
