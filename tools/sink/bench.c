@@ -103,7 +103,8 @@ static bool may_go_on(void) {
     bool is_early = tempo > 0 && (device_now() - tempo_ticks) / SLICE_TICKS * 100 > (real_ms() - tempo_from) * tempo;
     bool runs = sink.state == SINK_RUNS;
     bool is_asked = sink.is_touched || sink.asked != FAULT_NONE;
-    bool is_in_order = runs && (is_asked || line_is_cut() || is_in_time(&sink));
+    bool hears_nothing = line_is_cut() && (runs || sink.state == SINK_STANDS);
+    bool is_in_order = hears_nothing || (runs && (is_asked || is_in_time(&sink)));
     return !is_early && (is_in_order || real_ms() - waited >= (runs ? serves_ms : 1));
 }
 

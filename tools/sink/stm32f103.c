@@ -124,12 +124,12 @@ static uint32_t spread(uint32_t axes) {
     return (axes & 1) | (axes & 2) << 1 | (axes & 4) << 2;
 }
 
-/* The duty of a speed in millionths: by a multiplication, as a division of 64 bits keeps the timer's handler for 10 us.
- * A 4,096th part of the speed has 32 bits. */
+/* The duty of a speed in millionths, below 2^44: by a multiplication, as a division of 64 bits keeps the timer's
+ * handler for 10 us. Of the speed a 256th part is taken; what that cuts off is less than what is added. */
 static uint64_t duty_of(uint64_t speed) {
     const uint64_t most = SPINDLE_MOST_RPM * UINT64_C(1000000);
-    const uint64_t times = ((UINT64_C(4096) * PWM_STEPS << 32) + most - 1) / most;
-    return (speed >> 12) * times >> 32;
+    const uint64_t times = ((UINT64_C(256) * PWM_STEPS << 36) + most - 1) / most;
+    return ((speed >> 8) * times + (1u << 24)) >> 36;
 }
 
 static void set_outputs(const struct sink_outputs *outputs) {

@@ -117,17 +117,19 @@ def boot(elf: str) -> Figures:
 
 
 def worked_frame(elf: str) -> Figures:
-    """The bytes of docs/SINK.md: X up, Y down."""
+    """The bytes of docs/SINK.md: X up, Y down, within a millisecond."""
     driver = begun(elf)
     text = (Path(__file__).resolve().parents[2] / "docs" / "SINK.md").read_text()
     block = text.partition("as it goes over the line:\n\n")[2].partition("\n\n")[0]
     assert driver.session == 65537
+    at = driver.chip.now
     driver.chip.send(bytes.fromhex(block))
     driver.pump(10 * MS_CYCLES)
     made = pulses(driver.chip.edges)
     assert [(pulse.axes, pulse.down) for pulse in made] == [(1, 0), (2, 2)], made
     gap = (made[1].cycle - made[0].cycle) / US
     assert 39.8 <= gap < 47, gap
+    assert made[0].cycle - at < MS_CYCLES, f"the first step comes {(made[0].cycle - at) / MS_CYCLES:.1f} ms after it"
     return {"gap_us": gap} | check_pins(driver.chip.edges)
 
 
@@ -166,7 +168,7 @@ def outputs_of_pins(edges: list[Edge]) -> tuple[int, int, int, int, int]:
 def switches(elf: str) -> Figures:
     """Each combination of spindle, mist and flood, and speeds, at their pins."""
     driver = begun(elf)
-    for rpm in (0, 1, 24_000, 30_000, 12_000.5, 23_999, 2 ** 24 - 1):
+    for rpm in (0, 1, 10, 1200, 24_000, 30_000, 12_000.5, 23_999, 2 ** 24 - 1):
         for which in range(12):
             direction, mist, flood = which % 3, which // 3 % 2, which // 6
             driver.give(spindle(direction, int(rpm * 1_000_000), mist, flood))
