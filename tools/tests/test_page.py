@@ -866,6 +866,18 @@ class Bands(unittest.TestCase):
             standing = Standing(session, status, report, "line 1 of 4", "", "", "", False, PAGE)
             self.assertEqual(standing.band(), ("Tool change", "ask", f"Put in tool 2{more}"))
 
+    def test_way_that_was_held(self) -> None:
+        """On a way of recover that was held the band names the button that goes on with it."""
+        for left, says in ((True, "Recover goes on with the way that was held"),
+                           (False, "Go on carries out what was handed out")):
+            operator = SimpleNamespace(session=SimpleNamespace(is_door_open=False))
+            stand = SimpleNamespace(gone="", recovery={"left": left})
+            session = SimpleNamespace(ended="", stand=stand, face=PageFace(), operator=operator, under=None)
+            report = SimpleNamespace(word="works", waits=False, behind=7, is_held=True)
+            status = Status(3, 0, ("0", "0", "0"), True, "none", 0, "idle")
+            standing = Standing(session, status, report, "line 1 of 4", "", "", "here", False, PAGE)
+            self.assertEqual(standing.band(), ("Held", "hold", says))
+
     def test_typed(self) -> None:
         """Before a line of one's own begins, and after it, no line of the program is told to run."""
         self.assertEqual(self.band("run", ""), ("Running", "run", "line 1 of 4"))

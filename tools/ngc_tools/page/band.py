@@ -120,6 +120,11 @@ class Standing:
         """Whether the motors have lines to carry out."""
         return self.report is not None and self.report.behind > 0
 
+    def _has_lines_left(self) -> bool:
+        """Whether lines stand in OUT that no motor carried out, and no block is half-done."""
+        recovery = self.session.stand.recovery
+        return self.status.half == "none" and bool(recovery and recovery["left"])
+
     def _held_by(self) -> str:
         """What holds the motors that nobody told to hold from here."""
         if self.session.operator.session.is_door_open:
@@ -137,7 +142,7 @@ class Standing:
         if status.half != "none":
             within = here if status.half == "program" else "a line of yours"
             return "Half-done", "ask", f"Power was lost, or the session ended, within {within}"
-        if session.stand.recovery and session.stand.recovery["left"]:
+        if self._has_lines_left():
             return "Lines left", "ask", "Lines stand in OUT that no motor carried out"
         if not status.known:
             return "Place unknown", "ask", "Tell where the machine stands"
@@ -150,6 +155,8 @@ class Standing:
         if self.session.operator.session.is_door_open:
             return _OPEN
         if self.status.does != "held":
+            if self._has_lines_left():
+                return "Recover goes on with the way that was held"
             return self._held_by() if self.held_by != "here" else "Go on carries out what was handed out"
         who = self._who()
         return (f"{who}. " if who else "") + (f"Before the rest of {self.here}" if self.here else "Continue goes on")

@@ -270,10 +270,11 @@ function showJob(got) {
 // Lines stand in OUT that no motor carried out, and no block is half-done.
 function takeUpLines() {
   const { words } = app.state.recover, does = what => () => { sheet.close(); asks(what); };
+  const drop = sheet.button('Drop', does('drop'), !app.state.behind); // on a way that was held nothing is cut off
   sheet.open('Lines that no motor carried out', [el('p', { class: 'asked' }, words),
     sheet.said('Recover lets the motors go there, each step asked. Drop cuts these lines off, and nothing makes them '
       + 'any more.')],
-  [sheet.button('Back', sheet.close), sheet.gap('Nothing moves yet.'), sheet.button('Drop', does('drop')),
+  [sheet.button('Back', sheet.close), sheet.gap('Nothing moves yet.'), drop,
     sheet.go('Recover', does('recover'))]);
 }
 
