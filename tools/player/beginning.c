@@ -35,8 +35,8 @@ static bool where_to_begin(const struct player *player, const struct options *op
     }
     if (found->bytes > source_size(&player->source)) {
         return because(why, "%s: it has %" PRIu64 " bytes, and by the record %" PRIu64 " are carried out: its end is"
-                       " lost, or it is another file. Emptied (: > OUT) it begins anew with --anew, and recover leads back by"
-                       " legs", out, source_size(&player->source), found->bytes);
+                       " lost, or it is another file. Emptied (: > OUT) it begins anew with --anew, and recover leads"
+                       " back by legs", out, source_size(&player->source), found->bytes);
     }
     if (!holds || (found->mark.is_known && there.digest != found->mark.digest)) {
         return because(why, "%s: not the file whose first %" PRIu64 " lines are carried out; --anew begins with its"

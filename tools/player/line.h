@@ -31,7 +31,7 @@ struct line {
  * the cause, for a line that isn't exactly one of the three. */
 bool line_read(const char *text, size_t size, uint64_t least_us, struct line *line, struct cause *why);
 
-/* Whether a player's clock has room for the time of a line: 73 years. Returns false, with the cause, for a longer one. */
+/* Whether a player's clock has room for the time of a line: 73 years. False, with the cause, for a longer one. */
 bool line_fits_clock(const struct line *line, struct cause *why);
 
 /* Reads outputs, as "S 0 1000.000000 0 0 0 0". */

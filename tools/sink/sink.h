@@ -45,8 +45,8 @@ struct sink_taken {
 };
 
 /* `made`, `state` and what the timer's half keeps are written by sink_make while the state is SINK_RUNS, else by
- * sink_poll; `taken`, `newest`, `asked` and `polls` by sink_poll alone. What both read is volatile, and loads and stores of 32
- * bits must be whole. */
+ * sink_poll; `taken`, `newest`, `asked` and `polls` by sink_poll alone. What both read is volatile, and loads and stores
+ * of 32 bits must be whole. */
 struct sink {
     volatile uint32_t values[WIRE_FIFO]; /* the FIFO: word n is at n modulo WIRE_FIFO */
     volatile uint8_t bits[WIRE_FIFO];

@@ -629,6 +629,7 @@ int main(int count, char **given) {
     }
     printf("words %lu slower %lu sessions %lu silent %lu word %lu asked %lu touched %lu input %lu dead %lu reset %lu"
            " broken %lu dry %lu\n", words_made, slower, sessions, ends[FAULT_SILENT], ends[FAULT_WORD],
-           ends[FAULT_ASKED], ends[FAULT_TOUCHED], ends[FAULT_INPUT], ends[FAULT_DEAD], ends[FAULT_HUNG + 1], broken, dry);
+           ends[FAULT_ASKED], ends[FAULT_TOUCHED], ends[FAULT_INPUT], ends[FAULT_DEAD],
+           ends[FAULT_HUNG + 1], broken, dry);
     return 0;
 }

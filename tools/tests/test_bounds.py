@@ -152,8 +152,8 @@ class Bounds(InFolder):
             self.assertLess(all_s - one, most_s, line)
             found = re.search(r"many\.ngc: (\d+) refusals, and more\n", said)
             self.assertTrue(found and int(found[1]) in counts, said[-500:])
-            self.assertTrue(said.endswith("--most 0 stops after 200 refusals and 500 dry runs; --most N looks for N.\n"),
-                            said[-500:])
+            stops = "--most 0 stops after 200 refusals and 500 dry runs; --most N looks for N.\n"
+            self.assertTrue(said.endswith(stops), said[-500:])
         Path("many.ngc").write_text("Q1\n" * 260 + "M2\n")
         self.assertIn("many.ngc: 260 refusals, no warnings\n", self.timed("--most", "300")[0])
 

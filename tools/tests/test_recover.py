@@ -1386,8 +1386,8 @@ class Holes(WithOperator):
         operator, face = self.operate("yes", "yes", "yes")
         said = [said for said in face.said if said.startswith("out: ")]
         self.assertEqual(said, ["out: behind its line 1, at byte 11, 26 bytes of zeros stood in the place of lines,"
-                                " which the disk lost. It\nis cut off there, with 6 lines behind them that no motor carried"
-                                " out", "out: 2 lines that were handed out were lost with the power, and are put back:"
+                                " which the disk lost. It\nis cut off there, with 6 lines behind them that no motor"
+                                " carried out", "out: 2 lines that were handed out were lost with the power, and are put back:"
                                 " ngc run hands out the same ones again"])
         operator.do("recover")
         self.assertEqual(self.pins()[:3] + self.pins()[-21:], ["P 1 0 0 50"] * 2 + ["S 0 0.000000 0 0 0 0"]
@@ -1510,8 +1510,8 @@ class Unsynced(WithOperator):
         self.operator.do("G0 X0.5")
         why = self.operator.session.meter.link.failed
         self.assertEqual(why, "out: it can't be synced: Input/output error. What was handed out last may be lost,"
-                         " though it can be read, and no motor makes it before it is on the disk. Once the disk is well, quit,"
-                         " and start this again: it writes OUT again")
+                         " though it can be read, and no motor makes it before it is on the disk. Once the disk is well,"
+                         " quit, and start this again: it writes OUT again")
         self.assertIn(f"{why}; nothing more is handed out", self.face.said)
         handed_out = Path("out").read_bytes()
         self.assertGreater(len(handed_out), 33)

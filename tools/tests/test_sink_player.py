@@ -83,8 +83,8 @@ class Whole(InC, OverSink, unittest.TestCase):
                      + "tick 1000000\ncontinue\n" * 3)
 
     def check_times(self, ticks: list[int], name: str) -> None:
-        """Each pulse is made within a tick of its time from the first; behind a rest it may come later. On the chip it is
-        within 10 us, and the times are taken from the third pulse behind a rest: words of 5 us that are before the
+        """Each pulse is made within a tick of its time from the first; behind a rest it may come later. On the chip it
+        is within 10 us, and the times are taken from the third pulse behind a rest: words of 5 us that are before the
         first, as a switch's, are made up for until then."""
         times = [line.split() for line in Path("times").read_text().splitlines()]
         late, behind = None, 0

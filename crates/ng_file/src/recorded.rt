@@ -22,7 +22,7 @@ impl Beginning for Brand {
 }
 
 /// A `FileRig`, which contracts see. Since its writer held the bytes that its type names, it has written the items of
-/// its trace: so whoever calls it, and only promises what any device does, can't write anything else.
+/// its trace: so a caller that promises only what any device does can't write anything else.
 #[derive(Drop)]
 pub struct RecordedRig<S: Storage, W: Write, A: Allocator, B: Beginning> {
     rig: FileRig<S, W, A>,
