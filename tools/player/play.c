@@ -40,11 +40,6 @@ static void count(struct play *play, const struct line *line, size_t size) {
     play->counts.switches += line->kind == 'S';
 }
 
-bool is_tool_in(struct play *play, const struct line *line) {
-    bool changes_tool = line->kind == 'S' && line->outputs.slot != play->player->outputs.slot;
-    return !changes_tool || play->options->asks_no_tool || await_tool(play, line->outputs.slot);
-}
-
 enum end carry_out(struct play *play, const struct line *line, const char *text, size_t size, uint64_t lasts_ns) {
     struct schedule *schedule = &play->schedule;
     times_add(schedule->due - schedule->begun, text, size);

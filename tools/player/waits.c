@@ -225,3 +225,8 @@ bool await_tool(struct play *play, unsigned slot) {
     schedule_pause(&play->schedule);
     return true;
 }
+
+bool is_tool_in(struct play *play, const struct line *line) {
+    bool changes_tool = line->kind == 'S' && line->outputs.slot != play->player->outputs.slot;
+    return !changes_tool || play->options->asks_no_tool || await_tool(play, line->outputs.slot);
+}

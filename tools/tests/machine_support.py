@@ -177,6 +177,10 @@ class MachineLink:
         """How old its record ever was."""
         return 20
 
+    def is_sure(self) -> bool:
+        """Whether somebody told where the motors are since it began."""
+        return False
+
     def _take(self, verb: str, rest: str) -> tuple[int, str]:
         self.count += 1
         if not self.knows:

@@ -323,9 +323,12 @@ class Alarms(Core):
         session."""
         self.begin(self.link)
         self.axes.word = "broken"
-        broken = ("nothing is done: what the player had in hand in the alarm is never carried out, and so nothing that"
+        broken = ("nothing is done: what the player had in hand as it broke off is never carried out, and so nothing that"
                   " comes after. stop begins another session, which goes on as after a loss of power")
-        for typed in ("run", "G0 X1", "resume", "release"):
+        told, *said = self.do("run")
+        self.assertTrue(told.startswith("the player carries out no more line of this session"), told)
+        self.assertEqual(said, [broken])
+        for typed in ("G0 X1", "resume", "release"):
             self.assertEqual(self.do(typed), [broken], typed)
         self.do("stop")
         self.assertEqual(self.axes.word, "moved")

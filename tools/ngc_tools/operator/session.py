@@ -18,9 +18,9 @@ from ngc_tools.operator.synced import SyncedLink
 from ngc_tools.player.progress import MoveReport, NoAnswer, Report
 
 ALARM, BROKEN, WAITS_SPINDLE = "alarm", "broken", "waits spindle"
-"""What a player's report says where the machine's place isn't to be trusted, where it was homed after an alarm that
-came with lines in hand, so that no more line of the session is carried out, and while the spindle isn't at its speed.
-"""
+"""What a player's report says where the machine's place isn't to be trusted; where no more line of the session is
+carried out, as once it was homed after an alarm that came with lines in hand, or its record can't be kept; and while
+the spindle isn't at its speed."""
 DOOR, SPINDLE, OTHER = "door", "spindle", "other"
 """What holds motors that nobody told to hold from here."""
 NOT_NOTED = "what OUT has isn't noted beside the device, by which lines are told that are lost with the power"
