@@ -10,6 +10,7 @@
 #include "askers.h"
 #include "off.h"
 #include "person.h"
+#include "play_parts.h"
 #include "sink_play.h"
 #include "spindle.h"
 
