@@ -228,6 +228,7 @@ class Person:
         if self.is_left(text):
             return "recover"
         if "reference player takes the player's point" in text:
+            self.has_typed.discard(self.ledger.on)  # a line that was typed was refused
             return "reference player"
         if self.errands:
             self.phase = "free"
@@ -274,7 +275,8 @@ class Person:
             return typed.decode()
         if self.job.has_ramps and self.chance.random() < 0.3:
             return self.chance.choice(("percent 50", "percent 120", "percent 100"))
-        if self.job.has_ramps and self.chance.random() < 0.5:
+        # behind a typed line the console asks first, and what holds would answer that
+        if self.job.has_ramps and self.chance.random() < 0.5 and at not in self.has_typed:
             self.shop.hold_at = time.monotonic() + self.chance.uniform(0, 0.5)
         return "run"
 
