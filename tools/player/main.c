@@ -2,8 +2,8 @@
  *
  *     make
  *
- * docs/TOOLS.md says what it does: it is ngc-player, but for --spindle and --live. What drives the motors is
- * pins.c, which a builder replaces. Nothing is allocated once it plays. */
+ * docs/TOOLS.md says what it does. What drives the motors is pins.c, which a builder replaces. Nothing is allocated once
+ * it plays. */
 #define _GNU_SOURCE
 #include <errno.h>
 #include <fcntl.h>

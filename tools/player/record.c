@@ -281,7 +281,7 @@ bool record_read(const char *text, size_t size, const char *path, struct record 
     if (read_all(text, size, record, &inner)) {
         return true;
     }
-    return because(why, "%s: not a record of ngc-player: %.*s; remove it, and tell by --at where the machine stands",
+    return because(why, "%s: not a player's record: %.*s; remove it, and tell by --at where the machine stands",
                    path, RECORD_SIZE, inner.text);
 }
 

@@ -6,11 +6,12 @@ import threading
 from dataclasses import replace
 from pathlib import Path
 
+from listener import Listener, said
 from session_support import TOOLS  # noqa: F401  which puts the tools on the path
 
 from ngc_tools.formats.out import OFF, Switch, read_line
 from ngc_tools.formats.position import Position, nanometres
-from ngc_tools.player.progress import Listener, MoveReport, NoAnswer, Report
+from ngc_tools.link.progress import MoveReport, NoAnswer, Report
 
 STEP_NM = (1000, 1000, 1000)
 ASKS = 3
@@ -142,7 +143,7 @@ class Axes:
 
 class MachineLink:
     """A player of the file `out`, within the process, that carries out all that stands in it and makes moves without
-    lines. It is deaf for them where `knows` isn't set, as ngc-player is."""
+    lines. It is deaf for them where `knows` isn't set, as a player without `--machine` is."""
 
     failed = ""
 
@@ -248,8 +249,8 @@ class SocketMachine:
         words = question.decode().split()
         if words[0] == "progress":
             at = str(Position(STEP_NM, self.axes.at_nm))
-            answer = Report(0, self.received, False, at, self.out, is_held=self.is_held, wants=self.wants,
-                            word=self.axes.word).text()
+            answer = said(Report(0, self.received, False, at, self.out, is_held=self.is_held, wants=self.wants,
+                                 word=self.axes.word))
         elif words[0] == "machine":
             answer = _said(self.axes.ask())
         elif words[0] in ("home", "jog", "seek", "stop"):

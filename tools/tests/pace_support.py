@@ -4,19 +4,30 @@ import math
 import random
 import subprocess
 from collections.abc import Iterable, Iterator
-from functools import cache
+from dataclasses import dataclass
 from pathlib import Path
 from tempfile import NamedTemporaryFile
 
 from player_support import SANITIZERS, SOURCES, built, has_sanitizers
 from session_support import TOOLS
 
-from ngc_tools.formats.out import read_line
-from ngc_tools.player.pace import FULL, Pace
-from ngc_tools.player.pace_path import Limits
-from ngc_tools.player.window import Window
+from ngc_tools.link.machine import CORNER_PULSES
 
-GIVE = f"N {FULL}"
+GIVE = f"N {2**64 - 1}"
+"""Gives out a line, where the greatest square is wanted."""
+
+
+@dataclass(frozen=True, slots=True)
+class Limits:
+    """What motors allow, as tools/player is told it: by axes, in steps and seconds. A corner takes at most `half`
+    pulses on each side."""
+
+    accel: tuple[int, int, int]
+    rate: tuple[int, int, int] = (0, 0, 0)
+    start: tuple[int, int, int] = (0, 0, 0)
+    half: int = CORNER_PULSES
+    slack: int = 2
+    most_percent: int = 100
 
 
 def short_segments() -> str:
@@ -73,26 +84,6 @@ def paced_in_c(limits: Limits, events: Iterable[str]) -> list[str]:
     if done.returncode:
         raise AssertionError(done.stderr)
     return done.stdout.split()
-
-
-def paced(limits: Limits, events: Iterable[str]) -> list[str]:
-    """What Pace answers to the same events."""
-    pace, window, answers = Pace(limits), Window(limits), []
-    for event in events:
-        if event == "E":
-            pace.end()
-        elif event == "W":
-            answers.append(str(window.lines()))
-        elif event[0] in "NO":
-            square = int(event[2:]) if event[0] == "N" else pace.wanted(int(event[2:]))
-            ns = pace.next(square)
-            window.leave(pace.first)
-            answers.append("-" if ns is None else str(ns))
-        else:
-            line = read_line(event, 1)
-            pace.push(line)
-            window.take(line)
-    return answers
 
 
 def metered(lines: list[str], window: int) -> Iterator[str]:

@@ -12,10 +12,11 @@ from collections.abc import Callable
 from contextlib import suppress
 from pathlib import Path
 
+from player_support import built
 from session_support import PATIENCE_S, InFolder, ngc
 
 from ngc_tools.formats.record import Record
-from ngc_tools.player.progress import Link
+from ngc_tools.link.progress import Link
 
 PAGE, OTHER = "page-number-1", "page-number-2"
 BEAT_S = 0.4
@@ -217,7 +218,7 @@ class Served(InFolder):
         if self.MACHINE:
             Path("motion.toml").write_text(self.MACHINE)
             words += ["--machine", "motion.toml"]
-        self.player = self.start("ngc-player", self.OUT, "first.toml", "position", "--progress", "progress", *words)
+        self.player = self.started(built("-O2"), self.OUT, "first.toml", "position", "--progress", "progress", *words)
         self.wait_for("the player listens", lambda: os.path.exists("progress"))
         link = Link("progress", PATIENCE_S)
         self.addCleanup(link.close)

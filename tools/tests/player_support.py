@@ -1,23 +1,20 @@
-"""What tests of the players share: ngc-player, tools/player as a compiler builds it, and as its sanitizers watch it."""
+"""What tests of the player share: tools/player as a compiler builds it, and as its sanitizers watch it."""
 import atexit
 import fcntl
 import hashlib
 import os
 import re
 import shutil
-import signal
 import subprocess
-import sys
 import tempfile
 import unittest
 from concurrent.futures import ThreadPoolExecutor
 from functools import cache
 from pathlib import Path
 
-from session_support import PATIENCE_S, TOOLS, InFolder, told
+from session_support import PATIENCE_S, TOOLS, InFolder
 
-from ngc_tools.cli import player
-from ngc_tools.player.progress import Link, NoAnswer
+from ngc_tools.link.progress import Link, NoAnswer
 
 SOURCES = [*sorted((TOOLS / "player").glob("*.c")), TOOLS / "sink" / "sender.c", TOOLS / "sink" / "wire.c"]
 PROVED = [Path(os.environ.get("NGC_PROVED", TOOLS / "player" / "out"), name).absolute()
@@ -95,13 +92,13 @@ def preloaded(name: str, text: str) -> dict[str, str]:
 
 
 class PlayerTest(InFolder):
-    """A test of one player, which takes the words of ngc-player."""
+    """A test of the player."""
 
     takes_preloads = True
 
     def command(self) -> list[str]:
         """The player."""
-        return [sys.executable, str(TOOLS / "ngc-player")]
+        return [built("-O2")]
 
     def play(self, *words: str, **how: object) -> subprocess.CompletedProcess[str]:
         """Plays `out` to its end, or what `words` name besides, with a tool changer."""
@@ -138,38 +135,14 @@ class PlayerTest(InFolder):
         """What is said, after the player's name, at status 2."""
         done = self.run_player("--untimed", *words)
         self.assertEqual((done.returncode, done.stdout), (2, ""), words)
-        self.assertRegex(done.stderr, r"^(ngc-)?player: .*\n$")
+        self.assertRegex(done.stderr, r"^player: .*\n$")
         return done.stderr.partition(": ")[2].removesuffix("\n")
 
 
 def played(*words: str) -> tuple[int, str, str]:
-    """The status, standard output and standard error of ngc-player within the process of the tests, which is quicker.
-    Signals are heeded as before then."""
-    numbers = (signal.SIGINT, signal.SIGTERM, signal.SIGHUP, signal.SIGQUIT)
-    heeded = {number: signal.getsignal(number) for number in numbers}
-    try:
-        return told(player.main, *words)
-    finally:
-        for number, handler in heeded.items():
-            signal.signal(number, handler)
-
-
-class InProcess:
-    """ngc-player within the process of the tests."""
-
-    def run_player(self, *words: str, **how: object) -> subprocess.CompletedProcess[str]:
-        """Runs it to its end."""
-        if how:
-            return super().run_player(*words, **how)
-        return subprocess.CompletedProcess(words, *played(*words))
-
-
-class InC:
-    """The player of tools/player."""
-
-    def command(self) -> list[str]:
-        """The player."""
-        return [built("-O2")]
+    """The status, standard output and standard error of the player, which runs to its end."""
+    done = subprocess.run([built("-O2"), *words], capture_output=True, text=True, timeout=PATIENCE_S)
+    return done.returncode, done.stdout, done.stderr
 
 
 @cache

@@ -2,7 +2,7 @@
 """Pulls the plug where OUT is a file: kills `ngc run`, the console and the player together, at moments by chance, and
 counts the lines that no motor ever carries out.
 
-    pulled_file.py --ngc PATH [--moments N] [--cut] [--player PATH] [--seed N]
+    pulled_file.py --ngc PATH [--moments N] [--cut] --player PATH [--seed N]
 
 A job has short blocks, arcs, a cycle and traverses. It is cut, and taken up by `recover` of ngc-operate, with a yes to
 each question, until it is at its end; a cut may come in a recovery too. With `--cut` what of OUT wasn't synced is lost
@@ -10,7 +10,6 @@ by chance. All that the pins got is followed: a line that is carried out is put 
 way back takes the last one away, whose steps it has to have, reversed. What is left at the end has to be the uncut run,
 line by line."""
 import argparse
-import gc
 import os
 import random
 import signal
@@ -28,7 +27,6 @@ sys.path.insert(0, str(Path(__file__).resolve().parent))
 from pulled_plug import STEP_NM, Uncut, Wrong, linked, run_uncut, steps_after, whole_lines  # noqa: E402
 from session_support import FIRST, PATIENCE_S, memory  # noqa: E402
 
-from ngc_tools.cli.player import main as play  # noqa: E402
 from ngc_tools.failure import Failure  # noqa: E402
 from ngc_tools.formats.device import Device  # noqa: E402
 from ngc_tools.formats.record import Record  # noqa: E402
@@ -39,8 +37,8 @@ from ngc_tools.operator.meter import Meter  # noqa: E402
 from ngc_tools.operator.operator import Operator  # noqa: E402
 from ngc_tools.operator.recovery import OutFound  # noqa: E402
 from ngc_tools.operator.synced import SyncedLink  # noqa: E402
-from ngc_tools.player.progress import NoAnswer, Report  # noqa: E402
-from ngc_tools.player.source import Source  # noqa: E402
+from ngc_tools.link.progress import NoAnswer, Report  # noqa: E402
+from ngc_tools.link.out_file import OutFile  # noqa: E402
 
 
 def program(blocks: int) -> bytes:
@@ -71,7 +69,7 @@ class Options:
 
     ngc: str
     is_torn: bool
-    player: str | None = None
+    player: str
     ahead: int = 100
     longest_s: float = 0.5
 
@@ -229,7 +227,7 @@ class Job:
             raise Wrong("lines were carried out that weren't synced")
         if self.options.is_torn and session.told >= 0:
             os.truncate(out, self.chance.randint(max(size, session.told), max(size, session.told, out.stat().st_size)))
-        source = Source(out)
+        source = OutFile(out)
         mark = source.mark(size)
         source.close()
         now = replace(record, lines=len(self.made), size=size, at_nm=self._at_nm(len(self.made)), mark=mark, stopped="")
@@ -275,20 +273,9 @@ class Session:
         words = [self.folder / "out", self.folder / "settings.toml", self.folder / "record", "--follow",
                  "--no-ask-tool", "--progress", self.socket, "--pins", self.log]
         given, said = [str(word) for word in words], str(self.folder / "said")
-        if self.options.player:
-            quiet = [(os.POSIX_SPAWN_OPEN, 1, os.devnull, os.O_WRONLY, 0),
-                     (os.POSIX_SPAWN_OPEN, 2, said, os.O_WRONLY | os.O_CREAT | os.O_APPEND, 0o600)]
-            return os.posix_spawn(self.options.player, [self.options.player, *given], os.environ, file_actions=quiet)
-        gc.freeze()  # what is there isn't looked through, and so not copied, in the child
-        child = os.fork()
-        if child == 0:
-            try:
-                os.dup2(os.open(os.devnull, os.O_WRONLY), 1)
-                os.dup2(os.open(said, os.O_WRONLY | os.O_CREAT | os.O_APPEND, 0o600), 2)
-                os._exit(play(given))
-            finally:
-                os._exit(3)
-        return child
+        quiet = [(os.POSIX_SPAWN_OPEN, 1, os.devnull, os.O_WRONLY, 0),
+                 (os.POSIX_SPAWN_OPEN, 2, said, os.O_WRONLY | os.O_CREAT | os.O_APPEND, 0o600)]
+        return os.posix_spawn(self.options.player, [self.options.player, *given], os.environ, file_actions=quiet)
 
     def kill_after(self, seconds: float, in_opening: bool) -> None:
         """Kills all after so long, counted from now on, or else from where the recovery, or the work, begins."""
@@ -392,7 +379,7 @@ def main() -> int:
     parser.add_argument("--blocks", type=int, default=40)
     parser.add_argument("--ahead", type=int, default=100)
     parser.add_argument("--cut", action="store_true", help="what wasn't synced is lost by chance")
-    parser.add_argument("--player", help="the player of tools/player, in place of ngc-player")
+    parser.add_argument("--player", required=True, help="the player, as `make -C tools/player` builds it")
     parser.add_argument("--longest", type=float, default=0.5, help="a cut comes after so many seconds at most")
     given = parser.parse_args()
     begun = time.monotonic()

@@ -2,7 +2,7 @@
 """Pulls the plug: kills `ngc run` and the player together, at moments by chance, and counts the lines that no motor
 ever carries out.
 
-    pulled_plug.py --ngc PATH [--moments N] [--ahead LINES | --unmetered] [--pipe BYTES] [--player PATH] [--seed N]
+    pulled_plug.py --ngc PATH [--moments N] [--ahead LINES | --unmetered] [--pipe BYTES] --player PATH [--seed N]
                    [--machine FILE] [--program FILE] [--settings FILE]
 
 A job cuts 80 short blocks, an arc and a drilled hole, or it is a program without tool lengths whose lines each name
@@ -11,7 +11,6 @@ segment of it begins, uncut. Then it is run over a named pipe by a player that k
 again, until it is at its end. After each cut the new session says which segment comes next: what lies between the last
 line that the pins got and that segment's first line was handed out, and is never carried out."""
 import argparse
-import gc
 import os
 import random
 import signal
@@ -36,9 +35,8 @@ from session_support import FIRST, PATIENCE_S, memory  # noqa: E402
 from ngc_tools.ngc.console import Console, Ended, Status  # noqa: E402
 from ngc_tools.operator.meter import LIMITS, Meter  # noqa: E402
 from ngc_tools.formats.out import read_line  # noqa: E402
-from ngc_tools.cli.player import main as play  # noqa: E402
 from ngc_tools.formats.position import Position, millimetres  # noqa: E402
-from ngc_tools.player.progress import Link, NoAnswer  # noqa: E402
+from ngc_tools.link.progress import Link, NoAnswer  # noqa: E402
 from ngc_tools.formats.record import Record  # noqa: E402
 
 STEP_NM = (1000, 1000, 1000)
@@ -133,7 +131,7 @@ class Options:
     ngc: str
     ahead: int | None
     pipe: int
-    player: str | None
+    player: str
     longest_s: float
     machine: str | None = None  # what the motors allow, for ramps
     settings: str = FIRST  # the text of the file
@@ -315,24 +313,10 @@ class Session:
         words = [self.fifo, self.folder / "settings.toml", self.record]
         ramps = ["--machine", self.options.machine] if self.options.machine else []
         said, how = self.folder / "said", os.O_WRONLY | os.O_CREAT | os.O_APPEND
-        if self.options.player:
-            given = ["-t", "-b", self.options.pipe, "-s", self.socket, "-p", self.log, *ramps, *words]
-            command = [str(word) for word in (self.options.player, *given)]
-            quiet = [(os.POSIX_SPAWN_OPEN, 1, os.devnull, os.O_WRONLY, 0),
-                     (os.POSIX_SPAWN_OPEN, 2, str(said), how, 0o600)]
-            return os.posix_spawn(command[0], command, os.environ, file_actions=quiet)
-        given = [*words, "--no-ask-tool", "--pipe", self.options.pipe, "--progress", self.socket, "--pins", self.log,
-                 *ramps]
-        gc.freeze()  # what is there isn't looked through, and so not copied, in the child
-        child = os.fork()
-        if child == 0:
-            try:
-                os.dup2(os.open(os.devnull, os.O_WRONLY), 1)
-                os.dup2(os.open(said, how, 0o600), 2)
-                os._exit(play([str(word) for word in given]))
-            finally:
-                os._exit(3)
-        return child
+        given = ["-t", "-b", self.options.pipe, "-s", self.socket, "-p", self.log, *ramps, *words]
+        command = [str(word) for word in (self.options.player, *given)]
+        quiet = [(os.POSIX_SPAWN_OPEN, 1, os.devnull, os.O_WRONLY, 0), (os.POSIX_SPAWN_OPEN, 2, str(said), how, 0o600)]
+        return os.posix_spawn(command[0], command, os.environ, file_actions=quiet)
 
     @staticmethod
     def expect(got: str, wanted: str) -> None:
@@ -445,7 +429,7 @@ def main() -> int:
     parser.add_argument("--ahead", type=int, default=100, help="lines; 0 for as many as the player wants")
     parser.add_argument("--unmetered", action="store_true")
     parser.add_argument("--pipe", type=int, default=4096)
-    parser.add_argument("--player", help="the player of tools/player, in place of ngc-player")
+    parser.add_argument("--player", required=True, help="the player, as `make -C tools/player` builds it")
     parser.add_argument("--machine", help="the file of the player's ramps: it makes none without")
     parser.add_argument("--program", type=Path, help="another job")
     parser.add_argument("--settings", type=Path, help="others than those of docs/SESSION.md's first session")

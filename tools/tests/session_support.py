@@ -20,7 +20,7 @@ from pathlib import Path
 TOOLS = Path(__file__).resolve().parents[1]
 sys.path.insert(0, str(TOOLS))
 
-from ngc_tools.player.source import born_ns  # noqa: E402
+from ngc_tools.link.out_file import born_ns  # noqa: E402
 
 FIRST = """step_nm = [1000, 1000, 1000]
 low_nm = [-1000000000, -1000000000, -1000000000]
@@ -95,8 +95,12 @@ class InFolder(unittest.TestCase):
 
     def start(self, name: str, *words: str) -> subprocess.Popen[str]:
         """Starts a tool, and ends it with the test."""
-        child = subprocess.Popen([sys.executable, TOOLS / name, *words], stdin=subprocess.PIPE, stdout=subprocess.PIPE,
-                                 stderr=subprocess.PIPE, text=True)
+        return self.started(sys.executable, str(TOOLS / name), *words)
+
+    def started(self, *command: str) -> subprocess.Popen[str]:
+        """Starts a program, and ends it with the test."""
+        child = subprocess.Popen(command, stdin=subprocess.PIPE, stdout=subprocess.PIPE, stderr=subprocess.PIPE,
+                                 text=True)
         self.addCleanup(self._end, child)
         return child
 

@@ -1,7 +1,8 @@
-"""Backlash of both players: the table is where OUT says, whatever comes between, and the record knows the screws."""
+"""Backlash: the table is where OUT says, whatever comes between, and the record knows the screws."""
 import random
 import re
 import signal
+import subprocess
 import sys
 import time
 import unittest
@@ -11,8 +12,8 @@ from pathlib import Path
 sys.path.insert(0, str(Path(__file__).resolve().parent))
 
 from pace_support import PROGRAMS, excess, stream  # noqa: E402
-from player_support import InC, InProcess, PlayerTest, Sanitized, record  # noqa: E402
-from session_support import FIRST, PATIENCE_S  # noqa: E402
+from player_support import PlayerTest, Sanitized, record  # noqa: E402
+from session_support import FIRST, PATIENCE_S, ngc  # noqa: E402
 from sink_support import ServedSink  # noqa: E402
 from test_moves import MACHINE, Moving, program  # noqa: E402
 from test_moves_sink import OverSink as MovingOverSink  # noqa: E402
@@ -77,7 +78,7 @@ def some_lines(seed: int, parts: int = 12) -> str:
 
 
 class Turning(PlayerTest):
-    """What both players do."""
+    """Along OUT."""
 
     def setUp(self) -> None:
         """A machine whose screws push up, by its record."""
@@ -206,35 +207,35 @@ class Turning(PlayerTest):
         self.assertEqual(record().splitlines()[-1], "screws ? + +")
 
 
-class InPython(InProcess, Turning):
-    """ngc-player."""
-
-
-class InCode(InC, Turning):
-    """tools/player."""
+class Optimized(Turning):
+    """As a compiler builds it, optimized."""
 
 
 class SanitizedTurning(Sanitized, Turning):
     """The same under the compiler's sanitizers."""
 
 
-class Same(InC, PlayerTest):
-    """Both players side by side."""
+class AsLines(PlayerTest):
+    """Extra pulses go as if they were lines of OUT."""
 
-    def times(self, player: PlayerTest, pins: str) -> bytes:
-        """Has a player carry out `out`: the times of its lines."""
+    def times(self, pins: str) -> list[str]:
+        """Has the player carry out `out`: its lines, each behind its time."""
         Path("position").write_bytes(Record("/before", screws="+ + +").text())
         for left in (pins, "times"):
             Path(left).unlink(missing_ok=True)
-        done = player.run_player("--no-ask-tool", "--untimed", "--pins", pins, "--machine", "motion.toml", "--times",
-                                 "times", "out", "first.toml", "position")
+        done = self.run_player("--no-ask-tool", "--untimed", "--pins", pins, "--machine", "motion.toml", "--times",
+                               "times", "out", "first.toml", "position")
         self.assertEqual(done.returncode, 0, done.stderr)
-        return Path("times").read_bytes()
+        return Path("times").read_text().splitlines()
 
-    def check_same(self, name: str) -> None:
-        """Of `out` both make the same pulses, with the same times."""
-        self.assertEqual(self.times(self, "c"), self.times(InPython(), "python"), name)
-        self.assertEqual(Path("c").read_bytes(), Path("python").read_bytes(), name)
+    def check_times(self, name: str) -> None:
+        """OUT's lines have the times that `ngc pace` gives them amid the extra pulses."""
+        times = self.times("pins")
+        made = "".join(re.findall("(?m)^[PDS] .*\n", Path("pins").read_text()))
+        words = [ngc(), "pace", "first.toml", "motion.toml"]
+        paced = iter(subprocess.run(words, input=made, capture_output=True, text=True, check=True).stdout.splitlines())
+        self.assertEqual([line for line in times if line not in paced], [], name)  # it looks on from the last one
+        self.assertGreater(len(times), 100, name)
 
     def test_by_chance(self) -> None:
         """Streams by chance, which motors start and stop at once at some rates, with backlash by chance."""
@@ -244,7 +245,7 @@ class Same(InC, PlayerTest):
             Path("motion.toml").write_text("[motion]\naccel_mm_s2 = [500, 400, 300]\nstart_mm_min = [60, 90, 120]\n"
                                            f"[backlash]\nsteps = {backlash}\n")
             Path("out").write_text(some_lines(seed, 5))
-            self.check_same(f"{seed}: {backlash}")
+            self.check_times(f"{seed}: {backlash}")
 
     def hand_out(self, program: str) -> None:
         """Makes `out` of a program, from a fresh device."""
@@ -256,7 +257,7 @@ class Same(InC, PlayerTest):
 
     def check_path(self, name: str, backlash: Steps) -> None:
         """The table makes OUT's path, and no other."""
-        self.assertEqual(path(steps(Path("c").read_text()), Screws(backlash)), told(Path("out").read_text()), name)
+        self.assertEqual(path(steps(Path("pins").read_text()), Screws(backlash)), told(Path("out").read_text()), name)
 
     def test_examples(self) -> None:
         """All examples, with steps of 100 um."""
@@ -264,7 +265,7 @@ class Same(InC, PlayerTest):
         Path("motion.toml").write_text("[motion]\naccel_mm_s2 = [500, 500, 500]\n[backlash]\nsteps = [2, 1, 3]\n")
         for example in EXAMPLES:
             self.hand_out(example.read_text())
-            self.check_same(example.name)
+            self.check_times(example.name)
             self.check_path(example.name, (2, 1, 3))
 
     def test_motion(self) -> None:
@@ -275,14 +276,15 @@ class Same(InC, PlayerTest):
         for name, program in PROGRAMS.items():
             self.hand_out(f"G17 G21 G90 G94\nF3000\n{program()}M2\n")
             Path("motion.toml").write_text(motion + "[backlash]\nsteps = [3, 2, 5]\n")
-            self.check_same(name)
+            self.check_times(name)
             self.check_path(name, (3, 2, 5))
-            Path("out").write_text("".join(re.findall("P.*\n", Path("c").read_text())))
+            Path("out").write_text("".join(re.findall("P.*\n", Path("pins").read_text())))
             Path("motion.toml").write_text(motion)
-            self.assertLess(excess(self.times(self, "c"), (25_000, 20_000, 15_000)), 4, name)
+            due = "".join(f"{line}\n" for line in self.times("pins"))
+            self.assertLess(excess(due.encode(), (25_000, 20_000, 15_000)), 4, name)
 
 
-class WithoutLines(InC, Moving):
+class WithoutLines(Moving):
     """Home, jog and seek: switches and the probe follow the table."""
 
     def setUp(self) -> None:
@@ -363,7 +365,7 @@ class HomedOverSink(MovingOverSink):
         self.assertEqual(self.made()[1], (-10_000 + 50 + 2_000, -10_000 + 300 + 2_000, 5_000 - 999 - 1_000))
 
 
-class OverSink(InC, PlayerTest):
+class OverSink(PlayerTest):
     """Over a step sink, whose count is of lines alone."""
 
     def serve(self, waits_ms: int) -> ServedSink:

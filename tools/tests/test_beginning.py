@@ -11,7 +11,7 @@ from ngc_tools.formats.canonical import MOTIONS, read_commands  # noqa: E402
 from ngc_tools.formats.device import Device, NoDevice  # noqa: E402
 from ngc_tools.formats.out import Dwell, Pulse, Switch, read_line  # noqa: E402
 from ngc_tools.formats.settings import DEFAULT, Settings  # noqa: E402
-from ngc_tools.job.in_force import InForce  # noqa: E402
+from ngc_tools.formats.in_force import InForce  # noqa: E402
 from ngc_tools.ngc.beginning import Beginning, CannotSetUp  # noqa: E402
 from ngc_tools.ngc.console import Console  # noqa: E402
 from ngc_tools.ngc.run import dry, refusal  # noqa: E402

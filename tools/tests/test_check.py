@@ -13,7 +13,7 @@ from ngc_tools.cli.check import main as check_main  # noqa: E402
 from ngc_tools.formats.canonical import read_commands  # noqa: E402
 from ngc_tools.formats.settings import Settings  # noqa: E402
 from ngc_tools.job.dangers import Conditions, dangers  # noqa: E402
-from ngc_tools.job.in_force import InForce  # noqa: E402
+from ngc_tools.formats.in_force import InForce  # noqa: E402
 from ngc_tools.job.printed import by_line  # noqa: E402
 from ngc_tools.job.refused import Lines, find_all  # noqa: E402
 from ngc_tools.ngc.beginning import Beginning  # noqa: E402

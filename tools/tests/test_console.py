@@ -10,7 +10,7 @@ from session_support import InFolder, ngc  # noqa: E402
 
 from ngc_tools.ngc.console import Console, Ended, Status  # noqa: E402
 from ngc_tools.operator.meter import Meter  # noqa: E402
-from ngc_tools.player.progress import Report  # noqa: E402
+from ngc_tools.link.progress import Report  # noqa: E402
 
 
 RECEIVED = 10_000

@@ -10,7 +10,7 @@ from pathlib import Path
 
 sys.path.insert(0, str(Path(__file__).resolve().parent))
 
-from player_support import InC, PlayerTest, record  # noqa: E402
+from player_support import PlayerTest, record  # noqa: E402
 from session_support import PATIENCE_S, TOOLS, Terminal, ngc  # noqa: E402
 from sink_support import ServedSink  # noqa: E402
 from test_documents import blocks, chapters  # noqa: E402
@@ -70,7 +70,7 @@ M2
 """
 
 
-class Day(InC, PlayerTest):
+class Day(PlayerTest):
     """The machine's steps are 1 um, its travel is 10 mm each way; it begins 7 mm beside its 0 in X and Y, 8 in Z."""
 
     def setUp(self) -> None:

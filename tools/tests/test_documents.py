@@ -22,7 +22,7 @@ from test_rehearse import HOLE, OUT  # noqa: E402
 from ngc_tools.formats.out import Switch  # noqa: E402
 from ngc_tools.formats.record import Record  # noqa: E402
 from ngc_tools.ngc.commands import FORMS  # noqa: E402
-from ngc_tools.player.source import Source  # noqa: E402
+from ngc_tools.link.out_file import OutFile  # noqa: E402
 
 DOCS = TOOLS.parent / "docs"
 CAM = Path(__file__).resolve().parent / "cam"
@@ -32,7 +32,7 @@ _COMMAND = re.compile(r"(?:\$ )?((?:ngc|ngc-\w+|mkfifo|make|cp|grep|sed|tail|pla
 _INLINE = re.compile(r"`((?:tools/|examples/)?(?:ngc-\w+|grep|\w+\.py) [^`]*)`")
 
 EXAMPLES = {form.word: form.example + "\n" for form in FORMS} | {"load": "load 3\nM2\n"}
-PLAYER = "ngc-player: carry out OUT"
+PLAYER = "player: carry out OUT"
 
 # The chapters with commands; each is tried by a test below.
 CHAPTERS = {
@@ -120,6 +120,7 @@ class Documents(InFolder):
         super().setUp()
         os.mkdir("bin")
         os.symlink(ngc(), "bin/ngc")
+        os.symlink(player(), "bin/player")
         os.symlink(TOOLS, "tools")
         shutil.copytree(TOOLS.parent / "examples", "examples")
         shutil.copy("examples/mill.toml", "mill.toml")
@@ -173,10 +174,9 @@ class Tools(Documents):
 
     def test_player(self) -> None:
         """A pipe with a player; tools/player is built, and its words are those of the page."""
-        text, tried = self.chapter("TOOLS.md", "ngc-player")
-        (synopsis, _), (fifo, _), (play, shown), _, (words, more) = tried
+        _, tried = self.chapter("TOOLS.md", "player")
+        _, (words, more), (fifo, _), (play, shown), *_ = tried
         record = shown[shown.index("out /"):]
-        self.same_options("ngc-player", text, synopsis)
         self.shell(fifo)
         child = self.begin(play)
         open("axis", "wb").close()
@@ -323,7 +323,7 @@ class Tools(Documents):
 class Helps(Documents):
     """The examples of `--help`."""
 
-    LONG = ("ngc-operate", "ngc-page", "ngc-player")  # these go on until they are ended: their words are tried alone
+    LONG = ("ngc-operate", "ngc-page")  # these go on until they are ended: their words are tried alone
 
     def setUp(self) -> None:
         """A half-done block on mill.dev, OUT and a player's record of it, and other files that the examples name."""
@@ -332,7 +332,7 @@ class Helps(Documents):
         shutil.copy("first.toml", "mill.toml")
         self.device()
         self.run_ngc(f"load {len(program)}\n{program}start\ntick 9000\n")
-        self.assertEqual(told(cli("ngc-player").main, "out", "mill.toml", "position", "--untimed")[0], 0)
+        self.shell("player out mill.toml position --untimed 2>&1")
         shutil.copy("out", "axis.out")
         Path("player.toml").write_text("[motion]\naccel_mm_s2 = [500, 500, 300]\n")
         Path("part.nc").write_text("G21 G90\nG28 G91 Z0\nG90 G0 X1\nM2\n")
@@ -390,7 +390,7 @@ class Readme(Documents):
         """The answers to what is typed, after the tutorial's loss of power; then the program goes on to its end."""
         for title in CHAPTERS["TUTORIAL.md"][1:3]:
             for command, _ in self.chapter("TUTORIAL.md", title)[1]:
-                self.shell(command if "ngc-player" not in command else "true")
+                self.shell(command if not command.startswith("player ") else "true")
         typed = "".join(line + "\n" for line, _ in self.sides[0] if line)
         answers = [re.split(" {2,}", text)[0] for _, text in self.sides[0]]
         said = self.shell("ngc run mill.dev mill.toml out-2", text=typed).splitlines()
@@ -452,7 +452,7 @@ class Recovery(Documents):
         self.run_ngc(f"load {len(program)}\n{program}start\ntick 3300\nquit\n")
         lines = Path("out").read_bytes().splitlines(True)
         self.assertEqual(len(lines), 2002 + 1289)
-        source, size = Source("out"), sum(map(len, lines[:3202]))
+        source, size = OutFile("out"), sum(map(len, lines[:3202]))
         outputs = Switch(1, 1000_000_000, False, False, 0, 0)
         at_nm = (3_200_000, 1_000_000, -1_000_000)
         kept = Record(f"{self.folder}/out", 3202, size, outputs, at_nm, source.mark(size), age_ms=23)
@@ -462,7 +462,7 @@ class Recovery(Documents):
         self.assertEqual(self.shell(rehearse).splitlines()[1:3], [
             "the open segment begins behind line 2002 of out",
             re.search("^back through what.*", typed, re.MULTILINE)[0].join(("recover: ", ""))])
-        go = re.search(r"`(ngc-player out [^`]*) B`", text.replace("\n", " "))[1]
+        go = re.search(r"`(player out [^`]*) B`", text.replace("\n", " "))[1]
         line, way = re.search("(?m)^back through .* lines of OUT, to its line (.*): (.* mm) in", typed).groups()
         said = self.shell(f"{go} {line} 2>&1", text="no\n", status=2)
         self.assertIn(f"\nback to line {line} of out: {way} in ", said)
@@ -558,19 +558,17 @@ class Recovery(Documents):
 
 
 class Machine(Documents):
-    """docs/MACHINE.md, and the files for the players."""
+    """docs/MACHINE.md, and the files for the player."""
 
     def test_files(self) -> None:
-        """The players take those of docs/TOOLS.md; of docs/MACHINE.md all but that these pins have no inputs."""
-        os.symlink(player(), "bin/player")
+        """The player takes those of docs/TOOLS.md; of docs/MACHINE.md all but that these pins have no inputs."""
         Path("out").touch()
         tools = [block for block in blocks(chapters("TOOLS.md")[PLAYER]) if block.startswith("[")]
         self.assertEqual([block.split()[0] for block in tools],
                          ["[motion]", "[window]", "[wait]", "[backlash]", "[spindle]"])
         Path("player.toml").write_text("\n".join(tools))
-        for command in ("player -m", "ngc-player --machine"):
-            said = self.shell(f"{command} player.toml out mill.toml position 2>&1")
-            self.assertIn("out: 0 lines carried out", said)
+        said = self.shell("player -m player.toml out mill.toml position 2>&1")
+        self.assertIn("out: 0 lines carried out", said)
         page = chapters("MACHINE.md")
         parts = blocks(page["Motors"]) + blocks(page["Inputs and home"])
         self.assertEqual([part.split()[0] for part in parts], ["[motion]", "[inputs]", "[home]"])

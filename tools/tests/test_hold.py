@@ -9,6 +9,7 @@ from types import SimpleNamespace
 sys.path.insert(0, str(Path(__file__).resolve().parent))
 
 from hold_model import MENDS, Model, explored  # noqa: E402
+from listener import Listener  # noqa: E402
 from session_support import InFolder  # noqa: E402
 
 from ngc_tools.hold_level import HoldLevel  # noqa: E402
@@ -19,7 +20,7 @@ from ngc_tools.page.http import RequestRefused  # noqa: E402
 from ngc_tools.page.jog import HeldJog  # noqa: E402
 from ngc_tools.page.pages import LOST_S, MOST, OLDEST_S, Pages, Stamp  # noqa: E402
 from ngc_tools.page.session import PageSession  # noqa: E402
-from ngc_tools.player.progress import HeldBack, Link, Listener  # noqa: E402
+from ngc_tools.link.progress import HeldBack, Link  # noqa: E402
 
 ONE, OTHER = "page-number-1", "page-number-2"
 

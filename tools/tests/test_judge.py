@@ -1,4 +1,4 @@
-"""Whether motors can follow the pacers' times, by a judge that knows docs/MOTION.md and no pacer; and what it refuses.
+"""Whether motors can follow the pacer's times, by a judge that knows docs/MOTION.md and no pacer; and what it refuses.
 
 Over 10,000 streams by chance, of 11,865,211 lines, in 55 s of a processor; and over 2,400 with a rotor, in 50 s:
 
@@ -17,11 +17,9 @@ from pathlib import Path
 
 sys.path.insert(0, str(Path(__file__).resolve().parent))
 
-from pace_support import (PROGRAMS, PULSES, as_out_says, judgement, lost_steps, metered, paced_in_c,  # noqa: E402
-                          timed, with_pacer)
+from pace_support import (PROGRAMS, PULSES, Limits, as_out_says, judgement, lost_steps, metered,  # noqa: E402
+                          paced_in_c, timed, with_pacer)
 from session_support import FIRST, TOOLS, InFolder, ngc  # noqa: E402
-
-from ngc_tools.player.pace_path import Limits  # noqa: E402
 
 STEPS_MM = 320  # 3,125 nm: an eighth of a full step over a screw of 5 mm
 SETTINGS = (FIRST.replace("[1000, 1000, 1000]", "[3125, 3125, 3125]").replace("6000000000", "3000000000")

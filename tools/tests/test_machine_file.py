@@ -15,7 +15,7 @@ from pathlib import Path
 
 sys.path.insert(0, str(Path(__file__).resolve().parent))
 
-from player_support import SANITIZERS, InC, InProcess, PlayerTest, built, has_sanitizers  # noqa: E402
+from player_support import SANITIZERS, PlayerTest, built, has_sanitizers  # noqa: E402
 from session_support import FIRST, TOOLS, InFolder  # noqa: E402
 
 from ngc_tools.failure import Failure  # noqa: E402
@@ -184,12 +184,8 @@ class Safety:
                          "motion.toml: inputs isn't a table: [inputs], and its keys below it")
 
 
-class Python(Safety, InProcess, PlayerTest):
-    """tools/ngc-player."""
-
-
-class C(Safety, InC, PlayerTest):
-    """tools/player."""
+class Player(Safety, PlayerTest):
+    """As a compiler builds it, optimized."""
 
     def test_heeded(self) -> None:
         """Inputs are heeded however they are written: the pins of this player have none, so it doesn't begin."""

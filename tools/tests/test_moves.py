@@ -13,12 +13,11 @@ from pathlib import Path
 sys.path.insert(0, str(Path(__file__).resolve().parent))
 
 from player_support import SANITIZERS, SOURCES, PlayerTest, built, has_sanitizers, record, sector  # noqa: E402
-from session_support import PATIENCE_S, TOOLS, told  # noqa: E402
+from session_support import PATIENCE_S, TOOLS  # noqa: E402
 
-from ngc_tools.cli import player  # noqa: E402
 from ngc_tools.formats.out import Switch  # noqa: E402
 from ngc_tools.formats.record import BadRecord, FileMark, Record  # noqa: E402
-from ngc_tools.player.progress import MoveReport  # noqa: E402
+from ngc_tools.link.progress import MoveReport  # noqa: E402
 
 STOP, X_LOW, Y_LOW, Z_HIGH, DOOR, AT_SPEED, PROBE, X_HIGH = range(8)  # inputs
 UM = 1  # a step is 1 um
@@ -290,8 +289,6 @@ class Jogging(Moving):
                " where the machine stands")
         for others in ((), ("--machine", "mill.toml"), ("--progress", "progress")):
             self.assertEqual(self.refused(*others, *words), why)
-            status, _, said = told(player.main, *others, *words)
-            self.assertEqual((status, said), (2, f"ngc-player: {why}\n"))
         self.started()
         self.assertEqual((self.link.ask().word, self.at()), ("moved", (1.01, 1, 0)))
         self.assertEqual(self.how(self.link.jog("Y-", "600", "1")), "done")
@@ -570,8 +567,6 @@ class Alarms(Moving):
         why = "position: the emergency stop stopped the motors, and where they are isn't known: --at X Y Z tells it"
         self.assertEqual(self.refused(*words), why)
         self.assertEqual(self.refused("--machine", "mill.toml", *words), why)
-        status, _, said = told(player.main, "--untimed", *words)
-        self.assertEqual((status, said), (2, f"ngc-player: {why}\n"))
         self.started("--untimed")
         self.pipe.write(b"P 1 0 0 50\n")
         self.assertEqual(self.link.ask().word, "alarm")

@@ -6,7 +6,7 @@ from pathlib import Path
 
 sys.path.insert(0, str(Path(__file__).resolve().parent))
 
-from player_support import InC, record  # noqa: E402
+from player_support import record  # noqa: E402
 from session_support import PATIENCE_S  # noqa: E402
 from sink_support import Made, ServedSink  # noqa: E402
 from test_moves import AT_SPEED, MACHINE, PROBE, STOP, X_HIGH, X_LOW, Y_LOW, Z_HIGH, Moving  # noqa: E402
@@ -16,7 +16,7 @@ from ngc_tools.formats.record import Record  # noqa: E402
 WAITS_MS = 3_000  # as long as words may be late by the real clock
 
 
-class OverSink(InC, Moving):
+class OverSink(Moving):
     """A player over a sink whose switches follow its motors."""
 
     sink: ServedSink | None = None

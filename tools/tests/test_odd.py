@@ -24,13 +24,13 @@ sys.path.insert(0, str(Path(__file__).resolve().parent))
 
 from session_support import FIRST, TOOLS, InFolder, ngc, told  # noqa: E402
 
-from ngc_tools.cli import adapt, check, device, operate, page, player, plot, rehearse, split  # noqa: E402
+from ngc_tools.cli import adapt, check, device, operate, page, plot, rehearse, split  # noqa: E402
 from ngc_tools.formats.device import Device  # noqa: E402
 
 MAINS = {"ngc-adapt": adapt.main, "ngc-check": check.main, "ngc-device": device.main, "ngc-operate": operate.main,
-         "ngc-page": page.main, "ngc-player": player.main, "ngc-plot": plot.main, "ngc-rehearse": rehearse.main,
+         "ngc-page": page.main, "ngc-plot": plot.main, "ngc-rehearse": rehearse.main,
          "ngc-split": split.main}
-ASKS = [name for name in MAINS if name not in ("ngc-device", "ngc-player")]
+ASKS = [name for name in MAINS if name != "ngc-device"]
 TEXT = "G21 G90 G17\n(Stück)\nM3 S1000\nG0 X5 Y0 Z5\nG1 X8 F600\nG2 X9 Y1 I1\nM2\n"
 LIMIT_S = 60  # also where the machine has other work
 KEY = "MmJ0pTn-Qe7Y_h3sKx4v1A"  # of the address of ngc-page
@@ -38,7 +38,6 @@ KEY = "MmJ0pTn-Qe7Y_h3sKx4v1A"  # of the address of ngc-page
 GOOD = {
     "ngc-adapt": ("part.ngc",), "ngc-check": ("part.ngc",), "ngc-device": ("mill.dev",),
     "ngc-operate": ("mill.dev", "first.toml", "out"), "ngc-page": ("mill.dev", "first.toml", "out"),
-    "ngc-player": ("pulses", "first.toml", "position", "--untimed"),
     "ngc-plot": ("part.txt", "--settings", "first.toml"), "ngc-rehearse": ("mill.dev", "first.toml"),
     "ngc-split": ("part.ngc", "--settings", "first.toml"),
 }
@@ -52,9 +51,6 @@ ODD = (
     ("ngc-operate", "mill.dev", "first.toml", "ODD"),
     ("ngc-page", "ODD", "first.toml", "out"), ("ngc-page", "mill.dev", "ODD", "out"),
     ("ngc-page", "mill.dev", "first.toml", "ODD"), ("ngc-page", "mill.dev", "first.toml", "out", "--machine", "ODD"),
-    ("ngc-player", "ODD", "first.toml", "position", "--untimed"), ("ngc-player", "pulses", "ODD", "position"),
-    ("ngc-player", "pulses", "first.toml", "ODD", "--untimed"),
-    ("ngc-player", "pulses", "first.toml", "position", "--machine", "ODD"),
     ("ngc-plot", "ODD"), ("ngc-plot", "part.txt", "--settings", "ODD"), ("ngc-plot", "part.ngc", "--device", "ODD"),
     ("ngc-rehearse", "ODD", "first.toml"), ("ngc-rehearse", "mill.dev", "ODD"),
     ("ngc-rehearse", "mill.dev", "first.toml", "--carried-out", "1", "--before", "ODD"),
@@ -295,7 +291,7 @@ class Odd(InFolder):
                 self.check_end(name, end, (name, words, path))
                 shown = end.error + ("" if name == "ngc-adapt" else end.out)  # that one writes the program as it is
                 self.assertFalse("\x1b" in shown, (name, words, path))
-                is_made = path == "none" and name in ("ngc-operate", "ngc-page", "ngc-player") and words[2] == "ODD"
+                is_made = path == "none" and name in ("ngc-operate", "ngc-page") and words[2] == "ODD"
                 option = words[words.index("ODD") - 1] in ("--settings", "--device", "--machine", "--before")
                 if option or path in ("folder", "loop", "none", "none/none"):
                     self.assertEqual(end.status, 0 if is_made and name != "ngc-page" else 2, (name, words, path))
@@ -317,7 +313,7 @@ class Odd(InFolder):
                              ("ngc-split", *part[1:], "--device", "mill.dev", "--force"),
                              ("ngc-plot", "part.ngc", "--settings", "part.ngc"), ("ngc-check", "part.ngc", "pulses"),
                              ("ngc-rehearse", "pulses", "first.toml"), ("ngc-device", "pulses"),
-                             ("ngc-player", "part.ngc", "first.toml", "position"), ("ngc-check", "pulses")):
+                             ("ngc-check", "pulses")):
             end = self.ended(name, *(odd.get(word, word) for word in words))
             self.check_end(name, end, (name, words))
             self.assertFalse("\x1b" in end.out + end.error, (name, words, end))

@@ -17,6 +17,8 @@ from unittest.mock import patch
 
 sys.path.insert(0, str(Path(__file__).resolve().parent))
 
+from listener import Listener, said  # noqa: E402
+from player_support import built  # noqa: E402
 from session_support import TOOLS, InFolder, Terminal, ngc, told  # noqa: E402
 
 from ngc_tools.ngc import faults  # noqa: E402
@@ -25,7 +27,7 @@ from ngc_tools.formats.out import OFF, Switch, read_line  # noqa: E402
 from ngc_tools.formats.position import Position, nanometres  # noqa: E402
 from ngc_tools.operator.sentences import HELP, explained  # noqa: E402
 from ngc_tools.cli.operate import main  # noqa: E402
-from ngc_tools.player.progress import Link, Listener, Report  # noqa: E402
+from ngc_tools.link.progress import Link, Report  # noqa: E402
 
 PROMPT = b"ngc> "
 PART = """G21 G90 G17
@@ -416,7 +418,7 @@ class FakePlayer:
             self.carried += 1
         report = Report(self.carried, len(lines), self.waits, str(self.position), os.path.abspath("axis"), self.outputs,
                         self.tool, self.is_held, self.percent, self.wants)
-        self.listener.answer(question + b" " + report.text(), sender)
+        self.listener.answer(question + b" " + said(report), sender)
 
     def close(self) -> None:
         """Ends it, once."""
@@ -744,8 +746,8 @@ class Ramps(InFolder):
         Path("part.ngc").write_text("G21 G90\nM3 S500\nG1 X0.9 F30\nM5\nM2\n")
         Path("motion.toml").write_text("[motion]\naccel_mm_s2 = [500, 500, 500]\n")
         os.mkfifo("axis")
-        player = self.start("ngc-player", "axis", "first.toml", "position", "--machine", "motion.toml", "--pins",
-                            "pins", "--progress", "progress")
+        player = self.started(built("-O2"), "axis", "first.toml", "position", "--machine", "motion.toml", "--pins",
+                              "pins", "--progress", "progress")
         self.wait_for("the player listens", lambda: os.path.exists("progress"))
         link = Link("progress", 60)
         self.addCleanup(link.close)

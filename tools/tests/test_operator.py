@@ -18,7 +18,7 @@ from ngc_tools.operator.face import MESSAGE, REFUSED, SAID, WARNING, WHERE, Unde
 from ngc_tools.operator.meter import Meter  # noqa: E402
 from ngc_tools.operator.operator import Operator  # noqa: E402
 from ngc_tools.operator.ramp_times import RampTimes  # noqa: E402
-from ngc_tools.player.progress import MoveReport, NoAnswer, Report  # noqa: E402
+from ngc_tools.link.progress import MoveReport, NoAnswer, Report  # noqa: E402
 
 MODAL = ("feed_nm_per_min", "speed", "g92_nm", "origin_nm", "tool_length_nm", "motion", "plane", "distance",
          "feed_mode", "unit", "retract", "system", "path_mode", "spindle", "mist", "flood", "selected", "point_nm")

@@ -129,7 +129,7 @@ int main(void) {
         right = Record("/axis").text()
         for text in (b"", b"7.21 0 0\n", b"x" * 512, right[:-1], right.replace(b"lines", b"LINES")):
             Path("position").write_bytes(text)
-            with self.assertRaisesRegex(BadRecord, "^position: not a record of ngc-player"):
+            with self.assertRaisesRegex(BadRecord, "^position: not a player's record"):
                 Record.read("position")
         with self.assertRaisesRegex(BadRecord, "too long a path"):
             Record("/" + "a" * 450).text()

@@ -1,4 +1,4 @@
-"""OUT that can't be read any more: both players say so, come to rest, switch off, and end with status 2."""
+"""OUT that can't be read any more: the player says so, comes to rest, switches off, and ends with status 2."""
 import os
 import sys
 import unittest
@@ -6,7 +6,7 @@ from pathlib import Path
 
 sys.path.insert(0, str(Path(__file__).resolve().parent))
 
-from player_support import InC, PlayerTest, preloaded  # noqa: E402
+from player_support import PlayerTest, preloaded  # noqa: E402
 
 from ngc_tools.formats.record import Record  # noqa: E402
 
@@ -40,8 +40,8 @@ LINE = "P 1 0 0 50\n"
 NOT_READ = "it can't be read: Input/output error; spindle and coolant off\n"
 
 
-class OutFails:
-    """Each with both players."""
+class OutFails(PlayerTest):
+    """A disk from which OUT can't be read."""
 
     def setUp(self) -> None:
         """300 pulses with the spindle on, and a disk that fails behind 1,280 bytes of them."""
@@ -99,14 +99,6 @@ class OutFails:
         self.assertEqual(done.returncode, 2)
         self.assertIn("out: Input/output error\n", done.stderr)
         self.assertEqual(Path("position").read_bytes(), before)
-
-
-class Python(OutFails, PlayerTest):
-    """tools/ngc-player."""
-
-
-class C(OutFails, InC, PlayerTest):
-    """tools/player."""
 
 
 if __name__ == "__main__":

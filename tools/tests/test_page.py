@@ -37,7 +37,7 @@ from ngc_tools.page.pages import LOST_S  # noqa: E402
 from ngc_tools.page.rehearse import RehearsalRequest, rehearsed  # noqa: E402
 from ngc_tools.page.session import SessionCommand, PageSession  # noqa: E402
 from ngc_tools.page.state import Pictured  # noqa: E402
-from ngc_tools.player.progress import MoveReport, NoAnswer  # noqa: E402
+from ngc_tools.link.progress import MoveReport, NoAnswer  # noqa: E402
 
 EXAMPLES = TOOLS.parent / "examples"
 COARSE = """step_nm = [100000, 100000, 100000]

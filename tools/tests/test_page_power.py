@@ -12,7 +12,7 @@ sys.path.insert(0, str(Path(__file__).resolve().parent))
 
 from page_support import SHORT, Page, Served  # noqa: E402
 from player_support import built, preloaded  # noqa: E402
-from session_support import TOOLS, InFolder, ngc  # noqa: E402
+from session_support import InFolder, ngc  # noqa: E402
 
 from ngc_tools.cli.page import Opener, make_parser  # noqa: E402
 from ngc_tools.failure import Failure  # noqa: E402
@@ -27,7 +27,7 @@ from ngc_tools.page.losses import Loss, Losses  # noqa: E402
 from ngc_tools.page.never_cut import LossRequest, found  # noqa: E402
 from ngc_tools.page.rehearse import finished, rehearse  # noqa: E402
 from ngc_tools.page.session import PageSession  # noqa: E402
-from ngc_tools.player.progress import Report  # noqa: E402
+from ngc_tools.link.progress import Report  # noqa: E402
 
 BACK = "G21 G90 G94\nG1 X0.01 F60\nX0\nX0.02\nM2\n"
 """Ten pulses on, ten back, and twenty on."""
@@ -141,7 +141,7 @@ class FullDisk(InFolder):
         Path("out").touch()
         words = (*("--follow", "--untimed", "--no-ask-tool", "--pins", "pins", "--progress", "progress"), "out",
                  "first.toml", "position")
-        player = self.start("ngc-player", *words)
+        player = self.started(built("-O2"), *words)
         self.wait_for("the player listens", lambda: os.path.exists("progress"))
         with patch.dict(os.environ, preloaded("disk", FULL)):
             server = self.start("ngc-page", "mill.dev", "first.toml", "out", "--player", "progress", "--ngc", ngc(),
@@ -273,8 +273,7 @@ class Here(Aside):
 
 
 class Moments(InFolder):
-    """Power is lost at moments of one job, so many as NGC_PAGE_MOMENTS says, and the four steps lead to its end. Each
-    fourth time the player is ngc-player, else tools/player."""
+    """Power is lost at moments of one job, so many as NGC_PAGE_MOMENTS says, and the four steps lead to its end."""
 
     def setUp(self) -> None:
         """The device with the job, and what OUT is to hold in the end: that of a run that nothing disturbs."""
@@ -293,7 +292,6 @@ class Moments(InFolder):
         halves = 0
         for number in range(count):
             lost_at = len(self.pulses) * (2 * number + 1) // (2 * count)
-            self.command = [sys.executable, str(TOOLS / "ngc-player")] if number % 4 == 0 else [built("-O2")]
             self.begin_anew()
             self.lose_power(lost_at)
             halves += self.go_back()
@@ -309,7 +307,7 @@ class Moments(InFolder):
     def session(self) -> PageSession:
         """A player, and a session of a page."""
         words = ["--progress", "progress", "--follow", "--untimed", "out", "first.toml", "position"]
-        self.player = subprocess.Popen([*self.command, *words], stdin=subprocess.DEVNULL, stdout=subprocess.DEVNULL,
+        self.player = subprocess.Popen([built("-O2"), *words], stdin=subprocess.DEVNULL, stdout=subprocess.DEVNULL,
                                        stderr=subprocess.DEVNULL)
         self.addCleanup(self.player.wait)
         self.addCleanup(self.player.kill)

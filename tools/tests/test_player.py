@@ -1,4 +1,4 @@
-"""ngc-player, and tools/player beside it: what is carried out, when, what is kept, and what is told."""
+"""tools/player: what is carried out, when, what is kept, and what is told."""
 import fcntl
 import os
 import random
@@ -9,20 +9,18 @@ import subprocess
 import sys
 import time
 import unittest
-from dataclasses import replace
 from itertools import product
 from pathlib import Path
 
 sys.path.insert(0, str(Path(__file__).resolve().parent))
 
-from player_support import (NO_RAMPS, SOURCES, InC, InProcess, PlayerTest, Sanitized, built, preloaded,  # noqa: E402
+from player_support import (NO_RAMPS, SOURCES, PlayerTest, Sanitized, built, preloaded,  # noqa: E402
                             record)
 from session_support import PATIENCE_S  # noqa: E402
 
-from ngc_tools.cli.player import live  # noqa: E402
 from ngc_tools.formats.out import BadLine, read_line  # noqa: E402
 from ngc_tools.formats.record import Record  # noqa: E402
-from ngc_tools.player.progress import NoAnswer, Report  # noqa: E402
+from ngc_tools.link.progress import NoAnswer, Report  # noqa: E402
 
 LINES = """S 0 1000.000000 0 0 2 0
 S 0 1000.000000 0 0 2 2
@@ -98,7 +96,7 @@ int pthread_join(pthread_t thread, void **value) {
 
 
 class Playing:
-    """What the player in Python and the one in C have to do alike."""
+    """What it does however it is built."""
 
     def test_file(self) -> None:
         """Each line of a file reaches the pins, and the record says so."""
@@ -381,36 +379,10 @@ class Playing:
             self.assertEqual((done.returncode, done.stderr.partition(": ")[0]), said, text)
 
 
-class Python(Playing, InProcess, PlayerTest):
-    """tools/ngc-player."""
+class Player(Playing, PlayerTest):
+    """As a compiler builds it, optimized."""
 
     chances = 60
-
-    def test_live(self) -> None:
-        """It shows the line and the position while it works."""
-        Path("out").write_text("P 1 0 0 50\nD 1000000\nD 0\n")
-        done = self.play("--live")
-        self.assertEqual(done.returncode, 0)
-        self.assertIn("line 2: 0.001000 0.000000 0.000000", done.stderr)
-
-    def test_longest_wait(self) -> None:
-        """As long a wait as a line can say, 584,942 years, is waited for."""
-        self.waits(18446744073709551615)
-
-    def test_narrow(self) -> None:
-        """The live line has less letters than the terminal columns, so that it never wraps."""
-        place = (40_550_000, 30_000_000, -5_000_000)
-        self.assertEqual(live(10110, place, 80), "line 10110: 40.550000 30.000000 -5.000000")
-        self.assertEqual(live(10110, place, 41), "10110: 40.550 30.000 -5.000")
-        self.assertEqual([live(10110, place, columns) for columns in (20, 10, 0)], ["line 10110", "", ""])
-
-    def test_spindle(self) -> None:
-        """Told so, it waits while the spindle starts, turns the other way, and stops, and not at other switches."""
-        Path("out").write_text("S 1 5.000000 0 0 0 0\nS 1 5.000000 0 1 0 0\nS 2 5.000000 0 1 0 0\n"
-                               "S 0 5.000000 0 0 0 0\nS 0 5.000000 0 0 0 0\n")
-        begun = time.monotonic()
-        self.assertEqual(self.play("--untimed", "--spindle", "0.2").returncode, 0)
-        self.assertGreater(time.monotonic() - begun, 0.6)
 
     def test_follow(self) -> None:
         """Told so, it waits for more at a file's end, until it is asked to stop."""
@@ -429,12 +401,6 @@ class Python(Playing, InProcess, PlayerTest):
         stopped = "out: stopped after line 3; spindle and coolant off\n"
         self.assertEqual((child.returncode, wrong.splitlines(True)[-1]), (1, stopped))
         self.assertEqual(said.splitlines()[-1], "reference 0.002000 0.000000 0.000000")
-
-
-class C(Playing, InC, PlayerTest):
-    """tools/player."""
-
-    chances = 60
 
     def test_waits_beyond_the_clock(self) -> None:
         """A time for which its clock has no room is named, and not cut: with ramps too, and in the file of times."""
@@ -514,28 +480,23 @@ int pins_off(void) {
         for path in SOURCES:
             self.assertLess(len(path.read_text().splitlines()), 300, path.name)
 
-    def test_alike(self) -> None:
-        """Over the lines of a program with an arc, a cycle, a wait and switches both leave the same pins, and the same
-        record but for its age."""
+    def test_program(self) -> None:
+        """Over the lines of a program with an arc, a cycle, a wait and switches the pins get OUT, and the record ends
+        where the program does."""
         self.device()
         text = ("G21 G90 G17\nM3 S1500\nG0 X1 Y1 Z1\nG2 X1.5 Y1.5 I0.5 F300\nG4 P0.01\nT1 M6\nM4\n"
                 "G83 X2 Y2 Z-0.5 R0.2 Q0.2\nG80 M8\nG0 X0 Y-0.5\nM2\n")
         commands = f"tool 1 0.5\nload {len(text)}\n{text}start\ntick 1000000\n"
         self.assertEqual(self.run_ngc(commands)[-2], "idle")
         self.play("--untimed")
-        ours = Path("pins").read_text(), replace(Record.read("position"), age_ms=0)
-        self.assertEqual(ours[0], Path("out").read_text())
-        for name in ("pins", "position"):
-            Path(name).unlink()
-        words = ["--untimed", "--no-ask-tool", "--pins", "pins", "out", "first.toml", "position"]
-        self.assertEqual(self.tool("ngc-player", *words).returncode, 0)
-        self.assertEqual((Path("pins").read_text(), replace(Record.read("position"), age_ms=0)), ours)
-        self.assertEqual(ours[1].at_nm, (0, -500_000, 1_000_000))
-        self.assertGreater(len(re.findall("^P", ours[0], re.M)), 5000)
+        pins = Path("pins").read_text()
+        self.assertEqual(pins, Path("out").read_text())
+        self.assertEqual(Record.read("position").at_nm, (0, -500_000, 1_000_000))
+        self.assertGreater(len(re.findall("^P", pins, re.M)), 5000)
 
 
-class CSanitized(Playing, Sanitized, PlayerTest):
-    """tools/player under sanitizers."""
+class PlayerSanitized(Playing, Sanitized, PlayerTest):
+    """Under sanitizers."""
 
     chances = 20
 

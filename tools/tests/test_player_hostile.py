@@ -7,7 +7,7 @@ from pathlib import Path
 
 sys.path.insert(0, str(Path(__file__).resolve().parent))
 
-from player_support import InC, InProcess, PlayerTest, Sanitized, sector  # noqa: E402
+from player_support import PlayerTest, Sanitized, sector  # noqa: E402
 from session_support import FIRST, ngc  # noqa: E402
 
 NO_LINE = "not a line of OUT: "
@@ -164,10 +164,10 @@ class Hostile:
         Path("out").write_text("P 1 0 0 50\n")
         for text, said in RECORDS:
             Path("position").write_bytes(text)
-            self.assertEqual(self.refused("out", "first.toml", "position"), "position: not a record of ngc-player: "
+            self.assertEqual(self.refused("out", "first.toml", "position"), "position: not a player's record: "
                              f"{said}; remove it, and tell by --at where the machine stands", text)
             self.assertEqual(Path("position").read_bytes(), text)
-        self.assertIn("not a record of ngc-player: it has ", self.refused("out", "first.toml", "/dev/null"))
+        self.assertIn("not a player's record: it has ", self.refused("out", "first.toml", "/dev/null"))
 
     def test_places(self) -> None:
         """Millimetres of any number of decimals up to six are read for what they are."""
@@ -207,7 +207,7 @@ class Hostile:
         os.mkfifo("pipe")
         self.device()
         Path("half.dev").write_bytes(Path("mill.dev").read_bytes()[512:2048])  # its other header is lost
-        gone, no_record = "No such file or directory", "not a record of ngc-player: it has .*"
+        gone, no_record = "No such file or directory", "not a player's record: it has .*"
         for words, wanted in (
                 (("none", "first.toml", "position"), f"none: {gone}"),
                 (("folder", "first.toml", "position"), "folder: Is a directory"),
@@ -275,23 +275,12 @@ class Hostile:
         self.assertFalse(os.path.exists("position"))
 
 
-class Python(Hostile, InProcess, PlayerTest):
-    """tools/ngc-player."""
-
-    def test_spindle(self) -> None:
-        """Seconds that are none."""
-        for text in ("nan", "-3"):
-            done = self.tool("ngc-player", f"--spindle={text}", "out", "first.toml", "position")
-            self.assertEqual(done.returncode, 2)
-            self.assertTrue(done.stderr.endswith(f"not a number of seconds from 0 to 3600: {text}\n"), done.stderr)
+class Player(Hostile, PlayerTest):
+    """As a compiler builds it, optimized."""
 
 
-class C(Hostile, InC, PlayerTest):
-    """tools/player."""
-
-
-class CSanitized(Hostile, Sanitized, PlayerTest):
-    """tools/player under sanitizers."""
+class PlayerSanitized(Hostile, Sanitized, PlayerTest):
+    """Under sanitizers."""
 
 
 if __name__ == "__main__":

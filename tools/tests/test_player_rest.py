@@ -8,13 +8,13 @@ from pathlib import Path
 
 sys.path.insert(0, str(Path(__file__).resolve().parent))
 
-from player_support import InC, PlayerTest, Sanitized, preloaded, record  # noqa: E402
+from player_support import PlayerTest, Sanitized, preloaded, record  # noqa: E402
 from session_support import PATIENCE_S  # noqa: E402
 from test_sink_player import OverSink  # noqa: E402
 
 from ngc_tools.formats.out import OFF, Switch  # noqa: E402
 from ngc_tools.formats.record import Record  # noqa: E402
-from ngc_tools.player.progress import Link  # noqa: E402
+from ngc_tools.link.progress import Link  # noqa: E402
 
 ON = "S 1 5.000000 0 1 0 0\n"
 WAS = Switch(1, 5_000_000, False, True, 0, 0)
@@ -190,8 +190,8 @@ int fdatasync(int file) {
 """
 
 
-class FullForTheRecord:
-    """A record that can't be kept, in both players."""
+class FullForTheRecord(PlayerTest):
+    """A record that can't be kept."""
 
     def test_stands(self) -> None:
         """It comes to rest, switches off, says why, and carries out nothing more, but goes on with another session once
@@ -259,16 +259,8 @@ class FullForTheRecord:
         self.assertEqual((child.returncode, Record.read("position").lines), (1, carried))
 
 
-class FullForPython(FullForTheRecord, PlayerTest):
-    """tools/ngc-player."""
-
-
-class FullForC(FullForTheRecord, InC, PlayerTest):
-    """tools/player."""
-
-
-class COverSink(InC, OverSink):
-    """tools/player over a step sink."""
+class RestOverSink(OverSink):
+    """Over a step sink."""
 
     def test_off_and_anew(self) -> None:
         """Held amid pulses the sink's outputs go off, come on again before the next pulse, and are off for the next
@@ -308,16 +300,12 @@ class COverSink(InC, OverSink):
         self.assertIn(held.carried - 1, before)
 
 
-class Python(Rest, PlayerTest):
-    """ngc-player."""
+class Player(Rest, PlayerTest):
+    """As a compiler builds it, optimized."""
 
 
-class C(Rest, InC, PlayerTest):
-    """tools/player."""
-
-
-class CSanitized(Rest, Sanitized, PlayerTest):
-    """tools/player under sanitizers."""
+class PlayerSanitized(Rest, Sanitized, PlayerTest):
+    """Under sanitizers."""
 
 
 if __name__ == "__main__":

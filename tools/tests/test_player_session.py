@@ -1,7 +1,6 @@
 """Both players in a session: tool changes, questions while they wait, and how a session ends."""
 import os
 import pty
-import re
 import signal
 import socket
 import stat
@@ -13,11 +12,11 @@ from pathlib import Path
 
 sys.path.insert(0, str(Path(__file__).resolve().parent))
 
-from player_support import NO_RAMPS, InC, PlayerTest, Sanitized, preloaded, record, sector  # noqa: E402
-from session_support import PATIENCE_S, TOOLS, Terminal, ngc  # noqa: E402
+from player_support import NO_RAMPS, PlayerTest, Sanitized, preloaded, record, sector  # noqa: E402
+from session_support import PATIENCE_S, ngc  # noqa: E402
 
 from ngc_tools.formats.out import OFF, Switch  # noqa: E402
-from ngc_tools.player.progress import Report  # noqa: E402
+from ngc_tools.link.progress import Report  # noqa: E402
 
 ON = b"S 1 5.000000 0 1 0 0\n"
 LEFT = ("out: lines that no motor carried out stand behind line 0: nothing moves before a console says so; recover in"
@@ -352,22 +351,8 @@ class Sessions:
             self.assertEqual(Path("pins").read_text(), "P 1 0 0 50\nS 1 5.000000 0 0 0 0\noff\n", closed)
 
 
-class Python(Sessions, PlayerTest):
-    """tools/ngc-player."""
-
-    def test_asks_below_the_live_line(self) -> None:
-        """At a terminal what it asks for stands on a line of its own, and Enter answers it."""
-        Path("out").write_text("P 1 0 0 50\nD 300000\nS 0 0.000000 0 0 2 2\nD 300000\nD 0\n")
-        terminal = Terminal(str(TOOLS / "ngc-player"), "out", "first.toml", "position")
-        shown = terminal.read_to(b"press Enter\r\n")
-        notice = NO_RAMPS.strip().encode()
-        live = rb"(?:\rline [0-9]: 0\.00[01]000 0\.000000 0\.000000)*\r\n"  # each 0.1 s, as far as it is in time
-        self.assertRegex(shown, rb"\A" + re.escape(notice) + rb"\r\n" + live
-                         + rb"line 3: put in tool 2, then press Enter\r\n\Z")
-        terminal.send(b"\n")
-        shown = terminal.read_to(b"never")
-        self.assertRegex(shown, live + rb"out: 5 lines carried out, ")
-        self.assertEqual(terminal.status(), 0)
+class Player(Sessions, PlayerTest):
+    """As a compiler builds it, optimized."""
 
     def test_follow(self) -> None:
         """Of a file that is followed, those who ask are looked for: with the last one gone the spindle goes off."""
@@ -395,12 +380,10 @@ class Python(Sessions, PlayerTest):
         self.assertEqual(self.ended(child), (0, LEFT))
 
 
-class C(Sessions, InC, PlayerTest):
-    """tools/player."""
 
 
-class CSanitized(Sessions, Sanitized, PlayerTest):
-    """tools/player under sanitizers."""
+class PlayerSanitized(Sessions, Sanitized, PlayerTest):
+    """Under sanitizers."""
 
 
 if __name__ == "__main__":

@@ -21,7 +21,7 @@ from ngc_tools.ngc import timing  # noqa: E402
 from ngc_tools.formats.canonical import read_commands  # noqa: E402
 from ngc_tools.job.figures import duration, micrometres  # noqa: E402
 from ngc_tools.job.moves import Arc, arc_points, of_canonical  # noqa: E402
-from ngc_tools.ngc.timing import timed  # noqa: E402
+from ngc_tools.job.timing import timed  # noqa: E402
 
 EXAMPLES = TOOLS.parent / "examples"
 NAMES = ("bolts", "bores", "face", "first", "mill", "parameters", "percent", "pocket", "ring")

@@ -10,10 +10,9 @@ sys.path.insert(0, str(Path(__file__).resolve().parent))
 
 from session_support import InFolder  # noqa: E402
 
-from ngc_tools.files import cause  # noqa: E402
 from ngc_tools.formats.out import Switch  # noqa: E402
-from ngc_tools.player import progress  # noqa: E402
-from ngc_tools.player.progress import Link, Listener, NoAnswer, Report  # noqa: E402
+from ngc_tools.link import progress  # noqa: E402
+from ngc_tools.link.progress import Link, NoAnswer, Report  # noqa: E402
 
 REPORT = Report(3, 203, True, "0.002000 0.000000 -1.000000", "/a b/axis",
                 Switch(1, 1_000_000_000, False, True, 3, 2), 3, False, 40, 1960, spindle=80)
@@ -26,12 +25,11 @@ class Reports(unittest.TestCase):
     """What is answered."""
 
     def test_report(self) -> None:
-        """As text and back; other text isn't a report."""
-        self.assertEqual((REPORT.text(), Report.read(TEXT), REPORT.behind), (TEXT, REPORT, 200))
-        works = Report(3, 3, False, REPORT.at, "/axis")
-        self.assertEqual(works.text(), b"carried 3 received 3 works reference 0.002000 0.000000 -1.000000"
-                                       b" outputs S 0 0.000000 0 0 0 0 percent 100 spindle 100 wants 0 out /axis")
-        self.assertEqual(Report.read(works.text()), works)
+        """A text is a report; other text isn't."""
+        self.assertEqual((Report.read(TEXT), REPORT.behind), (REPORT, 200))
+        works = (b"carried 3 received 3 works reference 0.002000 0.000000 -1.000000 outputs S 0 0.000000 0 0 0 0"
+                 b" percent 100 spindle 100 wants 0 out /axis")
+        self.assertEqual(Report.read(works), Report(3, 3, False, REPORT.at, "/axis"))
         for text in (b"", b"carried 3", TEXT.replace(b"waits", b"sleeps"), TEXT.replace(b" tool 3", b""), b"x" + TEXT,
                      TEXT.replace(b" outputs S 1 1000.000000 0 1 3 2", b""), TEXT.replace(b"S 1 ", b"S 7 "),
                      TEXT.replace(b" percent 40 spindle 80 wants 1960", b"")):
@@ -50,13 +48,20 @@ class Stranger(socket.socket):
         super().connect(address)
 
 
+def listener() -> socket.socket:
+    """A player's socket, at which nobody answers by itself."""
+    made = socket.socket(socket.AF_UNIX, socket.SOCK_DGRAM)
+    made.bind("progress")
+    return made
+
+
 class Sockets(InFolder):
     """Both ends in one process."""
 
     def test_stranger(self) -> None:
         """What somebody sent before the connection isn't taken for the player's answer."""
-        listener = Listener("progress")
-        self.addCleanup(listener.close)
+        player = listener()
+        self.addCleanup(player.close)
         with mock.patch.object(progress.socket, "socket", Stranger):
             link = Link("progress", 0.2)
         self.addCleanup(link.close)
@@ -67,80 +72,42 @@ class Sockets(InFolder):
         """Nobody there, a player that doesn't answer, one that is gone, one that answers another question."""
         with self.assertRaisesRegex(NoAnswer, "^progress: no player listens there: No such file or directory$"):
             Link("progress")
-        listener = Listener("progress")
+        player = listener()
         link = Link("progress", patience_s=0.2)
         self.addCleanup(link.close)
         with self.assertRaisesRegex(NoAnswer, "^progress: the player doesn't answer$"):
             link.ask()
-        question, sender = listener.next() or (b"", b"")
-        self.assertEqual((question, listener.next()), (b"progress 1", None))
-        listener.answer(b"progress 1 " + TEXT, sender)
+        question, sender = player.recvfrom(200)
+        self.assertEqual(question, b"progress 1")
+        player.sendto(b"progress 1 " + TEXT, sender)
         with self.assertRaisesRegex(NoAnswer, "^progress: the player doesn't answer$"):
             link.ask()  # the answer to question 1 isn't that to 2
-        listener.close()
+        player.close()
         for asked in (link.ask, link.go):
             with self.assertRaisesRegex(NoAnswer, "^progress: the player is gone: "):
                 asked()
 
     def test_another_version(self) -> None:
         """The answer of a player of another version isn't taken for a report."""
-        listener = Listener("progress")
-        self.addCleanup(listener.close)
+        player = listener()
+        self.addCleanup(player.close)
         link = Link("progress")
         self.addCleanup(link.close)
         old = b"progress 1 carried 3 received 203 works reference 0.002000 0.000000 -1.000000 outputs " + OUTPUTS
-        listener.answer(old, link.socket.getsockname())
+        player.sendto(old, link.socket.getsockname())
         with self.assertRaisesRegex(NoAnswer, "^progress: not a report of a player: .*; it is of another version: take"
                                               " a player and a console of one version$"):
             link.ask()
 
-    def test_for_its_user_alone(self) -> None:
-        """Nobody else may ask, or say that a tool is in, whatever the umask allows."""
-        before = os.umask(0)
-        self.addCleanup(os.umask, before)
-        listener = Listener("progress")
-        self.addCleanup(listener.close)
-        self.assertEqual(os.stat("progress").st_mode & 0o777, 0o600)
-
     def test_full_queue(self) -> None:
         """A player that is too busy to take questions isn't gone."""
-        listener = Listener("progress")
-        self.addCleanup(listener.close)
+        player = listener()
+        self.addCleanup(player.close)
         link = Link("progress", patience_s=0.2)
         self.addCleanup(link.close)
         with self.assertRaisesRegex(NoAnswer, "^progress: the player doesn't answer$"):
             for _ in range(5000):
                 link.go()
-
-    def test_asker_is_gone(self) -> None:
-        """Whoever has no name, or doesn't read the answer, goes without; a socket that was removed is no harm."""
-        listener = Listener("progress")
-        link = Link("progress", patience_s=0.01)
-        with self.assertRaises(NoAnswer):
-            link.ask()
-        link.close()
-        _, sender = listener.next() or (b"", b"")
-        listener.answer(TEXT, sender)
-        listener.answer(TEXT, None)
-        os.unlink("progress")
-        listener.close()
-
-    def test_one_player(self) -> None:
-        """A second one isn't let in; the socket of a dead one is taken over; a path that can't be is named."""
-        first = Listener("progress")
-        with self.assertRaises(OSError) as caught:
-            Listener("progress")
-        self.assertEqual(cause(caught.exception), "progress: another player listens there")
-        first.socket.close()
-        Listener("progress").close()
-        with self.assertRaises(OSError) as caught:
-            Listener("none/progress")
-        self.assertEqual(cause(caught.exception), "none/progress: No such file or directory")
-        Path("file").write_text("")
-        with self.assertRaises(OSError) as caught:
-            Listener("file")
-        self.assertEqual(cause(caught.exception), "file: it is there, and is no socket")
-        self.assertTrue(Path("file").exists())
 
     def test_not_a_datagram_socket(self) -> None:
         """Another program's socket isn't taken for a player's, and isn't removed."""
@@ -149,8 +116,6 @@ class Sockets(InFolder):
             other.listen()
             with self.assertRaisesRegex(NoAnswer, "^progress: no player listens there: "):
                 Link("progress")
-            with self.assertRaises(OSError):
-                Listener("progress")
         self.assertTrue(os.path.exists("progress"))
 
 

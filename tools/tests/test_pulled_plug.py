@@ -1,7 +1,7 @@
 """Power is lost for controller and player together, over a named pipe: what is never carried out is bounded.
 
-NGC_MOMENTS says how many moments are tried (default 200, an eighth of them with tools/player, and as many with ramps by
-each player)."""
+NGC_MOMENTS says how many moments are tried (default 200, an eighth of them metered by 20 lines, and twice as many with
+ramps)."""
 import os
 import sys
 import tempfile
@@ -21,15 +21,15 @@ class PulledPlug(unittest.TestCase):
     """`pull` raises where more lines than the bound are lost, where a session hands out other lines than the uncut run,
     where a record isn't true of its session, and where a job that was cut ends elsewhere than the uncut one."""
 
-    def test_python(self) -> None:
-        """Metered by 100 lines, the player of ngc-player."""
+    def test_many(self) -> None:
+        """Metered by 100 lines."""
         wanted = MOMENTS - 3 * (MOMENTS // 8)
-        result = pull(Options(ngc(), 100, 4096, None, 0.3), wanted, seed=1)
+        result = pull(Options(ngc(), 100, 4096, built("-O2"), 0.3), wanted, seed=1)
         self.assertEqual((len(result.lost), max(result.lost) <= 100), (wanted, True))
         self.assertGreaterEqual(result.finished + result.ended_short, 1)
 
-    def test_c(self) -> None:
-        """Metered by 20 lines, the player in C."""
+    def test_few(self) -> None:
+        """Metered by 20 lines."""
         wanted = MOMENTS // 8
         result = pull(Options(ngc(), 20, 4096, built("-O2"), 0.3), wanted, seed=2)
         self.assertEqual((len(result.lost), max(result.lost) <= 20), (wanted, True))
@@ -42,9 +42,9 @@ class PulledPlug(unittest.TestCase):
             machine = Path(folder) / "machine.toml"
             machine.write_text("[motion]\naccel_mm_s2 = [2000, 2000, 2000]\n")
             other = FIRST.replace("step_nm = [1000, 1000, 1000]", "step_nm = [2000, 2000, 2000]")
-            for player, ahead, most, settings in ((None, 750, 750, FIRST), (built("-O2"), 0, 1160, other)):
+            for ahead, most, settings in ((750, 750, FIRST), (0, 1160, other)):
                 wanted = MOMENTS // 8
-                result = pull(Options(ngc(), ahead, 4096, player, 0.3, str(machine), settings), wanted, seed=most)
+                result = pull(Options(ngc(), ahead, 4096, built("-O2"), 0.3, str(machine), settings), wanted, seed=most)
                 self.assertEqual((len(result.lost), max(result.lost) <= most), (wanted, True))
                 self.assertGreater(sum(result.lost), 0)
                 self.assertGreaterEqual(result.finished + result.ended_short, 1)

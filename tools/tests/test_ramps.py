@@ -11,7 +11,7 @@ from pathlib import Path
 sys.path.insert(0, str(Path(__file__).resolve().parent))
 
 from pace_support import PROGRAMS, excess, stream  # noqa: E402
-from player_support import NO_RAMPS, InC, InProcess, PlayerTest, Sanitized  # noqa: E402
+from player_support import NO_RAMPS, PlayerTest, Sanitized  # noqa: E402
 from session_support import FIRST, TOOLS, ngc  # noqa: E402
 
 EXAMPLES = sorted((TOOLS.parent / "examples").glob("*.ngc"))
@@ -325,39 +325,22 @@ class Ramps(PlayerTest):
         self.assertIn("\nstopped console", Path("position").read_text())
 
 
-class RampsInPython(InProcess, Ramps):
-    """ngc-player."""
-
-    def test_spindle_word(self) -> None:
-        """What the words say goes before what the file does."""
-        Path("motion.toml").write_text(MOTION.replace("spindle_s = 0", "spindle_s = 3600"))
-        Path("out").write_text("S 1 5.000000 0 1 0 0\nP 1 0 0 50\n")
-        self.assertEqual(self.play("--untimed", "--machine", "motion.toml", "--spindle", "0").returncode, 0)
-        self.assertEqual(Path("pins").read_text(), Path("out").read_text() + "off\n")
-
-
-class RampsInC(InC, Ramps):
-    """tools/player."""
+class RampsOptimized(Ramps):
+    """As a compiler builds it, optimized."""
 
 
 class RampsSanitized(Sanitized, Ramps):
-    """tools/player under the sanitizers."""
+    """Under the sanitizers."""
 
 
-class Same(InC, PlayerTest):
-    """Both players side by side."""
+class Same(PlayerTest):
+    """The player beside `ngc pace`."""
 
     def test_times(self) -> None:
         """The times of both are the same, to the nanosecond."""
         Path("motion.toml").write_text(MOTION)
         Path("out").write_text((LONG[:11 * 700] + "P 1 1 0 70\n" * 500 + "D 3\nP 0 0 -1 90\n") * 3)
-        self.play("--untimed", "--machine", "motion.toml", "--times", "c")
-        Path("position").unlink()
-        words = ("--untimed", "--no-ask-tool", "--machine", "motion.toml", "--times", "python", "out", "first.toml",
-                 "position")
-        self.assertEqual(self.tool("ngc-player", *words).returncode, 0)
-        self.assertEqual(Path("c").read_bytes(), Path("python").read_bytes())
-        self.assertEqual(Path("c").read_bytes(), self.paced())
+        self.check_as_ngc("lines of one, two and one axes")
 
     def paced(self) -> bytes:
         """What `ngc pace` says of OUT."""

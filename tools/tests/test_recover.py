@@ -17,7 +17,7 @@ from unittest.mock import patch
 
 sys.path.insert(0, str(Path(__file__).resolve().parent))
 
-from player_support import NO_RAMPS, InC, InProcess, PlayerTest, built, record  # noqa: E402
+from player_support import PlayerTest, built, record  # noqa: E402
 from pulled_file import Options, Yes, program, pull  # noqa: E402
 from pulled_plug import program as stairs  # noqa: E402
 from pulled_plug import run_uncut  # noqa: E402
@@ -39,14 +39,14 @@ from ngc_tools.operator.past import along_out, by_rate  # noqa: E402
 from ngc_tools.operator.recovery import Looking, OutFound, Recovery  # noqa: E402
 from ngc_tools.operator.sentences import GO_ON, LOOK, LOOK_AGAIN, LOOK_SWITCHED, SWITCHED_THERE  # noqa: E402
 from ngc_tools.operator.synced import SyncedLink  # noqa: E402
-from ngc_tools.player.source import Source  # noqa: E402
+from ngc_tools.link.out_file import OutFile  # noqa: E402
 
 # A path by hand: spindle on, +X +X at 50 us, a wait, +Y at 200 us, +X -Z at 70 us. It leads to 3 1 -1.
 PATH = b"S 1 900.000000 0 0 0 0\nP 1 0 0 50\nP 1 0 0 50\nD 9\nP 0 1 0 200\nP 1 0 -1 70\n"
 WHOLE_RECORD = "reference 0.003000 0.001000 -0.001000\n"
 
 
-class Going:
+class Going(PlayerTest):
     """--go-to-line, in both players."""
 
     def setUp(self) -> None:
@@ -257,25 +257,8 @@ class Going:
         self.assertIn("lines 7\n", record())
 
 
-class GoingInPython(Going, InProcess, PlayerTest):
-    """ngc-player."""
-
-    def run_player(self, *words: str, **how: object) -> subprocess.CompletedProcess[str]:
-        """In this process where nothing is typed."""
-        if how.get("input") == "":
-            how.pop("input")
-            how["stdin"] = subprocess.DEVNULL if "--yes" not in words else None
-            if how["stdin"] is None:
-                how.pop("stdin")
-        return super().run_player(*words, **how)
-
-
-class GoingInC(Going, InC, PlayerTest):
-    """tools/player."""
-
-
-class Followed:
-    """A file that is followed, in both players."""
+class Followed(PlayerTest):
+    """A file that is followed."""
 
     def test_synced(self) -> None:
         """Nothing is carried out beyond what is on the disk, and nothing before somebody said how much that is: also
@@ -389,14 +372,6 @@ class Followed:
         self.assertEqual(Path("pins2").read_text().splitlines(), [
             "P -1 0 1 1414", "P 0 -1 0 1000", "P -1 0 0 1000", "P 0 0 1 50", "P -1 0 0 50", "P 0 0 -1 1000",
             "P 1 0 -1 1414"])
-
-
-class FollowedInPython(Followed, PlayerTest):
-    """ngc-player."""
-
-
-class FollowedInC(Followed, InC, PlayerTest):
-    """tools/player."""
 
 
 class Finding(InFolder):
@@ -538,7 +513,7 @@ class Finding(InFolder):
         self.device()
         self.run_ngc("load 23\nG0 X0.003\nG0 Z0.020\nM2\nstart\ntick 14\nquit\n")
         self.assertEqual(Path("out").read_text(), "P 1 0 0 50\n" * 3 + "P 0 0 1 50\n" * 6)
-        source = Source("out")
+        source = OutFile("out")
         mark = source.mark(88)
         source.close()
         Path("position").write_bytes(Record(f"{self.folder}/out", 8, 88, OFF, (3000, 0, 5000), mark).text())
@@ -641,7 +616,7 @@ class WithOperator(PlayerTest):
 
     def record_of(self, lines: int, at_nm: tuple[int, int, int], each: int = 11) -> None:
         """A record of so many lines, each of so many bytes."""
-        source = Source("out")
+        source = OutFile("out")
         mark = source.mark(each * lines)
         source.close()
         Path("position").write_bytes(Record(f"{self.folder}/out", lines, each * lines, OFF, at_nm, mark).text())
@@ -719,7 +694,7 @@ class Recovering(WithOperator):
         self.run_ngc(f"load {len(text)}\n{text}start\ntick 19\nquit\n")
         lines = Path("out").read_text().splitlines()
         self.assertEqual((lines.count("P 0 0 -1 1000"), lines[-1]), (5, "P 0 0 1 50"))  # of R0.001 down, and a step up
-        source = Source("out")
+        source = OutFile("out")
         size = source.size()
         mark = source.mark(size)
         source.close()
@@ -744,7 +719,7 @@ class Recovering(WithOperator):
         self.assertGreater(back, 3)
         on, off = "S 1 900.000000 0 0 0 0", "S 0 0.000000 0 0 0 0"
         size = len(Path("out").read_bytes())
-        source = Source("out")
+        source = OutFile("out")
         mark = source.mark(size)
         source.close()
         at_nm = (3000, 0, -1000 * back)
@@ -893,7 +868,7 @@ class Recovering(WithOperator):
         size = len(text) - 11 * 9  # 9 lines weren't carried out
         at = 1000 * text[:size].count(b"P"), 0, 1000 * text[:size].count(b"P 1 0 1")
         Path("out").write_bytes(bytes(len(pulses[0])) + text[len(pulses[0]):])
-        source = Source("out")
+        source = OutFile("out")
         mark = source.mark(size)
         source.close()
         lines = text[:size].count(b"\n")
@@ -1110,10 +1085,6 @@ class BesideThePath(WithOperator):
                       " record isn't that of this OUT", face.said)
 
 
-class BesideInC(InC, BesideThePath):
-    """tools/player."""
-
-
 class Questions(WithOperator):
     """What is asked from a cut to cutting again, as docs/RECOVERY.md counts it: with the spindle on, and all answered
     as they lead on. `recover` is the one command."""
@@ -1132,7 +1103,7 @@ class Questions(WithOperator):
         if reader:
             reader.wait()
         else:
-            source = Source("out")
+            source = OutFile("out")
             texts, size = Path("out").read_text().splitlines(), source.size()
             lines, mark = len(texts), source.mark(size)
             at = Position((1000, 1000, 1000)).take_all(read_line(text, 1) for text in texts)
@@ -1169,10 +1140,6 @@ class Questions(WithOperator):
             "yes goes on with the cut"])
 
 
-class QuestionsInC(InC, Questions):
-    """tools/player."""
-
-
 class EndsWhereItBegan(WithOperator):
     """Blocks that end where they began, of which OUT lost all with the power, while the device has them as done."""
 
@@ -1196,7 +1163,7 @@ class EndsWhereItBegan(WithOperator):
         Path("out").write_text(whole)
         found = Settings.read("first.toml").step_nm
         at = Position(found).take_all(read_line(line, 1) for line in lines[:count])
-        source = Source("out")
+        source = OutFile("out")
         mark = source.mark(len(whole))
         source.close()
         record = Record(f"{self.folder}/out", count, len(whole), OFF, at.nm, mark)
@@ -1565,12 +1532,12 @@ class PulledPlug(unittest.TestCase):
         self.assertGreaterEqual(result.finished, 1)
         self.assertGreaterEqual(result.on + result.back, 1)
 
-    def test_python(self) -> None:
-        """ngc-player, and what of OUT wasn't synced is lost."""
-        self.tried(Options(ngc(), True), 1)
+    def test_torn(self) -> None:
+        """What of OUT wasn't synced is lost."""
+        self.tried(Options(ngc(), True, built("-O2")), 1)
 
-    def test_c(self) -> None:
-        """tools/player, and OUT as it stands."""
+    def test_whole(self) -> None:
+        """OUT is as it stands."""
         self.tried(Options(ngc(), False, built("-O2")), 2)
 
 

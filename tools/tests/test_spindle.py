@@ -1,4 +1,4 @@
-"""Both players: the override of the spindle's speed."""
+"""The player: the override of the spindle's speed."""
 import os
 import sys
 import unittest
@@ -6,7 +6,7 @@ from pathlib import Path
 
 sys.path.insert(0, str(Path(__file__).resolve().parent))
 
-from player_support import InC, PlayerTest, Sanitized, record  # noqa: E402
+from player_support import PlayerTest, Sanitized, record  # noqa: E402
 from session_support import PATIENCE_S  # noqa: E402
 from sink_support import ServedSink  # noqa: E402
 
@@ -16,7 +16,7 @@ SLOW = b"P 1 0 0 2000\n" * 1500  # 3 s
 
 
 class Overridden(PlayerTest):
-    """What both players do, with pins that are a file."""
+    """With pins that are a file."""
 
     def started(self, machine: str, *words: str) -> None:
         """Starts the player, and opens the pipe as `ngc` does."""
@@ -147,7 +147,7 @@ class Overridden(PlayerTest):
                              f"mill.toml: {said}")
 
 
-class OverSink(InC, PlayerTest):
+class OverSink(PlayerTest):
     """tools/player over a step sink."""
 
     def serve(self, waits_ms: int) -> None:
@@ -225,21 +225,19 @@ class OverSink(InC, PlayerTest):
         self.child.communicate(timeout=PATIENCE_S)
 
 
-class InPython(Overridden, unittest.TestCase):
-    """ngc-player."""
+class Player(Overridden, unittest.TestCase):
+    """As a compiler builds it, optimized."""
 
 
-class OfC(InC, Overridden, unittest.TestCase):
-    """tools/player."""
-
-
-class OfCOverSink(OverSink, unittest.TestCase):
+class PlayerOverSink(OverSink, unittest.TestCase):
     """Over a step sink."""
 
 
-class OfCSanitized(Sanitized, Overridden, unittest.TestCase):
+class PlayerSanitized(Sanitized, Overridden, unittest.TestCase):
     """The same under the compiler's sanitizers."""
 
+
+del Overridden, OverSink
 
 if __name__ == "__main__":
     unittest.main()

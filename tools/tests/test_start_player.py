@@ -10,7 +10,8 @@ from pathlib import Path
 sys.path.insert(0, str(Path(__file__).resolve().parent))
 
 from page_support import Page  # noqa: E402
-from session_support import PATIENCE_S, TOOLS, InFolder, ngc, told  # noqa: E402
+from player_support import built  # noqa: E402
+from session_support import PATIENCE_S, InFolder, ngc, told  # noqa: E402
 
 from ngc_tools.cli import page  # noqa: E402
 
@@ -18,7 +19,7 @@ WORDS = ("mill.dev", "first.toml", "out", "--player", "progress")
 
 
 class Started(InFolder):
-    """Over ngc-player, which follows a file."""
+    """Over the player, which follows a file."""
 
     def setUp(self) -> None:
         """A device and an empty OUT."""
@@ -38,8 +39,7 @@ class Started(InFolder):
 
     def test_started(self) -> None:
         """It begins with the server; killed, `Start ngc again` begins it once more, and lines are carried out."""
-        command = shlex.join([sys.executable, str(TOOLS / "ngc-player"), "out", "first.toml", "position", "--follow",
-                              "--untimed", "--progress", "progress"])
+        command = shlex.join([built("-O2"), "out", "first.toml", "position", "--follow", "--untimed", "--progress", "progress"])
         server = self.served(command)
         seen = Page(server.stdout.readline().strip())
         self.addCleanup(seen.close)
@@ -58,11 +58,11 @@ class Started(InFolder):
 
     def test_that_ends(self) -> None:
         """One that doesn't begin is told of by what it said, and the server doesn't begin either."""
-        command = shlex.join([sys.executable, str(TOOLS / "ngc-player"), "out", "other.toml", "position"])
+        command = shlex.join([built("-O2"), "out", "other.toml", "position"])
         server = self.served(command)
         out, wrong = server.communicate(timeout=PATIENCE_S)
         self.assertEqual((server.returncode, out), (2, ""))
-        self.assertIn("\nngc-page: the player ended: ngc-player: other.toml: ", "\n" + wrong)
+        self.assertIn("\nngc-page: the player ended: player: other.toml: ", "\n" + wrong)
 
     def test_words(self) -> None:
         """What is not a command, what can't be started, and a command without a socket."""

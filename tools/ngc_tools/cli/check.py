@@ -24,7 +24,7 @@ from ngc_tools.ngc import cures, faults, machine_report, settings_report
 from ngc_tools.ngc.machine_report import Motion
 from ngc_tools.ngc.pacing import NotTimed
 from ngc_tools.ngc.run import Refusal, TooLong, find_ngc, refusal
-from ngc_tools.ngc.timing import with_ramps
+from ngc_tools.job.timing import with_ramps
 from ngc_tools.ngc.usable_settings import look_at_settings
 from ngc_tools.scratch import scratch_file
 

@@ -24,8 +24,8 @@ from ngc_tools.operator.sentences import explained
 from ngc_tools.operator.session import ALARM
 from ngc_tools.operator.setter import Setter
 from ngc_tools.operator.synced import SYNCED_AT_ONCE, SYNCED_PARTS, SyncedLink
-from ngc_tools.player.machine import read_limits
-from ngc_tools.player.progress import UNDER_WAY, Link, Report
+from ngc_tools.link.machine import read_limits
+from ngc_tools.link.progress import UNDER_WAY, Link, Report
 from ngc_tools.ngc.run import find_ngc
 from ngc_tools.ngc.usable_settings import look_at_settings
 from ngc_tools.cli.terminal import AskedToEnd, Screen
@@ -43,7 +43,7 @@ motors aren't, unless that is asked for by `anyway`. A player with --machine is 
 EXAMPLE = """example:
   ngc format mill.dev                                   (once; it OVERWRITES mill.dev)
   mkfifo axis
-  ngc-player axis mill.toml position --progress progress    (in another terminal)
+  player axis mill.toml position --progress progress    (in another terminal)
   ngc-operate mill.dev mill.toml axis --player progress
   ngc> load part.ngc
   ngc> run
@@ -59,7 +59,7 @@ def make_parser() -> argparse.ArgumentParser:
     parser.add_argument("device", metavar="DEVICE", help="the device, as `ngc format` made it")
     parser.add_argument("settings", metavar="SETTINGS", help="the machine's settings, in TOML")
     parser.add_argument("out", metavar="OUT", help="where pulses go: a named pipe with a player, a file, a serial line")
-    parser.add_argument("--player", metavar="SOCKET", help="the socket of ngc-player's --progress")
+    parser.add_argument("--player", metavar="SOCKET", help="the socket of the player's --progress")
     parser.add_argument("--ahead", type=int, metavar="N",
                         help="how many lines OUT may be ahead of the player at most (without it as many as the player"
                         f" wants, {LIMIT} of one that doesn't say it)")

@@ -26,8 +26,8 @@ from ngc_tools.page.face import PageFace
 from ngc_tools.page.server import Server
 from ngc_tools.page.session import Opened, PageSession
 from ngc_tools.page.start_player import PlayerStarter
-from ngc_tools.player.machine import read_limits
-from ngc_tools.player.progress import Link, NoAnswer
+from ngc_tools.link.machine import read_limits
+from ngc_tools.link.progress import Link, NoAnswer
 
 ABOUT = """A page in the browser over `ngc run`: the machine's state, the program, its path, and what an operator does.
 
@@ -38,7 +38,7 @@ environment is one that stays the same."""
 EXAMPLE = """example:
   ngc format mill.dev                                   (once; it OVERWRITES mill.dev)
   mkfifo axis
-  ngc-player axis mill.toml position --progress progress    (in another terminal)
+  player axis mill.toml position --progress progress    (in another terminal)
   ngc-page mill.dev mill.toml axis --player progress
 
 environment:
@@ -65,7 +65,7 @@ def make_parser() -> argparse.ArgumentParser:
     parser.add_argument("device", metavar="DEVICE", help="the device, as `ngc format` made it")
     parser.add_argument("settings", metavar="SETTINGS", help="the machine's settings, in TOML")
     parser.add_argument("out", metavar="OUT", help="where pulses go: a named pipe with a player, a file, a serial line")
-    parser.add_argument("--player", metavar="SOCKET", help="the socket of ngc-player's --progress")
+    parser.add_argument("--player", metavar="SOCKET", help="the socket of the player's --progress")
     parser.add_argument("--machine", metavar="FILE", help="the machine's file, as the player takes it: times with"
                         " ramps, and the height of the tool setter")
     parser.add_argument("--ahead", type=int, metavar="N",

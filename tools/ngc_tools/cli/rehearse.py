@@ -18,7 +18,7 @@ from ngc_tools.formats.position import millimetres
 from ngc_tools.formats.record import Record
 from ngc_tools.operator.display import on_words
 from ngc_tools.operator.recovery import Looking, Recovery
-from ngc_tools.player.source import OtherFile, Source, where_to_begin
+from ngc_tools.link.out_file import OtherFile, OutFile, where_to_begin
 from ngc_tools.ngc.run import find_ngc
 from ngc_tools.ngc.usable_settings import look_at_settings
 
@@ -112,9 +112,9 @@ def rehearse(args: argparse.Namespace) -> int:
 def recovered(args: argparse.Namespace, ngc: str, image: bytes) -> Recovery:
     """How recover would go. Raises CannotTell, OtherFile, BadRecord, OSError, which name what doesn't belong."""
     record = Record.read(args.position)
-    source = Source(args.out)
+    source = OutFile(args.out)
     try:
-        begun, _ = where_to_begin(record, source, False, False)
+        begun = where_to_begin(record, source)
         if begun.size != record.size:
             raise OtherFile(f"{args.position} speaks of {record.out}, not of {args.out}")
         looking = Looking(ngc, args.settings, image, NoteFile(args.device).read())

@@ -13,7 +13,7 @@ from ngc_tools.formats.text import shown
 from ngc_tools.cli.keys import TerminalKeys, terminal_keys
 from ngc_tools.cli.typed_lines import TypedLines
 from ngc_tools.operator.face import SAID, WARNING, UnderWay, is_aside, is_override
-from ngc_tools.player.progress import Report
+from ngc_tools.link.progress import Report
 
 _ENDING = (signal.SIGTERM, signal.SIGHUP)
 

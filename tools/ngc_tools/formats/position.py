@@ -1,5 +1,6 @@
 """Where the machine stands by the lines of OUT: whole steps, counted from a point in machine millimetres."""
 from collections.abc import Iterable, Sequence
+from math import isqrt
 
 from ngc_tools.failure import BadNumber
 from ngc_tools.formats.out import Line, Pulse
@@ -62,3 +63,9 @@ def rounded(nm: int, step_nm: int) -> int:
     """A length in steps, rounded half away from zero."""
     steps = (2 * abs(nm) + step_nm) // (2 * step_nm)
     return -steps if nm < 0 else steps
+
+
+def distance(a: tuple[int, int, int], b: tuple[int, int, int]) -> int:
+    """The distance of two points in nm, rounded down."""
+    (p, q, r), (s, t, u) = a, b
+    return isqrt((s - p) * (s - p) + (t - q) * (t - q) + (u - r) * (u - r))

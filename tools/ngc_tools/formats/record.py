@@ -111,7 +111,7 @@ class Record:
         try:
             return _read(text)
         except ValueError as error:
-            raise BadRecord(f"{path}: not a record of ngc-player: {error}; remove it, and tell by --at where the"
+            raise BadRecord(f"{path}: not a player's record: {error}; remove it, and tell by --at where the"
                             " machine stands") from None
 
     @staticmethod

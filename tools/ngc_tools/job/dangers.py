@@ -10,7 +10,7 @@ from ngc_tools.formats.settings import Settings
 from ngc_tools.job import cutting, heights, reliance
 from ngc_tools.job.danger import Danger
 from ngc_tools.job.figures import duration, millimetres
-from ngc_tools.job.in_force import InForce
+from ngc_tools.formats.in_force import InForce
 from ngc_tools.job.moves import PLANES, arc_of
 from ngc_tools.job.printed import Act, Printed, Run, acts_of, by_line
 from ngc_tools.job.refused import Lines

@@ -6,9 +6,9 @@ from math import isqrt
 
 from ngc_tools.formats.canonical import MOTIONS, Command
 from ngc_tools.formats.out import Dwell, Pulse, Switch, read_line
-from ngc_tools.formats.position import rounded
+from ngc_tools.formats.position import distance, rounded
 from ngc_tools.formats.settings import Settings
-from ngc_tools.job.in_force import InForce
+from ngc_tools.formats.in_force import InForce
 
 Point = tuple[int, int, int]
 Pair = tuple[int, int]
@@ -69,12 +69,6 @@ class Wait:
 
 
 Step = Move | Wait
-
-
-def distance(a: Point, b: Point) -> int:
-    """The distance of two points in nm, rounded down."""
-    (p, q, r), (s, t, u) = a, b
-    return isqrt((s - p) * (s - p) + (t - q) * (t - q) + (u - r) * (u - r))
 
 
 def of_canonical(commands: Iterable[Command], begun: InForce = InForce(), at: Point = (0, 0, 0)) -> Iterator[Step]:

@@ -4,7 +4,7 @@ from dataclasses import replace
 from math import isqrt
 
 from ngc_tools.formats.settings import AXES, Settings
-from ngc_tools.job.in_force import InForce
+from ngc_tools.formats.in_force import InForce
 from ngc_tools.job.moves import PLANES, Pair, Point, arc_of
 from ngc_tools.job.printed import Act, Run, acts_of, by_line
 from ngc_tools.job.refused import Lines

@@ -8,7 +8,7 @@ from pathlib import Path
 from ngc_tools.formats.canonical import MOTIONS, Command
 from ngc_tools.formats.device import LARGE_SIZE, MOST_PROGRAM, Device
 from ngc_tools.formats.out import Switch
-from ngc_tools.job.in_force import InForce
+from ngc_tools.formats.in_force import InForce
 from ngc_tools.job.split import CannotPart, Part, Place
 from ngc_tools.ngc.copies import CommandRefused, Copy
 from ngc_tools.ngc.worlds import LineRefused, World

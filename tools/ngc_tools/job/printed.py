@@ -4,7 +4,7 @@ from dataclasses import dataclass
 
 from ngc_tools.formats.canonical import MOTIONS, Command, read_commands
 from ngc_tools.formats.lines import percent_lines
-from ngc_tools.job.in_force import InForce
+from ngc_tools.formats.in_force import InForce
 from ngc_tools.job.moves import Point, arc_of, arc_points
 from ngc_tools.job.refused import Lines
 

@@ -10,7 +10,7 @@ from ngc_tools.formats.canonical import MOTIONS, Command
 from ngc_tools.formats.lines import percent_bytes, percent_lines
 from ngc_tools.formats.position import millimetres
 from ngc_tools.job.cam import CamLine
-from ngc_tools.job.in_force import InForce
+from ngc_tools.formats.in_force import InForce
 from ngc_tools.job.moves import Point
 from ngc_tools.ngc.worlds import LineRefused, World
 

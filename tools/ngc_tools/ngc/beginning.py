@@ -16,7 +16,7 @@ from ngc_tools.formats.device import LARGE_SIZE, Device, Held, NoDevice, State
 from ngc_tools.formats.lines import percent_lines, program_lines
 from ngc_tools.formats.position import millimetres
 from ngc_tools.formats.settings import DEFAULT, Settings
-from ngc_tools.job.in_force import InForce, in_force_on
+from ngc_tools.formats.in_force import InForce, in_force_on
 from ngc_tools.ngc.run import Refusal, dry, refusal
 from ngc_tools.scratch import scratch_file
 

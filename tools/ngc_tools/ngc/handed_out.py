@@ -20,7 +20,7 @@ from ngc_tools.formats.settings import Settings
 from ngc_tools.ngc.carried import CannotTell, Run, is_within, runs
 from ngc_tools.ngc.console import Ended, Status
 from ngc_tools.ngc.copies import Copy, CommandRefused, first
-from ngc_tools.player.source import born_ns
+from ngc_tools.link.out_file import born_ns
 
 Steps = tuple[int, int, int]
 _PIECE = 4096  # lines that are looked at, at once

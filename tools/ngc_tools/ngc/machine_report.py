@@ -10,8 +10,8 @@ from ngc_tools.files import read_settings
 from ngc_tools.formats.machine import MOST_LINES, BadMachine
 from ngc_tools.formats.settings import AXES, Settings, read_table
 from ngc_tools.ngc.settings_report import number
-from ngc_tools.player.machine import Machine, read_machine
-from ngc_tools.player.window import lines_for
+from ngc_tools.link.machine import Machine, read_machine
+from ngc_tools.link.window import lines_for
 
 LIKELY = range(10, 20_001)  # mm/s2
 _FULL_STEP_NM = 25_000  # of a screw of 5 mm a turn and a motor of 200 steps

@@ -2,7 +2,7 @@
 from ngc_tools.operator.face import REFUSED, WARNING, axes
 from ngc_tools.operator.numbers import nanometres_of
 from ngc_tools.operator.session import ALARM, BROKEN, Session
-from ngc_tools.player.progress import MoveReport, NoAnswer
+from ngc_tools.link.progress import MoveReport, NoAnswer
 
 _TAKEN = ("home", "where", "status", "help", "?", "quit", "exit", "reference")
 _TAKEN_BROKEN = ("jog", "seek", "reference", "hold", "stop", "off")

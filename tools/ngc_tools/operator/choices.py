@@ -11,7 +11,7 @@ from ngc_tools.ngc.console import Status
 from ngc_tools.operator.face import WARNING
 from ngc_tools.operator.motors import PERCENTS, SPINDLE_PERCENTS, WHOLE
 from ngc_tools.operator.session import Session
-from ngc_tools.player.progress import NoAnswer
+from ngc_tools.link.progress import NoAnswer
 
 SUFFIX = ".choices"
 

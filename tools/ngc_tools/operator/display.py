@@ -4,7 +4,7 @@ from collections.abc import Iterator
 from ngc_tools.formats.device import State
 from ngc_tools.formats.out import Switch
 from ngc_tools.job.figures import millimetres as rounded
-from ngc_tools.job.in_force import SPINDLE, InForce
+from ngc_tools.formats.in_force import SPINDLE, InForce
 from ngc_tools.job.moves import Point
 from ngc_tools.operator.modes import SYSTEMS, point_words, trimmed
 

@@ -6,7 +6,7 @@ from ngc_tools.operator.display import on_words, outputs_on
 from ngc_tools.operator.motors import behind
 from ngc_tools.operator.session import Session
 from ngc_tools.operator.synced import SyncedLink
-from ngc_tools.player.progress import NoAnswer
+from ngc_tools.link.progress import NoAnswer
 
 _LEFT = ("The player switches that off once the session has ended and the seconds of its --off-after are over; Ctrl-C"
          " in the player does it at once")

@@ -5,7 +5,7 @@ from dataclasses import dataclass
 from typing import Protocol
 
 from ngc_tools.ngc.console import Status
-from ngc_tools.player.progress import Report
+from ngc_tools.link.progress import Report
 
 SAID, WHERE, MESSAGE, REFUSED, WARNING = "said", "where", "message", "refused", "warning"
 """The kinds of what is said: an answer; what the machine does, which a face may show all the time anyway; a message of

@@ -9,7 +9,7 @@ from ngc_tools.operator.face import REFUSED, WARNING
 from ngc_tools.operator.modes import trimmed
 from ngc_tools.operator.moves import USUAL, Moves
 from ngc_tools.operator.session import ALARM
-from ngc_tools.player.progress import NoAnswer
+from ngc_tools.link.progress import NoAnswer
 
 WAYS = ("X+", "X-", "Y+", "Y-", "Z+", "Z-")
 FASTER, SLOWER, END = "faster", "slower", "end"

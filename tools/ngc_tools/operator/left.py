@@ -5,7 +5,7 @@ from dataclasses import replace
 from ngc_tools.formats.canonical import BadText, read_commands
 from ngc_tools.formats.device import Device, NoDevice, State
 from ngc_tools.job.figures import millimetres as rounded
-from ngc_tools.job.moves import distance
+from ngc_tools.formats.position import distance
 from ngc_tools.ngc.beginning import Beginning, CannotSetUp
 from ngc_tools.ngc.console import Status
 from ngc_tools.ngc.run import CannotRun, refusal

@@ -3,7 +3,7 @@ from collections.abc import Iterator
 
 from ngc_tools.formats.device import Device
 from ngc_tools.formats.position import nanometres
-from ngc_tools.job.in_force import in_force_on
+from ngc_tools.formats.in_force import in_force_on
 from ngc_tools.ngc.console import Status
 from ngc_tools.operator.face import WARNING, WHERE, axes
 from ngc_tools.operator.display import offsets_words, outputs_on, outputs_words, work_words
@@ -12,7 +12,7 @@ from ngc_tools.operator.motors import behind, manner
 from ngc_tools.operator.session import Session, place
 from ngc_tools.operator.timeline import Timeline
 from ngc_tools.operator.work import clock
-from ngc_tools.player.progress import Report
+from ngc_tools.link.progress import Report
 
 
 class Look:

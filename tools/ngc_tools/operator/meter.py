@@ -3,7 +3,7 @@ import time
 from collections.abc import Callable
 
 from ngc_tools.failure import BadNumber
-from ngc_tools.player.progress import MOVED, Link, NoAnswer, Report
+from ngc_tools.link.progress import MOVED, Link, NoAnswer, Report
 
 LIMIT = 100  # lines, of a player that doesn't say how many it wants
 LIMITS = range(2, 8001)  # what a player can have in hand

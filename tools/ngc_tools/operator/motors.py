@@ -8,8 +8,8 @@ from ngc_tools.formats.settings import Settings
 from ngc_tools.job.figures import millimetres as rounded
 from ngc_tools.operator.face import REFUSED, WARNING, WHERE
 from ngc_tools.operator.session import ALARM, BROKEN, Session
-from ngc_tools.player.progress import NoAnswer, Report
-from ngc_tools.player.spindle import PERCENTS as SPINDLE_PERCENTS
+from ngc_tools.link.progress import NoAnswer, Report
+from ngc_tools.link.progress import SPINDLE_PERCENTS
 
 PERCENTS = range(1, MOST_PERCENTS[-1] + 1)
 """What an override may be, in percent of OUT's rates. A player takes no more than its `most_percent`."""

@@ -18,7 +18,7 @@ from ngc_tools.operator.next_session import NextSession
 from ngc_tools.operator.numbers import length_of, nanometres_of
 from ngc_tools.operator.places import is_same_place
 from ngc_tools.operator.session import ALARM, BROKEN, Session
-from ngc_tools.player.progress import Link, MoveReport, NoAnswer, Report
+from ngc_tools.link.progress import Link, MoveReport, NoAnswer, Report
 
 ASKED_S = 0.05
 """Between two questions: without one for a second the player brings a move to rest."""

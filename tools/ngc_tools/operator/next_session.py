@@ -11,7 +11,7 @@ from ngc_tools.operator.recover import Recover
 from ngc_tools.operator.recovery import OutFound
 from ngc_tools.operator.session import BROKEN, Session
 from ngc_tools.operator.synced import SyncedLink
-from ngc_tools.player.progress import NoAnswer
+from ngc_tools.link.progress import NoAnswer
 
 _HAS_LINES = "the player doesn't let go of its lines"
 _NO_RECORD = """\

@@ -41,7 +41,7 @@ from ngc_tools.operator.slots import fill_below
 from ngc_tools.operator.touch import Touch, is_slot
 from ngc_tools.operator.typed import ANYWAY, Typed
 from ngc_tools.operator.work import SINGLE, Work
-from ngc_tools.player.progress import NoAnswer, Report
+from ngc_tools.link.progress import NoAnswer, Report
 
 CHOSEN = ("percent", "spindle", "single", "optional", "delete")
 PLAIN = ("abandon", "tool", "optional", "delete")

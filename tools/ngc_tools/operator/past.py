@@ -11,8 +11,8 @@ from ngc_tools.formats.position import Position
 from ngc_tools.formats.settings import Settings
 from ngc_tools.job.figures import millimetres as rounded
 from ngc_tools.operator.motors import diagonal_nm
-from ngc_tools.player.keeper import KEEPS_MS
-from ngc_tools.player.way import CarriedLine, look, moves
+from ngc_tools.link.progress import KEEPS_MS
+from ngc_tools.link.way import CarriedLine, look, moves
 
 
 @dataclass(frozen=True, slots=True)

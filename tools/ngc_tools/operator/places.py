@@ -1,10 +1,9 @@
 """Whether the motors are where `ngc` takes them to be: its point and the player's, compared in whole steps."""
 import re
 
-from ngc_tools.formats.position import Position
+from ngc_tools.formats.position import Position, distance
 from ngc_tools.formats.settings import Settings
 from ngc_tools.job.figures import millimetres as rounded
-from ngc_tools.job.moves import distance
 from ngc_tools.ngc.console import Status
 from ngc_tools.operator.causes import taken
 from ngc_tools.operator.face import REFUSED, SAID, WARNING
@@ -13,7 +12,7 @@ from ngc_tools.operator.numbers import nanometres_of
 from ngc_tools.operator.sentences import PLAYER_SILENT
 from ngc_tools.operator.session import ALARM, BROKEN, Session
 from ngc_tools.operator.work import Work
-from ngc_tools.player.progress import NoAnswer, Report
+from ngc_tools.link.progress import NoAnswer, Report
 
 _STOPS = re.compile(r"(?:N\d{1,5})?(?:M0*[59])+", re.IGNORECASE)
 

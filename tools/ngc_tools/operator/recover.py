@@ -8,9 +8,8 @@ from functools import partial
 
 from ngc_tools.formats.device import Device
 from ngc_tools.formats.machine import MOST_PERCENTS
-from ngc_tools.formats.position import Position, millimetres, nanometres
+from ngc_tools.formats.position import Position, distance, millimetres, nanometres
 from ngc_tools.job.figures import millimetres as rounded
-from ngc_tools.job.moves import distance
 from ngc_tools.ngc.console import Status
 from ngc_tools.operator.causes import taken
 from ngc_tools.operator.face import REFUSED, WARNING, axes
@@ -21,8 +20,8 @@ from ngc_tools.operator.recovery import OutFound, Recovery
 from ngc_tools.operator.rehearsing import segment_begins
 from ngc_tools.operator.session import Session
 from ngc_tools.operator.way_back import WayBack
-from ngc_tools.player.progress import Report
-from ngc_tools.player.way import count_lines
+from ngc_tools.link.progress import Report
+from ngc_tools.link.way import count_lines
 
 _MOVING = ("run", "start", "continue", "resume", "mdi", "restore", "zero", "undo")
 LEFT = """\

@@ -23,9 +23,8 @@ from ngc_tools.ngc.handed_out import SegmentBeginning, Finder, FileRecord
 from ngc_tools.operator.display import outputs_on
 from ngc_tools.operator.feeds import cut_feed
 from ngc_tools.operator.synced import SyncedLink
-from ngc_tools.player.progress import HeldBack, Report
-from ngc_tools.player.retrace import slowed
-from ngc_tools.player.way import Way, count_lines, is_switch_between, look, moves, switched_at
+from ngc_tools.link.progress import HeldBack, Report
+from ngc_tools.link.way import Way, count_lines, is_switch_between, look, moves, slowed, switched_at
 
 Point = tuple[int, int, int]
 HOLE = """\

@@ -8,9 +8,8 @@ from ngc_tools.formats.device import Device
 from ngc_tools.job.figures import duration
 from ngc_tools.job.figures import millimetres as rounded
 from ngc_tools.formats.lines import Program
-from ngc_tools.job.moves import distance
 from ngc_tools.formats.out import Switch
-from ngc_tools.formats.position import nanometres
+from ngc_tools.formats.position import distance, nanometres
 from ngc_tools.formats.text import shown_line
 
 _TURNS = ("stands", "clockwise", "counter-clockwise")

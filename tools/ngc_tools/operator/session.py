@@ -15,7 +15,7 @@ from ngc_tools.operator.meter import Meter
 from ngc_tools.operator.outside import breach_of_line
 from ngc_tools.operator.sentences import explained
 from ngc_tools.operator.synced import SyncedLink
-from ngc_tools.player.progress import MoveReport, NoAnswer, Report
+from ngc_tools.link.progress import MoveReport, NoAnswer, Report
 
 ALARM, BROKEN, WAITS_SPINDLE = "alarm", "broken", "waits spindle"
 """What a player's report says where the machine's place isn't to be trusted; where no more line of the session is

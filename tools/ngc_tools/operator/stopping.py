@@ -11,7 +11,7 @@ from ngc_tools.operator.look import Look
 from ngc_tools.operator.motors import Motors, count
 from ngc_tools.operator.next_session import NextSession
 from ngc_tools.operator.session import BROKEN, Session
-from ngc_tools.player.progress import Link, NoAnswer, Report
+from ngc_tools.link.progress import Link, NoAnswer, Report
 
 _OFF_S = 2.0  # how long a player may take for that, but for a spindle that is being waited for
 _LOOKS_S = 0.02

@@ -15,8 +15,8 @@ from ngc_tools.formats.device import Device, NoDevice
 from ngc_tools.formats.out import LONGEST_LINE, BadLine, end_of_lines, read_line
 from ngc_tools.formats.out_note import NoteFile, OutNote
 from ngc_tools.ngc.console import Status
-from ngc_tools.player.progress import Link, NoAnswer, Report
-from ngc_tools.player.source import born_ns
+from ngc_tools.link.progress import Link, NoAnswer, Report
+from ngc_tools.link.out_file import born_ns
 
 SYNCED_PARTS, SYNCED_AT_ONCE = 4, 1000  # of a Meter: few pieces, since each is synced
 _CHUNK = 1 << 22  # bytes of room that are given back at once

@@ -6,7 +6,7 @@ from ngc_tools.formats.device import Device
 from ngc_tools.formats.settings import Settings
 from ngc_tools.job import cutting
 from ngc_tools.job.figures import Box, box, by_length
-from ngc_tools.job.in_force import InForce
+from ngc_tools.formats.in_force import InForce
 from ngc_tools.job.moves import CUT, TRAVERSE, Move, Step, Wait, arc_of, arc_points
 from ngc_tools.job.printed import Act, acts_of, by_line
 from ngc_tools.job.refused import Lines

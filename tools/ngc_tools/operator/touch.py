@@ -8,7 +8,7 @@ from dataclasses import dataclass
 from ngc_tools.failure import Failure
 from ngc_tools.formats.device import Device, State
 from ngc_tools.job.figures import millimetres as rounded
-from ngc_tools.job.in_force import in_force_on
+from ngc_tools.formats.in_force import in_force_on
 from ngc_tools.ngc.console import Status
 from ngc_tools.operator.causes import busy, reference_words, taken
 from ngc_tools.operator.face import REFUSED, WARNING, WHERE

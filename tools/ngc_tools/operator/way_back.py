@@ -5,17 +5,16 @@ from collections.abc import Callable
 
 from ngc_tools.failure import BadNumber
 from ngc_tools.formats.out import Switch
-from ngc_tools.formats.position import Position, millimetres, nanometres
+from ngc_tools.formats.position import Position, distance, millimetres, nanometres
 from ngc_tools.formats.record import machine_nm
 from ngc_tools.job.figures import millimetres as rounded
-from ngc_tools.job.moves import distance
 from ngc_tools.operator.display import on_words
 from ngc_tools.operator.face import REFUSED, WARNING, axes
 from ngc_tools.operator.modes import trimmed
 from ngc_tools.operator.outputs import comes_on_agreed
 from ngc_tools.operator.sentences import LOOK, LOOK_AGAIN, LOOK_SWITCHED
 from ngc_tools.operator.session import ALARM, BROKEN, Session
-from ngc_tools.player.retrace import legs_to
+from ngc_tools.link.way import legs_to
 
 _SWITCHES = "on was, there: {words}. yes switches it on first, anything else leaves it off: "
 _HEIGHT = """\

@@ -4,7 +4,7 @@ from collections.abc import Callable
 from dataclasses import dataclass
 
 from ngc_tools.formats.position import nanometres
-from ngc_tools.job.in_force import InForce
+from ngc_tools.formats.in_force import InForce
 from ngc_tools.ngc.console import Status
 from ngc_tools.operator.display import short_words, work_words
 from ngc_tools.operator.face import MESSAGE, WARNING, WHERE, UnderWay
@@ -12,7 +12,7 @@ from ngc_tools.operator.meter import AT_ONCE
 from ngc_tools.operator.motors import Motors, live
 from ngc_tools.operator.session import ALARM, BROKEN, DOOR, OTHER, SPINDLE, WAITS_SPINDLE, Session
 from ngc_tools.operator.timeline import Timeline
-from ngc_tools.player.progress import NoAnswer, Report
+from ngc_tools.link.progress import NoAnswer, Report
 
 ENDS = ("idle", "stopped", "held", "refused")
 SINGLE = "single"

@@ -7,7 +7,7 @@ from ngc_tools.operator.motors import count
 from ngc_tools.operator.session import ALARM, BROKEN, DOOR, SPINDLE, WAITS_SPINDLE
 from ngc_tools.page.face import LOOKS
 from ngc_tools.page.session import LOST, MOVES, WITHOUT_LINES, PageSession
-from ngc_tools.player.progress import Report
+from ngc_tools.link.progress import Report
 
 Band = tuple[str, str, str]
 

@@ -15,7 +15,7 @@ from ngc_tools.job.refused import Lines
 from ngc_tools.ngc.beginning import Beginning
 from ngc_tools.ngc.pacing import NotTimed
 from ngc_tools.ngc.run import Refusal, refusal
-from ngc_tools.ngc.timing import timed, with_ramps
+from ngc_tools.job.timing import timed, with_ramps
 
 _SWITCHES = {"SET_SPINDLE_SPEED", "SELECT_TOOL", "CHANGE_TOOL", "START_SPINDLE_CLOCKWISE", "STOP_SPINDLE_TURNING",
              "START_SPINDLE_COUNTERCLOCKWISE", "MIST_ON", "FLOOD_ON", "MIST_OFF"}

@@ -11,7 +11,7 @@ from ngc_tools.operator.face import MESSAGE, REFUSED, SAID, WARNING, WHERE, Unde
 from ngc_tools.operator.sentences import GO_ON, LOOK, LOOK_AGAIN, LOOK_SWITCHED, SWITCHED, SWITCHED_THERE
 from ngc_tools.operator.way_back import TYPE_GO
 from ngc_tools.page.words import page_words
-from ngc_tools.player.progress import Report
+from ngc_tools.link.progress import Report
 
 UNCUT = "uncut"
 """The kind of a warning of what was never cut: pages show that by themselves, too."""

@@ -4,12 +4,12 @@ from dataclasses import dataclass, replace
 from ngc_tools.failure import Failure
 from ngc_tools.formats.device import Device
 from ngc_tools.formats.lines import Program
-from ngc_tools.formats.position import millimetres, nanometres
+from ngc_tools.formats.position import distance, millimetres, nanometres
 from ngc_tools.formats.settings import Settings
 from ngc_tools.formats.text import shown_lines
 from ngc_tools.job.figures import duration, micrometres
 from ngc_tools.job.figures import millimetres as rounded
-from ngc_tools.job.moves import CUT, Move, Point, distance, of_out
+from ngc_tools.job.moves import CUT, Move, Point, of_out
 from ngc_tools.ngc.copies import CommandRefused
 from ngc_tools.operator import causes
 from ngc_tools.operator.recovery import OutFound

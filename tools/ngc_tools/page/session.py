@@ -33,8 +33,8 @@ from ngc_tools.page.never_cut import LossRequest, NeverCutSearch
 from ngc_tools.page.jog import HeldJog
 from ngc_tools.page.losses import Losses
 from ngc_tools.page.stand import Kept, Stand, recovery_of
-from ngc_tools.player.machine import read_machine
-from ngc_tools.player.progress import Link, NoAnswer
+from ngc_tools.link.machine import read_machine
+from ngc_tools.link.progress import Link, NoAnswer
 
 WITHOUT_LINES = {"home", "jog", "seek"}
 MOVES = {"run", "mdi", "resume", "recover", "restore", "release", *WITHOUT_LINES}

@@ -11,8 +11,8 @@ from ngc_tools.ngc.console import Status
 from ngc_tools.operator.display import on_words
 from ngc_tools.operator.recovery import OutFound, Recovery
 from ngc_tools.operator.session import BROKEN
-from ngc_tools.player.progress import MoveReport, Report
-from ngc_tools.player.way import count_lines
+from ngc_tools.link.progress import MoveReport, Report
+from ngc_tools.link.way import count_lines
 
 _OFTEN_S = 0.25
 

@@ -6,7 +6,7 @@ from ngc_tools.formats.device import Device, State
 from ngc_tools.formats.lines import Program
 from ngc_tools.formats.position import Position, millimetres, nanometres
 from ngc_tools.formats.text import shown_line
-from ngc_tools.job.in_force import in_force_on
+from ngc_tools.formats.in_force import in_force_on
 from ngc_tools.ngc.console import Status
 from ngc_tools.operator.alarm import left_of
 from ngc_tools.operator.display import on_words, outputs_on
@@ -16,7 +16,7 @@ from ngc_tools.operator.session import ALARM, WAITS_SPINDLE
 from ngc_tools.page.band import Standing
 from ngc_tools.page.face import LOOKS
 from ngc_tools.page.session import MOVES, WITHOUT_LINES, PageSession
-from ngc_tools.player.progress import MoveReport, Report
+from ngc_tools.link.progress import MoveReport, Report
 
 LOOKED_AT = 3
 """So many things are looked at before anything moves."""

@@ -58,30 +58,23 @@
     on for the seconds of `--off-after` first. A question after `end` begins another session.
 
 A console that dies sends no `end`: the player ends with status 1 after the same seconds."""
-import errno
 import os
 import re
 import socket
-import stat
 import time
 from contextlib import suppress
 from dataclasses import dataclass
 from pathlib import Path
 
 from ngc_tools.failure import Failure
-from ngc_tools.files import naming
 from ngc_tools.formats.out import OFF, BadLine, Switch, read_line
-from ngc_tools.formats.position import millimetres
-from ngc_tools.formats.record import Record
 from ngc_tools.hold_level import Starts, start_at_once
 
-QUESTION = re.compile(rb"progress [0-9]{1,20}")
-SYNCED = re.compile(rb"synced ([0-9]{1,18})")
-KEPT = re.compile(rb"kept [0-9]{1,20}")
-PERCENT = re.compile(rb"percent ([1-9][0-9]{0,2})")
-SPINDLE = re.compile(rb"spindle percent ([1-9][0-9]{0,2})")
+KEEPS_MS = 20
+"""How long after a record is synced a player writes the next one."""
+SPINDLE_PERCENTS = range(10, 201)
+"""What an override of the spindle may be."""
 _OTHER = "it is of another version: take a player and a console of one version"
-_LONGEST = 192  # bytes of a datagram to a player
 _KEPT = re.compile(r"lines (\d+) bytes (\d+) age (\d+)(?: path (\S+ \S+ \S+))?( sure)?")
 _WORDS = "works|held|moves|moved|alarm|broken|waits spindle"
 _REPORT = re.compile(rf"carried (\d+) received (\d+) ({_WORDS}|waits tool (\d{{1,3}})) reference (\S+ \S+ \S+)"
@@ -136,14 +129,6 @@ class Report:
         """Lines that were handed out and aren't carried out; on a way back those that are still to be taken back."""
         return abs(self.received - self.carried)
 
-    def text(self) -> bytes:
-        """What is answered."""
-        state = f"waits tool {self.tool}" if self.waits else "held" if self.is_held else self.word
-        said = (f"carried {self.carried} received {self.received} {state} reference {self.at}"
-                f" outputs {self.outputs}{f' again {self.again}' if self.again else ''} percent {self.percent}"
-                f" spindle {self.spindle} wants {self.wants} out {self.out}")
-        return said.encode("utf-8", "surrogateescape")
-
     @staticmethod
     def read(answer: bytes) -> "Report":
         """Reads what was answered. Raises ValueError for any other text."""
@@ -191,81 +176,6 @@ def _switch(text: str) -> Switch | None:
     except BadLine:
         return None
     return line if isinstance(line, Switch) else None
-
-
-def kept_text(record: Record, is_sure: bool) -> bytes:
-    """What is answered of the record on the disk. `is_sure`: where the motors are was told since the player began."""
-    path = f" path {' '.join(map(millimetres, record.path_nm))}" if record.path_nm not in (None, record.at_nm) else ""
-    sure = " sure" if is_sure else ""
-    return f"lines {record.lines} bytes {record.size} age {record.age_ms}{path}{sure}".encode()
-
-
-class Listener:
-    """The player's end of the socket, which its own user alone may use."""
-
-    def __init__(self, path: str | Path) -> None:
-        """Takes the place of a socket that a player left which is gone. Raises OSError, also if one listens there."""
-        self.path = str(path)
-        if os.path.exists(self.path):
-            _remove_stale(self.path)
-        self.socket = socket.socket(socket.AF_UNIX, socket.SOCK_DGRAM)
-        self.socket.setblocking(False)
-        try:
-            self._bind()
-        except OSError:
-            self.socket.close()
-            raise
-
-    def _bind(self) -> None:
-        """Makes the name, with mode 0600 from its first moment."""
-        if len(os.fsencode(self.path)) > 107:
-            raise OSError(errno.ENAMETOOLONG, "too long a path for a socket", self.path)
-        before = os.umask(0o177)
-        try:
-            with naming(self.path):
-                self.socket.bind(self.path)
-        finally:
-            os.umask(before)
-
-    def next(self) -> tuple[bytes, str | bytes | None] | None:
-        """A question and whom to answer, or None if nobody asks. One that is too long to be one is empty."""
-        try:
-            question, sender = self.socket.recvfrom(_LONGEST + 1)
-        except BlockingIOError:
-            return None
-        return question.rstrip(b" \n") if len(question) <= _LONGEST else b"", sender
-
-    def answer(self, text: bytes, sender: str | bytes | None) -> None:
-        """Answers; whoever has no name, or doesn't read the answer, goes without."""
-        if sender is None:
-            return
-        try:
-            self.socket.sendto(text, sender)
-        except OSError:
-            pass
-
-    def close(self) -> None:
-        """Closes the socket and removes its name."""
-        self.socket.close()
-        try:
-            os.unlink(self.path)
-        except FileNotFoundError:
-            pass
-
-
-def _remove_stale(path: str) -> None:
-    """Removes a socket to which nobody listens any more. Raises OSError if somebody does, or it is no socket."""
-    if not stat.S_ISSOCK(os.stat(path).st_mode):
-        raise OSError(errno.EADDRINUSE, "it is there, and is no socket", path)
-    with socket.socket(socket.AF_UNIX, socket.SOCK_DGRAM) as probe:
-        try:
-            probe.connect(path)
-        except ConnectionRefusedError:
-            os.unlink(path)
-            return
-        except OSError as error:  # a socket of another kind, or of another user
-            raise OSError(errno.EADDRINUSE, f"no player's socket: {error.strerror}", path) from None
-    raise OSError(errno.EADDRINUSE, "another player listens there", path)
 
 
 class Link:

@@ -6,9 +6,24 @@ from pathlib import Path
 from typing import Any
 
 from ngc_tools.formats.machine import BadMachine, read_tables
-from ngc_tools.player.pace_path import Axes, Limits
 
+Axes = tuple[int, int, int]
+CORNER_PULSES = 96
+"""The most that a corner takes on each side, as tools/player paces (MOTION.md)."""
 _LEAST_ACCEL, _GREATEST_ACCEL = 3, 10**9  # steps a second, each second
+
+
+@dataclass(frozen=True, slots=True)
+class Limits:
+    """What motors allow, by axes, in steps and seconds: accelerations of 3 to 1,000,000,000, rates of which 0 is any,
+    and rates at which a motor can start and stop at once. A motor may be `slack` steps off its pulses, 1 to 64. An
+    override is at most `most_percent` of OUT's rates, 100 to 200."""
+
+    accel: Axes
+    rate: Axes = (0, 0, 0)
+    start: Axes = (0, 0, 0)
+    slack: int = 2
+    most_percent: int = 100
 
 
 @dataclass(frozen=True, slots=True)

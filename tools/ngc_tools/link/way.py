@@ -4,13 +4,14 @@ Back is line by line what on was, in the other order and with steps of the other
 Nothing waits and nothing is switched on the way back."""
 import os
 from collections.abc import Iterable, Iterator
-from dataclasses import dataclass
+from dataclasses import dataclass, replace
 from math import isqrt
 
 from ngc_tools.failure import Failure
 from ngc_tools.formats.out import LONGEST_LINE, OFF, BadLine, Line, Pulse, Switch, read_line
-from ngc_tools.formats.position import Position
+from ngc_tools.formats.position import Position, distance, millimetres
 
+Point = tuple[int, int, int]
 _PIECE = 1 << 16  # bytes that are read at once
 
 
@@ -26,7 +27,6 @@ class CarriedLine:
     line: Line | None
     lines: int
     size: int
-    is_extra: bool = False  # it takes up backlash: a pulse that moves no table, with the counts of before
 
 
 @dataclass(frozen=True, slots=True)
@@ -76,6 +76,26 @@ def _taken_back(pulse: Pulse, lines: int, size: int, period_us: int) -> CarriedL
     return CarriedLine(Pulse(-pulse.x, -pulse.y, -pulse.z, period_us), lines, size)
 
 
+def slowed(found: Iterable[CarriedLine], step_nm: Iterable[int], most: int) -> Iterator[CarriedLine]:
+    """The same moves, none faster than so many nm a minute."""
+    x_nm, y_nm, z_nm = step_nm
+    least = {(x, y, z): -(-distance((0, 0, 0), (x * x_nm, y * y_nm, z * z_nm)) * 60_000_000 // most)
+             for x in (0, 1) for y in (0, 1) for z in (0, 1)}
+    for move in found:
+        line = move.line
+        if isinstance(line, Pulse) and (us := least[abs(line.x), abs(line.y), abs(line.z)]) > line.period_us:
+            move = replace(move, line=replace(line, period_us=us))
+        yield move
+
+
+def legs_to(start: Point, end: Point, lift_nm: int) -> tuple[Point, ...]:
+    """Up to a height, over, and down. Raises NoWay if that height isn't above both points."""
+    if lift_nm < max(start[2], end[2]):
+        raise NoWay(f"Z {millimetres(lift_nm)} lies below Z {millimetres(max(start[2], end[2]))}: legs go up first, and"
+                    " down last")
+    return (start[0], start[1], lift_nm), (end[0], end[1], lift_nm), end
+
+
 def look(found: Iterable[CarriedLine], position: Position) -> Way:
     """What moves come to, from a point on, which is moved along. Raises as they do."""
     lines = pulses = switches = length = us = 0
@@ -97,39 +117,12 @@ def look(found: Iterable[CarriedLine], position: Position) -> Way:
     return Way(lines, pulses, switches, length, us, low * position.step_nm[2], position.nm)
 
 
-def end_of_line(file: int, lines: int, size: int, wanted: int) -> int:
-    """The bytes of the first `wanted` lines of OUT, whose first `lines` lines have `size` bytes. Raises NoWay where OUT
-    has fewer lines."""
-    if wanted >= lines:
-        for text in _texts_on(file, size, os.fstat(file).st_size):
-            if lines == wanted:
-                break
-            lines += 1
-            size += len(text) + 1
-    else:
-        for text in _texts_back(file, 0, size):
-            lines -= 1
-            size -= len(text) + 1
-            if lines == wanted:
-                break
-    if lines != wanted:
-        raise NoWay(f"OUT has {lines} lines, and no line {wanted}")
-    return size
-
-
 def count_lines(file: int, begin: int, end: int) -> int:
     """How many lines end between two bytes of OUT."""
     count = 0
     for at in range(begin, end, _PIECE):
         count += os.pread(file, min(_PIECE, end - at), at).count(b"\n")
     return count
-
-
-def outputs_at(file: int, size: int, kept: Switch = OFF) -> Switch:
-    """The outputs after the first `size` bytes of OUT: those of the last switch in them, as far as they can still be
-    read; without one those that are `kept`."""
-    found = switched_at(file, size, kept)
-    return kept if found is None else found
 
 
 def switched_at(file: int, size: int, kept: Switch = OFF) -> Switch | None:
@@ -151,17 +144,6 @@ def switched_at(file: int, size: int, kept: Switch = OFF) -> Switch | None:
 def is_switch_between(file: int, begin: int, end: int) -> bool:
     """Whether a line between two bytes, at which lines end, is a switch."""
     return any(text.startswith(b"S ") for text in _texts_on(file, begin, end))
-
-
-def tool_change(file: int, lines: int, begin: int, end: int, slot: int) -> tuple[int, int] | None:
-    """The number of the first line between two bytes of OUT that asks for another slot in the spindle, and that slot;
-    None if there is none. `lines` lines end at `begin`, and `slot` is in the spindle there. Raises BadLine."""
-    for text in _texts_on(file, begin, end):
-        lines += 1
-        line = read_line(text, lines) if text.startswith(b"S ") else None
-        if isinstance(line, Switch) and line.slot != slot:
-            return lines, line.slot
-    return None
 
 
 def _texts_on(file: int, begin: int, end: int) -> Iterator[bytes]:

@@ -1,1 +1,0 @@
-"""The reference reader of OUT, and how it tells how far it is."""
