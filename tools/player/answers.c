@@ -1,4 +1,4 @@
-/* Answers whoever asks how far the player is, as tools/ngc_tools/player/progress.py has it: in a thread of its own, so
+/* Answers whoever asks how far the player is, as tools/ngc_tools/link/progress.py has it: in a thread of its own, so
  * that a player which waits for a person, a spindle or its pins isn't taken for gone. */
 #define _GNU_SOURCE
 #include <errno.h>

@@ -1,5 +1,5 @@
 /* How many lines a player wants in hand: enough to come to rest from the fastest of them, and no more than that, since
- * what is in hand is lost with the power. tools/ngc_tools/player/window.py has the same integers. */
+ * what is in hand is lost with the power. tools/ngc_tools/link/window.py has the same integers. */
 #ifndef WINDOW_H
 #define WINDOW_H
 
