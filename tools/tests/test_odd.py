@@ -215,7 +215,7 @@ class Odd(InFolder):
         begun = [subprocess.Popen(["sh", "-c", 'exec "$@" <&- >&- 2>&-', "sh", sys.executable, TOOLS / name, *words,
                                    *(("--ngc", ngc()) if name in ASKS else ())])
                  for name, words in GOOD.items() if name not in ("ngc-operate", "ngc-page")]
-        self.assertEqual([child.wait(LIMIT_S) for child in begun], [0] * 7)
+        self.assertEqual([child.wait(LIMIT_S) for child in begun], [0] * (len(GOOD) - 2))
 
     def test_interrupted(self) -> None:
         """Ctrl-C at ten moments: a line and the page's status, and none of its folders and files is left. A tool that
@@ -398,7 +398,7 @@ class Odd(InFolder):
         self.addCleanup(os.environ.pop, "COLUMNS")
         for name, main in MAINS.items():
             status, said, error = told(main, "--help")
-            commands = ("  ngc", "  mkfifo", "  (in")
+            commands = ("  ngc", "  player", "  mkfifo", "  (in")
             _, _, below = said.partition("\n\n")
             long = [line for line in below.splitlines() if len(line) > 40 and not line.startswith(commands)]
             self.assertEqual((status, error, long), (0, "", []), name)

@@ -138,7 +138,7 @@ class OfStreams(unittest.TestCase):
 
     def test_followed_when_disturbed(self) -> None:
         """Motors can follow holds, releases and overrides in the midst of a motion, and a starved reader."""
-        lines = (["P 1 0 0 50"] * 3000 + ["P 1 1 0 50"] * 3000 + ["P 0 -1 0 50"] * 2000) * 2
+        lines = (["P 1 0 0 50"] * 2000 + ["P 1 1 0 50"] * 2000 + ["P 0 -1 0 50"] * 1500) * 2
         events, times = [], []
         for count, line in enumerate(lines):
             events.append(line)
