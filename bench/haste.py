@@ -1,6 +1,6 @@
 #!/usr/bin/env python3
 """Haste: how long ten kinds of program take by OUT, with ramps by `ngc pace`, by Grbl's planner, with a rest behind
-each line, and at best.
+each line, and at best: by the path alone, and by OUT's own lines along it too.
 
 usage, at the top of the repository: bench/haste.py [--ngc PATH] [--accel MM_S2] [KIND..]
 
@@ -13,6 +13,8 @@ and then 100, or what is said. The programs are those of bench/kinds.py: all, or
 - Exact stop is at rest behind each line of the program, and behind each arc.
 - Ideal is the best time along the smooth path: lines, circles and the curves that the program has as short lines. Each
   axis has that acceleration, and may change its rate at a corner by what the slack allows (bench/ideal.c).
+- Bound is the ideal where no stretch of the path is sooner than OUT's own pulses of it: so long `ngc pace` promises to
+  take. The factor is pace by the bound.
 
 It builds ngc by rt if that is needed and no PATH is given."""
 import argparse
@@ -22,9 +24,10 @@ import sys
 import tempfile
 from pathlib import Path
 
-from kinds import Line, programs
+from kinds import Arc, Line, programs
 from ramps import HERE, Bench
 
+STEPS = 400  # a millimetre
 RATE = 50.0  # mm a second, of each axis
 DEVIATION = 0.01  # mm, of Grbl's junctions
 SLACK = 0.005  # mm: two steps
@@ -81,16 +84,76 @@ def grbl_s(path, accel):
                for k, (far, _, most, line_accel) in enumerate(lines))
 
 
-def smooth(path):
-    """The points of a path, with the feed up to each and whether it is a corner there."""
+def by_feed(path):
+    """For each piece of a path the rate up to each of its points: the feed."""
+    return [[piece.feed / 60] * len(piece.points()) for piece in path.pieces]
+
+
+def steps_between(piece, begin, end):
+    """How many pulses OUT has between two points: along an arc each steps one axis of its plane, along a line all of
+    them together."""
+    x, y, z = (abs(b - a) * STEPS for a, b in zip(begin, end))
+    return x + y if isinstance(piece, Arc) else max(x, y, z)
+
+
+def pulses_of(out):
+    """For each pulse of OUT the place that it leads to, in steps, and its seconds."""
+    x = y = z = 0
+    with open(out) as lines:
+        for line in lines:
+            if line[0] == "P":
+                words = line.split()
+                x, y, z = x + int(words[1]), y + int(words[2]), z + int(words[3])
+                yield (x, y, z), int(words[4]) / 1e6
+
+
+def take_block(pulses, piece, block, place):
+    """Takes the pulses of a block that begins at a place; returns where it ends, and its seconds. It is over with the
+    pulse that leads to its end. A full turn begins there too, so nearly all its pulses have to be over."""
+    end = tuple(round(part * STEPS) for part in block[-1])
+    count = sum(steps_between(piece, *pair) for pair in zip(block, block[1:])) * 0.9 - 4
+    total = 0.0
+    while place != end or count > 0:
+        place, seconds = next(pulses, (None, 0.0))
+        if place is None:
+            sys.exit("OUT ends before the path does")
+        total, count = total + seconds, count - 1
+    return place, total
+
+
+def rates_of_block(piece, points, seconds):
+    """The rate along each stretch of a block between these points, whose even pulses take so many seconds."""
+    pairs = list(zip(points, points[1:]))
+    steps = [steps_between(piece, *pair) for pair in pairs]
+    return [math.dist(*pair) * sum(steps) / (own * seconds) for pair, own in zip(pairs, steps)]
+
+
+def by_out(path, out):
+    """For each piece of a path the rate up to each of its points at which OUT's own pulses come there."""
+    pulses, place, begin, rates = pulses_of(out), (0, 0, 0), (0.0, 0.0, 0.0), []
+    for piece in path.pieces:
+        blocks, points = piece.blocks(), [begin, *piece.points()]
+        each = (len(points) - 1) // len(blocks)  # stretches of a block
+        rates.append([])
+        for k, block in enumerate(blocks):
+            place, seconds = take_block(pulses, piece, block, place)
+            rates[-1] += rates_of_block(piece, points[k * each:(k + 1) * each + 1], seconds)
+        begin = points[-1]
+    if next(pulses, None) is not None:
+        sys.exit("OUT goes on behind the path")
+    return rates
+
+
+def smooth(path, rates):
+    """The points of a path, with the greatest rate up to each and whether it is a corner there."""
     points = [((0.0, 0.0, 0.0), 0.0, 0)]
     before = None
-    for piece in path.pieces:
+    for piece, own_rates in zip(path.pieces, rates):
         own = piece.points()
         first = direction(points[-1][0], own[0])[0]
         if before is not None and sum(a * b for a, b in zip(before, first)) < CORNER:
             points[-1] = (*points[-1][:2], 1)
-        points += [(point, piece.feed / 60, 0) for point in own]
+        points += [(point, rate, 0) for point, rate in zip(own, own_rates)]
         before = direction(own[-2], own[-1])[0]
     return points
 
@@ -141,10 +204,10 @@ def show(bench, ideal, name, path):
     """A program's row."""
     out, _ = bench.hand_out(path.text())
     out_s, paced_s = pace_s(bench, out, ideal.accel)
-    best_s = ideal.seconds([smooth(path)])[0]
+    best_s, bound_s = ideal.seconds([smooth(path, by_feed(path)), smooth(path, by_out(path, out))])
     others = grbl_s(path, ideal.accel)
     print(f"| {name} | {out_s:.1f} | {paced_s:.1f} | {others:.1f} | {ideal.exact_stop_s(path):.1f} | {best_s:.1f} |"
-          f" {paced_s / others:.2f} | {paced_s / best_s:.2f} |", flush=True)
+          f" {bound_s:.1f} | {paced_s / others:.2f} | {paced_s / best_s:.2f} | {paced_s / bound_s:.3f} |", flush=True)
 
 
 def main():
@@ -162,8 +225,9 @@ def main():
         bench = Bench(ngc, folder)
         for accel in given.accel or (500, 100):
             ideal = Ideal(folder, accel)
-            print(f"\n| {accel} mm/s2 | OUT | pace | Grbl | exact stop | ideal | pace / Grbl | pace / ideal |")
-            print("|---|---|---|---|---|---|---|---|")
+            print(f"\n| {accel} mm/s2 | OUT | pace | Grbl | exact stop | ideal | bound | pace / Grbl | pace / ideal |"
+                  " pace / bound |")
+            print("|---|---|---|---|---|---|---|---|---|---|")
             for name, path in programs():
                 if not given.kinds or name in given.kinds:
                     show(bench, ideal, name, path)

@@ -111,6 +111,9 @@ class Bench:
         self.ngc, self.folder = ngc, Path(folder)
         (self.folder / "mill.toml").write_text(SETTINGS)
         (self.folder / "machine.toml").write_text(MACHINE)
+
+    def build(self):
+        """Builds bench/ramps.c, with the pacer of tools/player; what is paced by it needs that."""
         player = HERE / "tools" / "player"
         subprocess.run(["make", "-s", "-C", player, "archives"], check=True, stdout=sys.stderr)
         sources = [*(player / f"{name}.c" for name in ("pace", "pace_memory", "window", "line", "cause", "utf8")),
@@ -221,6 +224,7 @@ def main():
     print("  seconds; lines in hand: least, median, 99 %, most; lines lost: the same, and in how much of the time any")
     with tempfile.TemporaryDirectory(prefix="ngc-ramps-") as folder:
         bench = Bench(ngc, folder)
+        bench.build()
         for name, program in jobs():
             show(bench, name, program, given.rounds)
         show_windows(bench)
