@@ -65,7 +65,7 @@ class Person:
         self.shop, self.job, self.ledger, self.screws = shop, job, ledger, screws
         self.chance, self.trusts, self.homes = chance, trusts, homes
         self.phase, self.to, self.entries = "still", 0, -1
-        self.followed, ledger.legs = shop.pins(), None
+        ledger.legs = None
         self.before = ledger.made
         self.opening, self.tries, self.at_start = "", 0, True
         self.measures = self.leaves = self.cutting = self.ended = False
@@ -84,8 +84,8 @@ class Person:
 
     def follow(self) -> None:
         """Follows what the motors made since."""
-        made = self.shop.lines()[self.followed:]
-        self.followed += len(made)
+        made = self.shop.lines()[self.ledger.followed:]
+        self.ledger.followed += len(made)
         lines = self.screws.table(made)
         if self.phase == "way":
             self.ledger.goes(lines, self.to)

@@ -178,6 +178,7 @@ class Ledger:
     again: int = 0
     back: int = 0
     lost: int = 0
+    followed: int = 0  # lines of the pins
     homed: int = 0  # each is an entry of the device
     legs: "Legs | None" = None
     is_by_hand: bool = False  # OUT has lines that aren't the program's

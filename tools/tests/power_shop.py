@@ -399,12 +399,8 @@ class Shop:
         if self.amid_s:
             self.deadline = time.monotonic() + self.amid_s
 
-    def pins(self) -> int:
-        """How many lines the motors made up to now, since the job began."""
-        return len(self.lines())
-
     def lines(self) -> list[bytes]:
-        """The lines that they made."""
+        """The lines that the motors made, since the job began."""
         if self.sink:
             return self.sink.lines()
         path = self.folder / "pins"
