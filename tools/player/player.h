@@ -56,6 +56,7 @@ struct player {
     enum alarm alarm;
     bool is_over_sink;   /* what the sink makes isn't heard to its end yet: a record that stays says so */
     bool is_broken;      /* lines were dropped for an alarm: no more of them are carried out */
+    bool awaits_record;  /* the record couldn't be kept: nothing moves before another session */
     struct record left; /* the record as it was, if it speaks of this OUT */
     bool has_left;
     struct record kept;  /* the record on the disk .. */
