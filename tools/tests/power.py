@@ -180,6 +180,7 @@ class Person:
         if self.to < self.before and not uncut.is_within_one(self.to, self.before):
             raise Wrong(f"moves {self.to} to {self.before - 1} are made twice, which are of several segments")
         ledger.on, self.phase, self.cutting = self.to, "cut", True
+        self.shop.spare(False)
 
     def command(self, text: str) -> str:
         """What is typed at the console's prompt."""
@@ -266,7 +267,7 @@ class Person:
         """The lines that bring the machine to where the program goes on, with its outputs."""
         uncut, to = self.job.uncut, self.to
         self.ledger.is_by_hand = True
-        self.shop.spare()
+        self.shop.spare(True)
         spindle, mist, flood, _ = uncut.outputs[to] if to < len(uncut.moves) else uncut.last
         x, y, z = (f"{each / 1000:.3f}" for each in uncut.points[to])
         number, _, speed = spindle.partition(" ")
@@ -305,6 +306,11 @@ class Person:
             raise Wrong(f"ngc says {at}, {kind}, and the motors stand at {self.ledger.steps}")
         self.ended = True
         return "quit"
+
+
+def last_line(path: Path) -> str:
+    """The last line of a file."""
+    return path.read_text().rstrip("\n").rpartition("\n")[2]
 
 
 def record_move(folder: Path) -> int:
@@ -480,6 +486,8 @@ class Chain:
             person.leaves = True
         if self.sink and not person.ended and (self.folder / "said").read_text().endswith("--at X Y Z tells it\n"):
             person.leaves = person.measures = True
+        if self.sink and "the sink heard nothing for half a second" in last_line(self.folder / "said"):
+            person.leaves = True  # what was to send was late
         if not (is_lost or person.leaves or person.ended or how.fails):
             raise Wrong("the console ended by itself")
         is_over = person.ended and not is_lost and not (how.fails and shop.player.returncode)

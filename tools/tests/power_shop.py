@@ -14,6 +14,7 @@ import time
 from contextlib import suppress
 from dataclasses import dataclass, field
 from pathlib import Path
+from typing import Any
 
 from power_axes import HOME_TOML, SWITCH_STEPS, SWITCHES
 from power_path import Steps, Uncut, Wrong
@@ -32,6 +33,7 @@ SECOND_TICKS = 8_000_000  # of a sink's clock
 ENTRY, HEAD = struct.Struct("=IIIIqqQQ"), struct.Struct("=QQQIIII64i")
 WRITE, SYNC, CUT, PUNCH = range(4)
 LOG_BYTES = 1 << 26
+SPARED = 2**64 - 1
 
 
 @dataclass(slots=True)
@@ -338,6 +340,7 @@ class Shop:
         self.said, self.killed, self.begun = "", False, time.monotonic()
         self.deadline: float | None = None
         self.alone: tuple[float, str] | None = None
+        self.spared: tuple[Any, ...] | None = None  # how power is lost then
         self.amid_s = 0.0  # so long after a way or a home begins power is lost, if that isn't 0
         (folder / "progress").unlink(missing_ok=True)
         self.env = {"NGC_POWER": str(self.log), "NGC_POWER_DO": deeds}
@@ -389,10 +392,16 @@ class Shop:
                     found.append(pid)
         return found
 
-    def spare(self) -> None:
-        """Power isn't lost any more, but by a deed."""
-        self.deadline, self.alone, self.amid_s = None, None, 0.0
-        self.stop_at(0, False)
+    def spare(self, spares: bool) -> None:
+        """Power isn't lost, and nothing fails, for as long as it is to be so."""
+        if spares and self.spared is None:
+            self.spared = self.deadline, self.alone, self.amid_s, *struct.unpack("=QI", self.head[16:28])
+            self.deadline, self.alone, self.amid_s = None, None, 0.0
+            self.stop_at(SPARED, False)
+        elif not spares and self.spared is not None:
+            self.deadline, self.alone, self.amid_s, line, is_all = self.spared
+            self.stop_at(line, is_all)
+            self.spared = None
 
     def begins_way(self) -> None:
         """A way or a home begins."""
