@@ -95,6 +95,9 @@ void player_record(struct player *player, struct record *record);
 /* Notes which record is on the disk, if it could be written. */
 void player_kept(struct player *player, const struct record *record, int error);
 
+/* Whether the record on the disk has where the motors stand, and the lines up to there. */
+bool player_is_kept(struct player *player);
+
 /* Where the machine stands, in nanometres. `lock` is held. */
 void player_place(const struct player *player, int64_t nm[3]);
 

@@ -47,6 +47,7 @@ QUESTIONS = (
     (r"go on all the same\? yes goes on", "asks"),
     (r"put it in, and type go; anything else leaves it", "go"),
     (r"yes gives it up, anything else keeps|yes drops them, anything else keeps", "keep"),
+    (r"ngc ended with status -9\n.*Without lines of OUT legs alone lead on", "later"),
     (r"half-done.*ends the session|yes ends|yes alone ends", "yes"),
 )
 
@@ -114,6 +115,9 @@ class Person:
             return self.stands(text)
         if deed == "lift":
             return self.lifts(found)
+        if deed == "later":  # what looked was killed
+            self.leaves = True
+            return "no"
         if deed == "asks" and "first switches it on" in text:
             self.to, self.was_free = self.ledger.on, True
             _, *self.errands = self.back_by_hand()

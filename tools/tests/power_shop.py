@@ -384,12 +384,12 @@ class Shop:
         return self.is_off or self.killed or HEAD.unpack(self.head)[5] != 0
 
     def processes(self) -> list[int]:
-        """Those that are still there, by the folder in which they work."""
+        """Those that are still there, by the folder in which they work; also those that have just begun."""
         found = []
-        for pid in {*HEAD.unpack(self.head)[7:], self.console, self.player.pid}:
+        for pid in filter(str.isdecimal, os.listdir("/proc")):
             with suppress(OSError):
-                if pid > 0 and os.readlink(f"/proc/{pid}/cwd") == str(self.folder):
-                    found.append(pid)
+                if os.readlink(f"/proc/{pid}/cwd") == str(self.folder):
+                    found.append(int(pid))
         return found
 
     def spare(self, spares: bool) -> None:
@@ -475,11 +475,15 @@ class Shop:
         return True
 
     def kill(self) -> None:
-        """Power is lost for all that is still there."""
-        self.killed = self.killed or bool(self.processes())
-        for pid in self.processes():
-            with suppress(ProcessLookupError):
-                os.kill(pid, signal.SIGKILL)
+        """Power is lost for all that is still there, and for what they have begun meanwhile."""
+        while found := self.processes():
+            self.killed = True
+            for pid in found:
+                with suppress(ProcessLookupError):
+                    os.kill(pid, signal.SIGKILL)
+            time.sleep(0.002)
+            with suppress(ChildProcessError):
+                self.player.poll()
         self.close()
 
     def kill_alone(self) -> None:

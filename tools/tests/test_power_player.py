@@ -1,12 +1,15 @@
 """What the judge of losses of power (power.py) found in tools/player."""
 import sys
+import time
 import unittest
 from pathlib import Path
 
 sys.path.insert(0, str(Path(__file__).resolve().parent))
 
 from player_support import InC, PlayerTest, preloaded  # noqa: E402
+from power_axes import HOME_TOML, SWITCH_STEPS, SWITCHES  # noqa: E402
 from session_support import PATIENCE_S  # noqa: E402
+from sink_support import ServedSink  # noqa: E402
 
 # A disk that keeps nothing of the record while the file `full` is there.
 FULL = r"""#define _GNU_SOURCE
@@ -26,6 +29,17 @@ int fdatasync(int file) {
 }
 """
 NO_RECORD = "the record can't be kept"
+# A disk that takes a tenth of a second for each record.
+SLOW = r"""#define _GNU_SOURCE
+#include <dlfcn.h>
+#include <unistd.h>
+int fdatasync(int file) {
+    int (*real)(int) = dlsym(RTLD_NEXT, "fdatasync");
+    int error = real(file);
+    usleep(100000);
+    return error;
+}
+"""
 
 
 class NoRecord(InC, PlayerTest):
@@ -57,6 +71,50 @@ class NoRecord(InC, PlayerTest):
         self.assertEqual(link.machine().how, "done")
         child.terminate()
         child.communicate(timeout=PATIENCE_S)
+
+
+class LostAmidHome(InC, PlayerTest):
+    """A player over a step sink that is killed while it homes, with a record that is slow."""
+
+    def begun(self) -> None:
+        """A sink with switches, and an OUT without a line."""
+        self.sink = ServedSink(3_000)
+        self.addCleanup(self.sink.kill)
+        for number, axis, way in SWITCHES:
+            self.sink.tell(f"switch {number} {axis} {way} {way * SWITCH_STEPS}")
+        Path("mill.toml").write_text(f"[motion]\naccel_mm_s2 = [20000, 20000, 20000]\n{HOME_TOML}"
+                                     f'[sink]\nline = "{self.sink.path}"\nbaud = 2000000\n')
+        Path("out").touch()
+        Path("position").unlink(missing_ok=True)
+
+    def started(self) -> None:
+        """A player over it."""
+        self.child = self.begin("--follow", "--no-ask-tool", "--machine", "mill.toml", "--progress", "progress", "out",
+                                "first.toml", "position", env=self.env)
+        self.link = self.linked()
+
+    def test_place(self) -> None:
+        """Whenever it is killed, the next player knows where the motors are, or says that it doesn't."""
+        self.env = preloaded("slow", SLOW)
+        known = 0
+        for number in range(12):
+            self.begun()
+            self.started()
+            self.link.home("Z")
+            self.wait_for("it moves", lambda: self.link.ask().at != "0.000000 0.000000 0.000000")
+            time.sleep(number * 0.02)
+            self.child.kill()
+            self.child.communicate()
+            Path("progress").unlink(missing_ok=True)
+            self.started()
+            report = self.link.ask()
+            self.child.terminate()
+            self.child.communicate(timeout=PATIENCE_S)
+            at = tuple(sum(each.step[axis] for each in self.sink.end() if each.step) for axis in range(3))
+            if report.word != "alarm":
+                known += 1
+                self.assertEqual(tuple(round(float(each) * 1000) for each in report.at.split()), at, number)
+        self.assertLess(known, 12)
 
 
 if __name__ == "__main__":
