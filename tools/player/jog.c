@@ -126,13 +126,11 @@ static enum end go(struct play *play, const struct manual_wish *wish, struct cau
 }
 
 /* Notes how the move ended. */
-static void note_end(struct play *play, const struct manual_wish *wish, const struct cause *how) {
+static void note_end(struct play *play, const struct cause *how) {
     struct player *player = play->player;
     player_lock(player);
     manual_look_at_path(player);
-    player->manual.is_there = false;
-    player->manual.ended = wish->number;
-    snprintf(player->manual.how, HOW_ROOM, "%.*s", HOW_ROOM - 1, how->text);
+    manual_end(player, how->text);
     player_unlock(player);
 }
 
@@ -148,7 +146,7 @@ enum end do_manual(struct play *play) {
     if (end != AT_OUTS_END) {
         because(&how, "%.*s", (int)strcspn(play->why.text, ";"), play->why.text);
     }
-    note_end(play, &wish, &how);
+    note_end(play, &how);
     schedule_pause(&play->schedule);
     return end;
 }

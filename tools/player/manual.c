@@ -28,6 +28,17 @@ bool manual_is_there(struct player *player) {
     return is_there;
 }
 
+const char NO_RECORD[] = "the record can't be kept";
+
+void manual_end(struct player *player, const char *how) {
+    struct manual *manual = &player->manual;
+    if (manual->is_there) {
+        manual->is_there = false;
+        manual->ended = manual->wish.number;
+        snprintf(manual->how, HOW_ROOM, "%.*s", HOW_ROOM - 1, how);
+    }
+}
+
 void manual_leave_path(struct player *player) {
     player_leave_path(player);
     player->is_off = true;
@@ -104,6 +115,9 @@ static bool may_take(struct player *player, const struct manual_wish *wish, stru
         return because(why, "the player has no --machine");
     }
     source_take_all(&player->source);
+    if (player->awaits_record) {
+        return because(why, "%s: another session comes first", NO_RECORD);
+    }
     if (player->manual.is_there) {
         return because(why, "a move is under way");
     }

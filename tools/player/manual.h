@@ -50,6 +50,12 @@ bool manual_heed(struct player *player, const char *text, size_t size, char *ans
 /* Whether a move is to be made, or is under way. */
 bool manual_is_there(struct player *player);
 
+/* Why nothing moves where a record can't be kept. */
+extern const char NO_RECORD[];
+
+/* The move is over, if one was taken; `how` says how it ended. The lock is held. */
+void manual_end(struct player *player, const char *how);
+
 /* The motors leave the path of OUT, if they are on it. The lock is held. */
 void manual_leave_path(struct player *player);
 

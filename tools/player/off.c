@@ -128,7 +128,7 @@ static void drop_all(struct player *player) {
     source_go_to(source, player->lines, player->bytes);
     source->limit = source->follows ? player->bytes : source->limit;
     player->errand.is_there = false;
-    player->is_broken = false;
+    player->is_broken = player->awaits_record = false;
     player->has_again = false;
     atomic_store(&player->last, UINT64_MAX);
 }

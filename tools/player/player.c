@@ -123,6 +123,15 @@ static bool is_newer(const struct record *record, const struct record *kept) {
         || memcmp(record->screws, kept->screws, sizeof record->screws) != 0;
 }
 
+bool player_is_kept(struct player *player) {
+    struct record now;
+    player_record(player, &now);
+    player_lock(player);
+    bool is_kept = !is_newer(&now, &player->kept);
+    player_unlock(player);
+    return is_kept;
+}
+
 /* Writes what stands. */
 static void keep(struct player *player) {
     struct record record;

@@ -56,6 +56,7 @@ struct player {
     enum alarm alarm;
     bool is_over_sink;   /* what the sink makes isn't heard to its end yet: a record that stays says so */
     bool is_broken;      /* lines were dropped for an alarm: no more of them are carried out */
+    bool awaits_record;  /* the record couldn't be kept: nothing moves before another session */
     struct record left; /* the record as it was, if it speaks of this OUT */
     bool has_left;
     struct record kept;  /* the record on the disk .. */
@@ -93,6 +94,9 @@ void player_record(struct player *player, struct record *record);
 
 /* Notes which record is on the disk, if it could be written. */
 void player_kept(struct player *player, const struct record *record, int error);
+
+/* Whether the record on the disk has where the motors stand, and the lines up to there. */
+bool player_is_kept(struct player *player);
 
 /* Where the machine stands, in nanometres. `lock` is held. */
 void player_place(const struct player *player, int64_t nm[3]);

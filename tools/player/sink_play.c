@@ -1,6 +1,7 @@
 #include "sink_play.h"
 
 #include <inttypes.h>
+#include <poll.h>
 #include <string.h>
 
 #include "beginning.h"
@@ -9,6 +10,8 @@
 #include "spindle.h"
 #include "times.h"
 #include "waits.h"
+
+enum { KEPT_MS = 2 };
 
 static struct sink_inputs session; /* which inputs the sink heeds */
 
@@ -63,10 +66,25 @@ bool sink_begin(struct play *play, struct cause *why) {
     return play->player->is_over_sink && player_keep_first(play->player, why);
 }
 
+/* Waits until the record on the disk has where the motors stand; false where it has to stop before. */
+static bool await_kept(struct play *play) {
+    while (!player_is_kept(play->player)) {
+        if (has_to_stop(play)) {
+            return false;
+        }
+        poll(NULL, 0, KEPT_MS);
+    }
+    return true;
+}
+
 bool sink_begin_anew(struct play *play, uint32_t stops, uint32_t halts, uint32_t turned) {
     struct player *player = play->player;
     if (!link_is_there()) {
         return true;
+    }
+    /* else the next player, after a loss of power, would take the record for where this session began */
+    if (!await_kept(play)) {
+        return false;
     }
     session = inputs_of(play, stops, halts, turned);
     if (!link_begin(&session, &play->why)) {

@@ -13,9 +13,9 @@ bool sink_open(struct play *play, struct cause *why);
  * Returns false, with the cause. */
 bool sink_begin(struct play *play, struct cause *why);
 
-/* Begins another session, at rest: `stops` stop the motors at once, `halts` bring them to rest by a ramp, and those of
- * `turned` are heeded as they go off. Spindle and coolant are off then. False where the play has to stop, as no sink
- * answers. */
+/* Begins another session, at rest, once the record on the disk has where the motors stand: `stops` stop the motors at
+ * once, `halts` bring them to rest by a ramp, and those of `turned` are heeded as they go off. Spindle and coolant are
+ * off then. False where the play has to stop, as no sink answers. */
 bool sink_begin_anew(struct play *play, uint32_t stops, uint32_t halts, uint32_t turned);
 
 /* The inputs that are on, as the sink said last. */

@@ -142,8 +142,9 @@ bool is_left_held(struct play *play) {
 /* No more line of the session is carried out. */
 static void break_off(struct player *player) {
     player_lock(player);
-    player->is_broken = true;
+    player->is_broken = player->awaits_record = true;
     player->stopped = "";
+    manual_end(player, NO_RECORD);
     player_unlock(player);
 }
 

@@ -26,9 +26,10 @@ from pathlib import Path
 sys.path.insert(0, str(Path(__file__).resolve().parent))
 
 from player_support import built, builds, made  # noqa: E402
+from power_axes import HOME, Screws  # noqa: E402
 from power_path import (Ledger, Legs, Steps, Unjudged, Wrong, after, memory, read_status, run_over,  # noqa: E402
                         run_uncut, steps_of)
-from power_shop import (FILES, HERE, MACHINE, Call, Consoles, Job, Lost, Shop, Sink, Tools, read_log,  # noqa: E402
+from power_shop import (FILES, HERE, Call, Consoles, Job, Lost, Shop, Sink, Tools, read_log,  # noqa: E402
                         record_of)
 from session_support import FIRST  # noqa: E402
 from sink_support import PARTS, SINK  # noqa: E402
@@ -46,6 +47,7 @@ QUESTIONS = (
     (r"go on all the same\? yes goes on", "asks"),
     (r"put it in, and type go; anything else leaves it", "go"),
     (r"yes gives it up, anything else keeps|yes drops them, anything else keeps", "keep"),
+    (r"ngc ended with status -9\n.*Without lines of OUT legs alone lead on", "later"),
     (r"half-done.*ends the session|yes ends|yes alone ends", "yes"),
 )
 
@@ -57,12 +59,14 @@ FAILED = (r"the player is gone|doesn't let go of its lines|can't be (synced|writ
 
 class Person:
     """Follows what the console proposes, and lets the ledger follow what that makes. `trusts` says that they look at no
-    motor: what the record says is true for them."""
+    motor: what the record says is true for them. `homes` says that they home the machine first."""
 
-    def __init__(self, shop: Shop, job: Job, ledger: Ledger, chance: random.Random, trusts: bool) -> None:
-        self.shop, self.job, self.ledger, self.chance, self.trusts = shop, job, ledger, chance, trusts
+    def __init__(self, shop: Shop, job: Job, ledger: Ledger, screws: Screws, chance: random.Random, trusts: bool,
+                 homes: bool) -> None:
+        self.shop, self.job, self.ledger, self.screws = shop, job, ledger, screws
+        self.chance, self.trusts, self.homes = chance, trusts, homes
         self.phase, self.to, self.entries = "still", 0, -1
-        self.followed, ledger.legs = shop.pins(), None
+        ledger.legs = None
         self.before = ledger.made
         self.opening, self.tries, self.at_start = "", 0, True
         self.measures = self.leaves = self.cutting = self.ended = False
@@ -81,8 +85,9 @@ class Person:
 
     def follow(self) -> None:
         """Follows what the motors made since."""
-        lines = self.shop.lines()[self.followed:]
-        self.followed += len(lines)
+        made = self.shop.lines()[self.ledger.followed:]
+        self.ledger.followed += len(made)
+        lines = self.screws.table(made)
         if self.phase == "way":
             self.ledger.goes(lines, self.to)
         elif self.phase == "cut":
@@ -110,6 +115,9 @@ class Person:
             return self.stands(text)
         if deed == "lift":
             return self.lifts(found)
+        if deed == "later":  # what looked was killed
+            self.leaves = True
+            return "no"
         if deed == "asks" and "first switches it on" in text:
             self.to, self.was_free = self.ledger.on, True
             _, *self.errands = self.back_by_hand()
@@ -119,6 +127,7 @@ class Person:
         elif deed == "goes":
             self.phase = "way"
             self.finds_path()
+            self.shop.begins_way()
         elif deed == "cuts":
             self.begins()
             shown = re.findall(r"The motors are there: X (\S+) Y (\S+) Z (\S+)\.", text)
@@ -175,6 +184,7 @@ class Person:
         if self.to < self.before and not uncut.is_within_one(self.to, self.before):
             raise Wrong(f"moves {self.to} to {self.before - 1} are made twice, which are of several segments")
         ledger.on, self.phase, self.cutting = self.to, "cut", True
+        self.shop.spare(False)
 
     def command(self, text: str) -> str:
         """What is typed at the console's prompt."""
@@ -183,11 +193,22 @@ class Person:
         self.leaves = self.leaves or bool(re.search(FAILED, text))
         if self.leaves:
             return "quit"
+        if "homed: X Y Z" in text:
+            self.ledger.homed += 1
+            if self.ledger.steps != HOME:
+                raise Wrong(f"it is homed, and the table stands at {self.ledger.steps}")
+        if self.job.has_home and "HOME COMES FIRST" in text and "status entries" not in text:
+            self.homes = True
         if "status entries" in text:
             status = read_status(text)
-            self.entries, _, at, kind, _ = status
-            self.to = self.job.uncut.comes_next(*status)
+            _, _, at, kind, _ = status
+            self.entries = max(0, status[0] - self.ledger.homed)
+            self.to = self.ledger.comes_next(*status)
             self.ledger.loses(self.to, self.job.ahead)
+            if self.homes:
+                self.homes, self.phase = False, "free"
+                self.shop.begins_way()
+                return "home"
             if not self.is_left(self.opening) and not self.trusts and self.is_elsewhere(text):
                 self.measures = self.leaves = True
                 return "quit"
@@ -250,7 +271,7 @@ class Person:
         """The lines that bring the machine to where the program goes on, with its outputs."""
         uncut, to = self.job.uncut, self.to
         self.ledger.is_by_hand = True
-        self.shop.spare()
+        self.shop.spare(True)
         spindle, mist, flood, _ = uncut.outputs[to] if to < len(uncut.moves) else uncut.last
         x, y, z = (f"{each / 1000:.3f}" for each in uncut.points[to])
         number, _, speed = spindle.partition(" ")
@@ -291,6 +312,11 @@ class Person:
         return "quit"
 
 
+def last_line(path: Path) -> str:
+    """The last line of a file."""
+    return path.read_text().rstrip("\n").rpartition("\n")[2]
+
+
 def record_move(folder: Path) -> int:
     """The move behind which the record has the motors."""
     count = int(record_of(folder).get("lines", "0"))
@@ -301,13 +327,15 @@ def record_move(folder: Path) -> int:
 @dataclass
 class Plan:
     """How power is lost in a session: before line `line` of the pins, for all or for the motors first; by a deed of
-    power_disk.c; after some seconds; or `alone` is killed then. `keeps` is what the disk keeps of each file."""
+    power_disk.c; after some seconds, or so many seconds `amid` a way or a home; or `alone` is killed then. `keeps` is
+    what the disk keeps of each file."""
 
     deeds: str = ""
     line: int = 0
     is_all: bool = True
     seconds: float = 0.0
     alone: str = ""
+    amid: float = 0.0
     keeps: dict[str, str] = field(default_factory=lambda: dict.fromkeys(FILES, "all"))
     coasts: Steps = (0, 0, 0)
     fails: bool = False
@@ -340,8 +368,8 @@ class Options:
 def plan(chance: random.Random, moves: int, options: Options) -> Plan:
     """A loss of power by chance, in a job of so many moves."""
     found, at_pins, at_moment = Plan(), 55 * (options.over != "sink"), 15 * options.has_moments
-    kind = chance.choices(("line", "motors", "call", "seconds", "alone", "fail"),
-                          (at_pins, at_pins, 60, 4 * at_moment, at_moment, options.fails))[0]
+    kind = chance.choices(("line", "motors", "call", "seconds", "alone", "amid", "fail"),
+                          (at_pins, at_pins, 60, 4 * at_moment, at_moment, at_moment, options.fails))[0]
     if kind in ("line", "motors"):
         found.line = 1 + int(chance.random() ** 3 * moves)
         found.is_all = kind == "line"
@@ -349,6 +377,8 @@ def plan(chance: random.Random, moves: int, options: Options) -> Plan:
         text = chance.choice(CALLS if kind == "call" else FAILS)
         found.fails = kind == "fail"
         found.deeds = text.format(1 + int(chance.random() ** 3 * (moves if "out write" in text else 80)))
+    elif kind == "amid":
+        found.amid = chance.uniform(0, 0.15) if chance.random() < 0.7 else chance.uniform(0, 1.5)
     else:
         found.seconds = chance.uniform(0, 1.2)
         found.alone = chance.choice(("ngc", "console", "player")) if kind == "alone" else ""
@@ -372,6 +402,7 @@ class Found:
     back: int = 0
     again: int = 0
     lost: int = 0
+    homed: int = 0
     unjudged: int = 0
     wrong: list[str] = field(default_factory=list)
     shown: list[str] = field(default_factory=list)  # places that aren't those of the motors
@@ -392,10 +423,12 @@ class Chain:
         self.shown: list[str] = []
         self.asked: list[str] = []
         self.lost = self.states = 0
-        (folder / "machine.toml").write_text(MACHINE)
+        self.homes = False  # the next session begins with it
+        self.screws = Screws(job.backlash)
+        (folder / "machine.toml").write_text(job.machine)
         (folder / "settings.toml").write_text(FIRST)
         (folder / "part.ngc").write_bytes(job.text)
-        self.sink = Sink(tools.sink, folder, 1, []) if job.over == "sink" else None
+        self.sink = Sink(tools.sink, folder, 1, [], job.machine, (0, 0, 0)) if job.over == "sink" else None
         if job.over == "pipe":
             os.mkfifo(folder / "out")
         else:
@@ -408,8 +441,14 @@ class Chain:
         for _ in range(2 * len(self.plans) + 8):
             how = self.plans[self.lost] if self.lost < len(self.plans) else Plan()
             shop = Shop(self.tools, self.folder, how.deeds, measured, self.job, self.sink)
-            person = Person(shop, self.job, self.ledger, self.chance, bool(self.plant))
+            homes = self.homes or self.job.has_home and self.chance.random() < (0.25 if self.lost else 0.1)
+            person = Person(shop, self.job, self.ledger, self.screws, self.chance, bool(self.plant), homes)
             self.told.append(f"-- {how}, measured {measured}, at move {self.ledger.on} of {self.ledger.made} made")
+            self.homes = False
+            self.screws.up = self.screws.told(
+                "? ? ?" if measured else record_of(self.folder).get("screws", "? ? ?"))
+            if self.job.over != "sink":
+                self.ledger.switches(b"off")  # as a player begins
             if measured or self.job.over == "pipe":
                 self.ledger.leave()
             try:
@@ -432,6 +471,7 @@ class Chain:
     def session(self, shop: Shop, person: Person, how: Plan) -> bool:
         """From power on to its loss, or to the job's end: then True."""
         shop.stop_at(how.line, how.is_all)
+        shop.amid_s = how.amid
         shop.deadline = time.monotonic() + how.seconds if how.seconds and not how.alone else None
         shop.alone = (time.monotonic() + how.seconds, how.alone) if how.alone else None
         try:
@@ -450,6 +490,8 @@ class Chain:
             person.leaves = True
         if self.sink and not person.ended and (self.folder / "said").read_text().endswith("--at X Y Z tells it\n"):
             person.leaves = person.measures = True
+        if self.sink and "the sink heard nothing for half a second" in last_line(self.folder / "said"):
+            person.leaves = True  # what was to send was late
         if not (is_lost or person.leaves or person.ended or how.fails):
             raise Wrong("the console ended by itself")
         is_over = person.ended and not is_lost and not (how.fails and shop.player.returncode)
@@ -468,8 +510,10 @@ class Chain:
             if self.sink and how.sink_dies:
                 made = self.sink.lines()
                 self.sink.end()
-                self.sink = Sink(self.tools.sink, self.folder, self.lost + 1, made)
-                return self.ledger.steps
+                self.ledger.switches(b"off")
+                self.sink = Sink(self.tools.sink, self.folder, self.lost + 1, made, self.job.machine,
+                                 self.ledger.steps)
+                return self.finds_place()
             if how.coasts != (0, 0, 0) and self.ledger.made:
                 self.ledger.steps = tuple(map(sum, zip(self.ledger.steps, how.coasts)))
                 self.ledger.leave()
@@ -478,10 +522,15 @@ class Chain:
             return None
         said = record_of(self.folder).get("reference", "0 0 0").split()
         if measures:
-            return self.ledger.steps
+            return self.finds_place()
         if self.sink or steps_of(said) == self.ledger.steps:
             return None
         return self.ledger.steps if self.chance.random() < 0.7 else None
+
+    def finds_place(self) -> Steps | None:
+        """Where the motors are measured; nothing, where the machine is homed next."""
+        self.homes = self.job.has_home and self.chance.random() < 0.7
+        return None if self.homes else self.ledger.steps
 
     def judge_states(self, shop: Shop, calls: list[list[Call]]) -> None:
         """Of more states of the disk: what the device takes for done, or open, isn't less than what was made, and OUT
@@ -490,7 +539,7 @@ class Chain:
         for _ in range(self.each if not ledger.is_by_hand else 0):
             self.states += 1
             device, out = shop.state(calls, self.chance)
-            to = uncut.comes_next(*read_status(run_over(self.tools.ngc, self.folder, device)))
+            to = ledger.comes_next(*read_status(run_over(self.tools.ngc, self.folder, device)))
             if ledger.made > uncut.ends_before(to):
                 raise Wrong(f"{ledger.made} moves are made, and the device would go on from {to}")
             moves = sum(line[:2] in (b"P ", b"D ") for line in out.split(b"\n")[:-1])
@@ -574,7 +623,7 @@ def program(chance: random.Random, blocks: int) -> tuple[bytes, list[bytes]]:
             ["G0 Z0.3", f"G83 {at} Z-0.2 R0.1 Q0.1", "G80", "G1 Z-0.1"],
             ["G0 Z0.2", f"G0 {at}", "G1 Z-0.1"], ["G0 Z0.2", "T1 M6", "G1 Z-0.1"], ["G0 Z0.2", "M0", "G1 Z-0.1"]))
         if lines[-2:-1] == ["M0"]:
-            typed.append(b"G1 X%.2f" % (chance.randint(-9, 9) / 100))
+            typed.append(b"G1 X%.3f" % (chance.randint(-9, 9) / 100 + 0.005))  # where no jog leads
     return "".join(line + "\n" for line in [*lines, "G0 Z0.3", "G0 X0 Y0", "M2"]).encode(), typed
 
 
@@ -584,6 +633,10 @@ def try_chain(tools: Tools, seed: int, options: Options, found: Found) -> list[s
     text, typed = program(chance, chance.randint(3, 14))
     has_ramps = options.over == "sink" or chance.random() < 0.3
     job = Job(text, run_uncut(tools.ngc, FIRST, text, typed), typed, options.over, has_ramps, chance.random() < 0.5)
+    if options.over == "sink":
+        job.has_home = chance.random() < 0.5
+    elif has_ramps and chance.random() < 0.5:
+        job.backlash = tuple(chance.choice((0, 1, 7, 40)) for _ in range(3))
     plans = [plan(chance, len(job.uncut.moves), options) for _ in range(chance.randint(1, options.losses))]
     with tempfile.TemporaryDirectory(prefix="ngc-power-", dir=memory()) as name:
         chain = Chain(tools, Path(name).resolve(), job, chance, plans, each=options.states)
@@ -602,6 +655,7 @@ def try_chain(tools: Tools, seed: int, options: Options, found: Found) -> list[s
             found.back += chain.ledger.back
             found.again += chain.ledger.again
             found.lost += chain.ledger.lost
+            found.homed += chain.ledger.homed
             found.shown += [f"seed {seed}: {text}" for text in chain.shown]
             found.asked += [f"seed {seed}: {text}" for text in chain.asked]
     return []
@@ -677,8 +731,9 @@ def main() -> int:
     tools.consoles.close()
     print(f"{found.losses} losses of power, {found.states} states of the disk, {found.chains} chains,"
           f" {time.monotonic() - begun:.0f} s; {found.back} pulses back, {found.again} moves made again,"
-          f" {found.lost} moves lost over a pipe; {found.unjudged} chains aren't judged; {len(found.wrong)} are wrong,"
-          f" {len(found.shown)} places shown are; {len(found.asked)} questions were for nothing")
+          f" {found.lost} moves lost over a pipe; {found.homed} times homed; {found.unjudged} chains aren't judged;"
+          f" {len(found.wrong)} are wrong, {len(found.shown)} places shown are; {len(found.asked)} questions were for"
+          " nothing")
     for kind, count in Counter(map(kind_of, [*found.wrong, *found.shown, *found.asked])).items():
         print(f"{count} times: {kind}")
     return int(bool(found.wrong))

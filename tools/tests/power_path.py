@@ -7,6 +7,7 @@ import subprocess
 import tempfile
 from dataclasses import dataclass, field
 from pathlib import Path
+from typing import Any
 
 TOOL = b"tool 1 50\n"
 OFF = ("0", "0", "0", "0")
@@ -177,6 +178,8 @@ class Ledger:
     again: int = 0
     back: int = 0
     lost: int = 0
+    followed: int = 0  # lines of the pins
+    homed: int = 0  # each is an entry of the device
     legs: "Legs | None" = None
     is_by_hand: bool = False  # OUT has lines that aren't the program's
     is_of_sink: bool = False  # it tells steps and switches alone
@@ -185,6 +188,10 @@ class Ledger:
     def told(self) -> int:
         """How many of the outputs are known: a sink that began anew doesn't know the tool."""
         return 3 if self.is_of_sink else 4
+
+    def comes_next(self, entries: int, *rest: Any) -> int:
+        """The same of the uncut run. Raises Unjudged."""
+        return self.uncut.comes_next(entries - self.homed, *rest)
 
     def is_through(self) -> bool:
         """Whether all is made, and the outputs are those of the end."""

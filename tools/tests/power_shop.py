@@ -14,7 +14,9 @@ import time
 from contextlib import suppress
 from dataclasses import dataclass, field
 from pathlib import Path
+from typing import Any
 
+from power_axes import HOME_TOML, SWITCH_STEPS, SWITCHES
 from power_path import Steps, Uncut, Wrong
 
 HERE = Path(__file__).resolve().parent
@@ -25,11 +27,13 @@ most_percent = 150
 PATIENCE_S = int(os.environ.get("NGC_PATIENCE_S", "60"))
 FILES = ("mill.dev", "out", "position")
 SECTOR = 512
+SECOND_TICKS = 8_000_000  # of a sink's clock
 
 
 ENTRY, HEAD = struct.Struct("=IIIIqqQQ"), struct.Struct("=QQQIIII64i")
 WRITE, SYNC, CUT, PUNCH = range(4)
 LOG_BYTES = 1 << 26
+SPARED = 2**64 - 1
 
 
 @dataclass(slots=True)
@@ -143,7 +147,7 @@ def apply_sectors(image: Image, call: Call, chance: random.Random) -> None:
 
 
 CONSOLES = """
-import json, os, signal, socket, sys
+import faulthandler, json, os, signal, socket, sys
 sys.path.insert(0, sys.argv[1])
 from ngc_tools.cli.operate import main
 signal.signal(signal.SIGCHLD, signal.SIG_IGN)
@@ -162,6 +166,7 @@ while True:
             os.close(file)
         signal.signal(signal.SIGCHLD, signal.SIG_DFL)
         sys.stdin, sys.stdout, sys.stderr = os.fdopen(0), os.fdopen(1, "w"), os.fdopen(2, "w")
+        faulthandler.register(signal.SIGUSR1)
         os.environ.update(given)
         os._exit(main(words))
     os.chdir("/")
@@ -200,7 +205,8 @@ class Consoles:
 @dataclass
 class Job:
     """A program, its uncut run, and what is typed at its stops. `over` is a file, a pipe, or a file and a step sink.
-    With ramps the motors follow `machine.toml`, are jogged at stops, held, and go at other rates."""
+    With ramps the motors follow `machine.toml`, are jogged at stops, held, and go at other rates; then screws may have
+    `backlash`, and over a sink there may be switches by which the machine is homed."""
 
     text: bytes
     uncut: Uncut
@@ -208,6 +214,14 @@ class Job:
     over: str = "file"
     has_ramps: bool = False
     asks_tool: bool = False  # the player, before it goes on with another one
+    backlash: Steps = (0, 0, 0)
+    has_home: bool = False
+
+    @property
+    def machine(self) -> str:
+        """The machine's file, without a sink."""
+        return (MACHINE + (f"[backlash]\nsteps = {list(self.backlash)}\n" if any(self.backlash) else "")
+                + (HOME_TOML if self.has_home else ""))
 
     @property
     def words(self) -> list[str]:
@@ -231,9 +245,9 @@ class Job:
 class Sink:
     """A step sink at a pseudo terminal, with a clock of its own. What it makes is told in a file."""
 
-    def __init__(self, program: str, folder: Path, boot: int, before: list[bytes]) -> None:
-        """`before` is what was made before."""
-        self.before = before
+    def __init__(self, program: str, folder: Path, boot: int, before: list[bytes], machine: str, at: Steps) -> None:
+        """`before` is what was made before, which led to `at`; `machine` is the rest of the machine's file."""
+        self.made = list(before)
         self.path = folder / f"sink-{boot}"
         with self.path.open("wb") as said:
             self.child = subprocess.Popen([program, str(boot)], stdin=subprocess.PIPE, stdout=said)
@@ -241,9 +255,12 @@ class Sink:
         while not self.path.read_bytes().endswith(b"\n") and time.monotonic() < until:
             time.sleep(0.002)
         line = self.path.read_text().splitlines()[0]
+        self.read = len(line)  # so many bytes of what it told
         self.told = 0
+        for number, axis, way in SWITCHES:
+            self.tell(f"switch {number} {axis} {way} {way * SWITCH_STEPS - at[axis]}")
         self.tell("serve 20")
-        (folder / "machine.toml").write_text(f'{MACHINE}[sink]\nline = "{line}"\nbaud = 2000000\n')
+        (folder / "machine.toml").write_text(f'{machine}[sink]\nline = "{line}"\nbaud = 2000000\n')
 
     def tell(self, line: str) -> None:
         """Has it do a line of its input; what it made before is in the file then."""
@@ -255,12 +272,12 @@ class Sink:
             time.sleep(0.002)
 
     def rest(self) -> None:
-        """Lets it make what it has, up to its rest: it hears nothing for half a second of its clock."""
+        """Lets it make what it has, and what is on its way, up to its rest: then it hears nothing for a second of its
+        clock."""
         self.tell("serve 1")
-        before, until = -1, time.monotonic() + PATIENCE_S
-        while len(self.lines()) != before and time.monotonic() < until:
-            before = len(self.lines())
-            time.sleep(0.8)
+        time.sleep(0.05)
+        self.tell("serve 0")
+        self.tell(f"run {SECOND_TICKS} 0")
         self.tell("serve 20")
 
     def end(self) -> None:
@@ -272,8 +289,12 @@ class Sink:
     def lines(self) -> list[bytes]:
         """What it made, as lines of OUT, whose times aren't known."""
         self.tell("inputs 0")
-        whole = self.path.read_bytes().rpartition(b"\n")[0]
-        return self.before + [line for line in map(made_line, whole.split(b"\n")[1:]) if line]
+        with self.path.open("rb") as file:
+            file.seek(self.read)
+            whole = file.read().rpartition(b"\n")[0]
+        self.read += len(whole)
+        self.made += [line for line in map(made_line, filter(None, whole.splitlines())) if line]
+        return self.made
 
 
 def made_line(text: bytes) -> bytes:
@@ -319,6 +340,8 @@ class Shop:
         self.said, self.killed, self.begun = "", False, time.monotonic()
         self.deadline: float | None = None
         self.alone: tuple[float, str] | None = None
+        self.spared: tuple[Any, ...] | None = None  # how power is lost then
+        self.amid_s = 0.0  # so long after a way or a home begins power is lost, if that isn't 0
         (folder / "progress").unlink(missing_ok=True)
         self.env = {"NGC_POWER": str(self.log), "NGC_POWER_DO": deeds}
         measured = [] if at is None else ["-a", *(f"{each / 1000:.3f}" for each in at)]
@@ -361,25 +384,32 @@ class Shop:
         return self.is_off or self.killed or HEAD.unpack(self.head)[5] != 0
 
     def processes(self) -> list[int]:
-        """Those that are still there, by the folder in which they work."""
+        """Those that are still there, by the folder in which they work; also those that have just begun."""
         found = []
-        for pid in {*HEAD.unpack(self.head)[7:], self.console, self.player.pid}:
+        for pid in filter(str.isdecimal, os.listdir("/proc")):
             with suppress(OSError):
-                if pid > 0 and os.readlink(f"/proc/{pid}/cwd") == str(self.folder):
-                    found.append(pid)
+                if os.readlink(f"/proc/{pid}/cwd") == str(self.folder):
+                    found.append(int(pid))
         return found
 
-    def spare(self) -> None:
-        """Power isn't lost any more, but by a deed."""
-        self.deadline = self.alone = None
-        self.stop_at(0, False)
+    def spare(self, spares: bool) -> None:
+        """Power isn't lost, and nothing fails, for as long as it is to be so."""
+        if spares and self.spared is None:
+            self.spared = self.deadline, self.alone, self.amid_s, *struct.unpack("=QI", self.head[16:28])
+            self.deadline, self.alone, self.amid_s = None, None, 0.0
+            self.stop_at(SPARED, False)
+        elif not spares and self.spared is not None:
+            self.deadline, self.alone, self.amid_s, line, is_all = self.spared
+            self.stop_at(line, is_all)
+            self.spared = None
 
-    def pins(self) -> int:
-        """How many lines the motors made up to now, since the job began."""
-        return len(self.lines())
+    def begins_way(self) -> None:
+        """A way or a home begins."""
+        if self.amid_s:
+            self.deadline = time.monotonic() + self.amid_s
 
     def lines(self) -> list[bytes]:
-        """The lines that they made."""
+        """The lines that the motors made, since the job began."""
         if self.sink:
             return self.sink.lines()
         path = self.folder / "pins"
@@ -407,6 +437,7 @@ class Shop:
             if "Ctrl-C three times ends ngc" in said and self.player.poll() is not None:
                 self.hold_at = time.monotonic()  # again and again, since nobody reads OUT any more
             if time.monotonic() > until:
+                self._says_where()
                 raise Wrong(f"no prompt for {PATIENCE_S} s")
             if select.select([self.out_of], [], [], 0.01)[0]:
                 piece = os.read(self.out_of, 65536).decode()
@@ -416,6 +447,16 @@ class Shop:
                     raise Lost
         self.hold_at = 0.0
         return said
+
+    def _says_where(self) -> None:
+        """Keeps where each process is, as nothing goes on."""
+        for pid in self.processes():
+            with suppress(OSError):
+                self.said += f"{pid}: {Path(f'/proc/{pid}/stat').read_text()}{Path(f'/proc/{pid}/wchan').read_text()}\n"
+        with suppress(OSError):
+            os.kill(self.console, signal.SIGUSR1)
+            if select.select([self.out_of], [], [], 2)[0]:
+                self.said += os.read(self.out_of, 65536).decode()
 
     def _says_go(self) -> None:
         """The tool is in: somebody tells the player, as Enter does there."""
@@ -434,11 +475,15 @@ class Shop:
         return True
 
     def kill(self) -> None:
-        """Power is lost for all that is still there."""
-        self.killed = self.killed or bool(self.processes())
-        for pid in self.processes():
-            with suppress(ProcessLookupError):
-                os.kill(pid, signal.SIGKILL)
+        """Power is lost for all that is still there, and for what they have begun meanwhile."""
+        while found := self.processes():
+            self.killed = True
+            for pid in found:
+                with suppress(ProcessLookupError):
+                    os.kill(pid, signal.SIGKILL)
+            time.sleep(0.002)
+            with suppress(ChildProcessError):
+                self.player.poll()
         self.close()
 
     def kill_alone(self) -> None:

@@ -1229,6 +1229,20 @@ class EndsWhereItBegan(WithOperator):
         self.assertEqual(note.epoch, epoch + 1)
         self.brought_back(self.lines(), 600)
 
+    def test_lost_before_it_is_noted(self) -> None:
+        """The log is begun anew, and power is lost before that is noted: then the note speaks of the log before, and
+        what was handed out since the log's beginning tells what OUT has lost of it, a circle and two waits."""
+        self.device()
+        operator, face = self.begun("")
+        text = "G91\nF60\n" + "G0 X0.001\nG0 X-0.001\n" * 300 + "G2 X0 I0.002\nG4 P0.01\nG4 P0.01\nM0\nM2\n"
+        operator.load("long", text.encode())
+        self.keep_note()
+        epoch = Device.read("mill.dev").epoch
+        operator.do("run")
+        self.assertEqual(Device.read("mill.dev").epoch, epoch + 1, face.said)
+        self.assertEqual(self.lines()[-2:], ["D 10000"] * 2)
+        self.brought_back(self.lines(), 600)
+
     def test_noted_within(self) -> None:
         """Where the log is begun anew in the midst of a program it is noted once no block is under way."""
         self.device()
