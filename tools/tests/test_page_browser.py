@@ -314,14 +314,16 @@ class Looks(InBrowser):
         self.no_complaints()
 
     def test_tools(self) -> None:
-        """A tool of any number gets a length; the slots below it have 0."""
+        """A tool of any number gets a length; the slots below it have 0. What is no number can't be given."""
         browser = self.browser
         browser.press("Tools", "nav button")
-        browser.fill("#tab-tools input[aria-label='Number of a new tool']", "0")
+        for number, length in (("0", "62.5"), ("3", "six"), ("3", "")):
+            browser.fill("#tab-tools input[aria-label='Number of a new tool']", number)
+            browser.fill("#tab-tools input[aria-label='Length of tool 1']", length)
+            self.assertEqual(browser.js("[document.querySelectorAll('#tab-tools input.wrong').length,"
+                                        " document.querySelector('#tab-tools button').disabled]"),
+                             [int(length != ""), True], (number, length))
         browser.fill("#tab-tools input[aria-label='Length of tool 1']", "62.5")
-        browser.press("Add", "#tab-tools button")
-        browser.wait("document.querySelector('#tab-tools input.wrong')")
-        self.assertEqual(browser.js("ngc.state.tools.length"), 0)
         browser.fill("#tab-tools input[aria-label='Number of a new tool']", "T3")
         browser.press("Add", "#tab-tools button")
         browser.wait("String(ngc.state.tools) === '0.000000,0.000000,62.500000'")
