@@ -274,7 +274,8 @@ class Pictured:
         command, report = self.command.word if self.command else "", self.report
         if self.status.does != "idle" or command in _CONFIRMED and report and report.at != self.session.past_at:
             return False
-        is_apart = command in WITHOUT_LINES and any(self._apart_of(self.stand.status, self.stand.report))
+        goes = command in MOVES and command not in _CONFIRMED
+        is_apart = goes and any(self._apart_of(self.stand.status, self.stand.report))
         return not self.status.known or self._has_left or is_apart
 
     def _session(self) -> dict:
