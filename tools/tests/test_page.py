@@ -1067,15 +1067,16 @@ class Shown(unittest.TestCase):
 
     def test_two_places(self) -> None:
         """Where the motors rest elsewhere than the last line ended, their place isn't told as known while something is
-        looked at that would go from there; a person who tells it knows it."""
+        looked at that would go from there; a person who tells it knows it. What moves nothing leaves two places."""
         for word, why in (("mdi", "power"), ("run", "power"), ("restore", "power"), ("home", "power"),
-                          ("reference", ""), ("", "")):
+                          ("reference", ""), ("hold", ""), ("", "")):
             pictured = self.pictured(word)
             pictured.report = pictured.stand.report = SimpleNamespace(behind=0, waits=False, word="works", at="1 0 0")
             pictured.face = SimpleNamespace(reported_at=time.time(), view=None)
             pictured.session = SimpleNamespace(begins_at=None, ended="", opened=SimpleNamespace(left_at=4.0),
                                                settings=SimpleNamespace(step_nm=[1000] * 3))
             self.assertEqual((pictured._stale() or {"why": ""})["why"], why, word)
+            self.assertEqual(pictured._apart, [not why, False, False], word)
 
     def test_old(self) -> None:
         """While something is under way a place that was told a while ago isn't shown as the place now, as where the
