@@ -1013,7 +1013,8 @@ class Shown(unittest.TestCase):
         pictured.report = SimpleNamespace(behind=0, waits=False)
         pictured.program = Program(b"G0 X1\nG0 X2\nM2\n")
         pictured.status = Status(5 + entries, 0, ("0", "0", "0"), True, "none", 0, "idle")
-        pictured.stand = SimpleNamespace(status=replace(pictured.status, entries=5), gone="", recovery=None)
+        pictured.stand = SimpleNamespace(status=replace(pictured.status, entries=5), report=None, gone="",
+                                         recovery=None)
         return pictured
 
     def test_last_line(self) -> None:
@@ -1063,6 +1064,19 @@ class Shown(unittest.TestCase):
             pictured.stand.gone = "it is gone"
             pictured.session.ended, pictured.session.opened = "", SimpleNamespace(left_at=4.0)
             self.assertEqual(pictured._stale()["why"], why)
+
+    def test_two_places(self) -> None:
+        """Where the motors rest elsewhere than the last line ended, their place isn't told as known while something is
+        looked at that would go from there; a person who tells it knows it. What moves nothing leaves two places."""
+        for word, why in (("mdi", "power"), ("run", "power"), ("restore", "power"), ("home", "power"),
+                          ("reference", ""), ("hold", ""), ("", "")):
+            pictured = self.pictured(word)
+            pictured.report = pictured.stand.report = SimpleNamespace(behind=0, waits=False, word="works", at="1 0 0")
+            pictured.face = SimpleNamespace(reported_at=time.time(), view=None)
+            pictured.session = SimpleNamespace(begins_at=None, ended="", opened=SimpleNamespace(left_at=4.0),
+                                               settings=SimpleNamespace(step_nm=[1000] * 3))
+            self.assertEqual((pictured._stale() or {"why": ""})["why"], why, word)
+            self.assertEqual(pictured._apart, [not why, False, False], word)
 
     def test_old(self) -> None:
         """While something is under way a place that was told a while ago isn't shown as the place now, as where the

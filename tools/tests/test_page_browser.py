@@ -149,6 +149,20 @@ PAN_LONG = """(async () => {
     for (let i = 0; i < 30; i++) { ngc.picture.view.pan(3, 2); ngc.picture.moved(); await frame(); }
 })()""".replace("FRAME", FRAME)
 
+LATE = """void (window.fetched = window.fetch, window.late = new Promise(done => { window.comes = done; }),
+    window.fetch = async (what, ...more) => {
+        const answer = await fetched(what, ...more);
+        if (what === 'rehearse') {
+            window.heard = answer.ok;
+            await late;
+        }
+        return answer;
+    })"""
+"""What is rehearsed comes once `comes` is called."""
+RUN = """fetch('run', { method: 'POST', body: '{}', headers: { 'Content-Type': 'application/json', 'X-Page':
+    sessionStorage.page, 'X-Stamp': ngc.state.stamp } }).then(answer => answer.ok || null)"""
+"""Asks for it as a touch does that was made before."""
+
 
 @cache
 def started() -> Browser:
@@ -300,14 +314,16 @@ class Looks(InBrowser):
         self.no_complaints()
 
     def test_tools(self) -> None:
-        """A tool of any number gets a length; the slots below it have 0."""
+        """A tool of any number gets a length; the slots below it have 0. What is no number can't be given."""
         browser = self.browser
         browser.press("Tools", "nav button")
-        browser.fill("#tab-tools input[aria-label='Number of a new tool']", "0")
+        for number, length in (("0", "62.5"), ("3", "six"), ("3", "")):
+            browser.fill("#tab-tools input[aria-label='Number of a new tool']", number)
+            browser.fill("#tab-tools input[aria-label='Length of tool 1']", length)
+            self.assertEqual(browser.js("[document.querySelectorAll('#tab-tools input.wrong').length,"
+                                        " document.querySelector('#tab-tools button').disabled]"),
+                             [int(length != ""), True], (number, length))
         browser.fill("#tab-tools input[aria-label='Length of tool 1']", "62.5")
-        browser.press("Add", "#tab-tools button")
-        browser.wait("document.querySelector('#tab-tools input.wrong')")
-        self.assertEqual(browser.js("ngc.state.tools.length"), 0)
         browser.fill("#tab-tools input[aria-label='Number of a new tool']", "T3")
         browser.press("Add", "#tab-tools button")
         browser.wait("String(ngc.state.tools) === '0.000000,0.000000,62.500000'")
@@ -432,6 +448,30 @@ class Work(InBrowser):
         browser.wait("ngc.state.ended")
         shown = browser.js("[...document.querySelectorAll('#gauges dd')].map(one => one.textContent)")
         self.assertEqual(shown[1:3], ["not known", "not known"])
+
+    def test_asked_meanwhile(self) -> None:
+        """What `Continue` looks at first comes late, once something else is asked: that stays on the page as long as it
+        is asked, whatever closes its sheet, and can be answered."""
+        browser, asked = self.browser, "document.querySelector('#over .asked') !== null"
+        self.load("M3 S100\nG1 X0.01 F600\nM0\nG1 X0.02\nM2\n", 5)
+        browser.press("Run", "#run")
+        browser.wait("ngc.state.does === 'stopped' && !ngc.state.busy")
+        browser.fill("#line", "G91")
+        browser.press("Do", "#do")
+        browser.wait("ngc.state.distance === 91 && !ngc.state.busy")
+        browser.js(LATE)
+        browser.press("Continue", "#run")
+        browser.wait("window.heard")
+        browser.wait(f"ngc.state.question && {asked} || {RUN}")
+        browser.wait(f"ngc.state.question && {asked}")
+        browser.js("comes()")
+        seen = browser.js("ngc.state.now")
+        browser.wait(f"ngc.state.now > {seen} + 1")
+        self.assertEqual(browser.js("document.querySelector('#over h1').textContent"), "A question")
+        browser.js("document.getElementById('over').replaceChildren()")
+        browser.press("Yes", "#over .go")
+        browser.wait("ngc.state.finished && document.getElementById('over').hidden")
+        self.no_complaints()
 
     def test_drawn_anew(self) -> None:
         """While another program is looked at the one that is stored can't be run; once it is loaded nothing is shown

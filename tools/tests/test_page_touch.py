@@ -101,6 +101,24 @@ class Fingers(test_page_browser.Moves):
         self.assertTrue(says.startswith("a G92 offset is in force, X0 Y0 Z-2, and is allowed for."), says)
         self.no_complaints()
 
+    def test_no_number(self) -> None:
+        """Where what was typed is no number, that is said, and nothing is enabled that would take it."""
+        browser = self.browser
+        browser.press("Home all", "#tab-setup button")
+        browser.wait("ngc.state.homed === 'XYZ' && !ngc.state.busy")
+        off = "[...document.querySelectorAll('%s')].map(one => one.disabled)"
+        for entry, buttons, count in (("Work coordinate of this place, in mm", ".part:has(.hint) .four button", 4),
+                                      ("How far the probe is sought, in mm", ".five button", 5)):
+            for text, is_off in (("x", True), ("", True), ("2,5", False)):
+                browser.fill(f"input[aria-label='{entry}']", text)
+                self.assertEqual(browser.js(off % buttons), [is_off] * count, (entry, text))
+                self.assertEqual(browser.js("document.querySelectorAll('#tab-setup input.wrong').length"), int(is_off))
+        browser.fill("input[aria-label='Work coordinate of this place, in mm']", "x")
+        says = "document.querySelector('#tab-setup').innerText.includes('x isn\u2019t a number of mm')"
+        self.assertTrue(browser.js(says))
+        self.look("what is no number")
+        self.no_complaints()
+
     def test_two_places(self) -> None:
         """Where the motors rest elsewhere than the last line ended, by a step or more, the page asks which is so."""
         browser = self.browser

@@ -234,6 +234,33 @@ class OverFile(Stopping):
         state = self.seen.asked()
         self.assertIn("by legs", state["question"]["text"])
 
+    def test_alarm_while_held(self) -> None:
+        """The emergency stop comes where the job is held between two lines, and nothing is in hand: once the machine is
+        homed, the next line isn't begun, and the job goes on with it, which nothing but the page is needed for."""
+        self.load(self.seen, "G21 G90\nM3 S1000\nG1 X1 F600\nG1 X2\nM5\nM2\n")
+        self.seen.post("switch", {"name": "single", "on": True})
+        for line in (3, 4):
+            self.seen.post("run")
+            before = self.until("it is held", lambda s, line=line: s["does"] == "held" and s["line"] == line
+                                and not s["busy"])
+        self.assertEqual((before["behind"], before["half"], self.is_on()), (0, "none", True))
+        self.world.put(STOP, False)
+        self.until("the alarm stands", lambda s: s["alarm"] and not s["busy"])
+        self.world.put(STOP, True)
+        self.until("it is off again", lambda s: not s["inputs"])
+        self.seen.post("home", {"axes": ""})
+        state = self.until("it is homed", lambda s: s["homed"] == "XYZ" and not s["busy"])
+        self.assertEqual((state["does"], state["half"], state["line"], state["known"], state["at"], state["session"]),
+                         ("idle", "none", 4, True, state["motors"], before["session"]), self.seen.said())
+        self.assertEqual((state["single"], state["spindle"], state["apart"]), (True, 0, [False] * 3))
+        self.seen.post("switch", {"name": "single", "on": False})
+        self.seen.post("run")
+        for says in ("the player has all of it off", "line 4 begins at X1 Y0 Z0"):
+            self.seen.agree(self.seen.asked())
+            self.assertIn(says, self.seen.said())
+        state = self.until("it is through", lambda s: s["finished"] and not s["busy"])
+        self.assertEqual(state["motors"][0], "2.000000")
+
     def test_limit_and_back(self) -> None:
         """After a limit: the cause is named, and the line is half-done once the machine is homed."""
         self.world.switch(4, X_HIGH, 0, 1, 2_000)

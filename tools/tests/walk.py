@@ -504,6 +504,8 @@ class Walk:
             self.bench.kill("ngc")
         self.bench.kill(*(name for name in names if name != "ngc"))
         if "player" in names:
+            self.truth.killed_at = time.monotonic()
+            self.truth.killed_late_s = self.judge.slack_s(self.truth.killed_at)
             self._rests_now()
             if is_moving:
                 self.truth.is_place_known = False

@@ -172,17 +172,20 @@ class Tabs(Chromium):
         """What the page shows now. Raises Failed where it shows nothing."""
         until = time.monotonic() + PATIENCE_S
         while time.monotonic() < until:
-            try:
-                said = self.js(_SEE)
-            except Failed as error:  # as while it is loaded anew
-                if "navigat" not in str(error) and "context" not in str(error):
-                    raise
-                said = None
-            if said is not None:
+            if (said := self._there(_SEE)) is not None:
                 return Seen(time.monotonic(), said)
             self._load_again()
             time.sleep(0.02)
         raise Failed("the page shows nothing")
+
+    def _there(self, expression: str) -> object:
+        """The value of an expression; None while the page is loaded anew."""
+        try:
+            return self.js(expression)
+        except Failed as error:
+            if "navigat" not in str(error) and "context" not in str(error):
+                raise
+            return None
 
     def _load_again(self) -> None:
         """Where the server was gone as the page was loaded, the browser says so, and the person loads it again."""
@@ -194,7 +197,7 @@ class Tabs(Chromium):
     def find(self, kind: str, number: int) -> tuple[float, float] | None:
         """Where the middle of a button or an entry is, if it can be touched."""
         until = time.monotonic() + _DEAD_S
-        while (found := self.js(_FIND % (kind, number))) == "dead" and time.monotonic() < until:
+        while (found := self._there(_FIND % (kind, number))) == "dead" and time.monotonic() < until:
             time.sleep(0.1)
         return (found[0], found[1]) if found and found != "dead" else None
 
@@ -210,8 +213,8 @@ class Tabs(Chromium):
 
     def posts(self, since: int) -> list[dict]:
         """What the page posted since so many."""
-        return self.js(f"(window.walked?.posts ?? []).slice({since})") or []
+        return self._there(f"(window.walked?.posts ?? []).slice({since})") or []
 
     def clicks(self, since: int) -> list[dict]:
         """What was touched since so many."""
-        return self.js(f"(window.walked?.clicks ?? []).slice({since})") or []
+        return self._there(f"(window.walked?.clicks ?? []).slice({since})") or []

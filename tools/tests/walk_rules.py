@@ -66,6 +66,8 @@ class Truth:
     is_zero_asked: bool = True
     without_lines: bool = False
     touched_at: float = 0.0
+    killed_at: float = 0.0  # the player, and how late it may have been with its record then
+    killed_late_s: float = 0.0
     is_change_done: bool = False  # the tool is in: the player goes on with what it has in hand, its switches too
     is_recovering: bool = False
     quiet_pulses: int = 0
@@ -171,7 +173,7 @@ class Judge:
             return
         wanted = _difference(shown, self.truth.offset)
         if seen.blind and seen.past and seen.risk.startswith("By the record"):
-            is_so = self._was_at(wanted, unit, since, told, float(seen.past))
+            is_so = self._was_at(wanted, unit, since, told, float(seen.past)) or self._was_late(wanted, unit, seen.past)
         elif seen.blind and seen.risk.startswith("Last known"):
             ago_s = _seconds(seen.risk)
             is_so = ago_s is None or self._was_at(wanted, unit, since - ago_s, told - ago_s + ROUNDED_S)
@@ -204,6 +206,12 @@ class Judge:
 
     def _was_at(self, wanted: Point, unit: str, begin: float, end: float, off_mm: float = 0.0) -> bool:
         return any(_is_near(wanted, at, unit, off_mm) for at in self.bench.mill.places(begin, end + CLOCKS_S))
+
+    def _was_late(self, wanted: Point, unit: str, past_mm: str) -> bool:
+        """Whether the record is as far off as is said, and what this computer was late with it as the player was
+        killed. How old it ever got before is in it, and no more."""
+        killed_at, late_s = self.truth.killed_at, self.truth.killed_late_s
+        return late_s > 0 and self._was_at(wanted, unit, killed_at - late_s, killed_at, float(past_mm))
 
     def zero(self, seen: Seen) -> None:
         """What lies between machine and work stays at rest, where nobody asked for another zero."""

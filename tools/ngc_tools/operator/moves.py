@@ -40,7 +40,8 @@ _ANEW = ("what the player had in hand in the alarm is never carried out: another
          " loss of power")
 _UNSURE = ("ngc isn't told where the machine is, since it wasn't known before, and not each axis is homed: reference"
            " player, or reference X Y Z")
-_LATER = "ngc isn't told where the machine is, since {half} is under way: stop ends it"
+_HELD = ("{half} was held as the alarm came, and the spindle and the coolant that it had are off: another session"
+         " begins, and goes on as after a loss of power")
 
 MoveAnswer = tuple[int, str]
 """The number of a move, and why it is refused; nothing where it is taken."""
@@ -203,13 +204,15 @@ class Moves:
             self.touched = None
         return self.touched
 
-    def _begin_anew(self) -> None:
-        """Where the machine is is known again, and lines were dropped in the alarm: this session comes to nothing."""
-        self.session.face.say(_ANEW, WARNING)
+    def _begin_anew(self, why: str) -> bool:
+        """Where the machine is is known again, and in this session nothing goes on; whether another one has begun."""
+        self.session.face.say(why, WARNING)
         try:
             self.following.begin()
         except NoAnswer as error:
             self.session.face.say(str(error), WARNING)
+            return False
+        return True
 
     def tell(self, is_sure: bool = True) -> None:
         """Tells `ngc` where the machine is now; where no half-done block asks for that, only if it is sure."""
@@ -221,11 +224,12 @@ class Moves:
             self.alarm.say_left()
             return
         if report.word == BROKEN:
-            self._begin_anew()
+            self._begin_anew(_ANEW)
             return
         if status.does not in ("idle", "stopped"):
-            session.face.say(_LATER.format(half=session.half(status)), WARNING)
-            return
+            if not self._begin_anew(_HELD.format(half=session.half(status))) or status.half != "none":
+                return
+            status = session.console.status()
         if status.half == "none" and not is_sure:
             session.face.say(_UNSURE, WARNING)
             Look(session).after_work()

@@ -220,8 +220,11 @@ class Pictured:
     @property
     def _apart(self) -> list[bool]:
         """Of each axis whether the motors rest at another place than where `ngc` takes them to be, by a step or more.
+        While a command is under way that moves nothing that is as it was before it.
         """
-        return [False] * 3 if self.command else self._apart_of(self.status, self.report)
+        if self.command is None:
+            return self._apart_of(self.status, self.report)
+        return [False] * 3 if self.command.word in MOVES else self._apart_of(self.stand.status, self.stand.report)
 
     def _apart_of(self, status: Status, report: Report | None) -> list[bool]:
         """The same, of what was told."""
@@ -274,7 +277,8 @@ class Pictured:
         command, report = self.command.word if self.command else "", self.report
         if self.status.does != "idle" or command in _CONFIRMED and report and report.at != self.session.past_at:
             return False
-        is_apart = command in WITHOUT_LINES and any(self._apart_of(self.stand.status, self.stand.report))
+        goes = command in MOVES and command not in _CONFIRMED
+        is_apart = goes and any(self._apart_of(self.stand.status, self.stand.report))
         return not self.status.known or self._has_left or is_apart
 
     def _session(self) -> dict:

@@ -19,7 +19,7 @@ import { lostOf } from './ways.js';
 
 const app = {
   state: null, job: null, neverCut: null, travel: null, programId: null, jobId: null, failed: '', asked: '',
-  preview: null,
+  asking: null, preview: null,
 };
 window.ngc = app; // for who looks at the page from outside, as tests do
 
@@ -181,16 +181,16 @@ function whereIsIt() {
     hasHome ? sheet.go('Home all', does('home', { axes: '' })) : '']);
 }
 
-// A question that isn't of the recovery comes as a sheet of its own.
+// A question that isn't of the recovery comes as a sheet of its own, and stays there as long as it is asked.
 function showQuestion(s) {
-  const id = s.question ? `${s.question.id} ${s.yours}` : '';
-  if (recovery.isOpen || id === app.asked) return;
-  if (!id) {
-    sheet.close();
-  } else {
+  const id = s.question ? `${s.question.id} ${s.yours}` : '', isShown = app.asking?.head.isConnected;
+  if (recovery.isOpen || id === app.asked && (!id || isShown)) return;
+  if (id) {
     const said = log.since(s.command?.since ?? Infinity, ['said', 'warning', 'refused']);
     const { content, buttons } = question.parts(s.question, said, s.yours, asks);
-    sheet.open('A question', content, [sheet.gap(), ...buttons]);
+    app.asking = sheet.open('A question', content, [sheet.gap(), ...buttons]);
+  } else if (isShown) {
+    sheet.close();
   }
   app.asked = id;
 }
@@ -278,23 +278,34 @@ function takeUpLines() {
     sheet.go('Recover', does('recover'))]);
 }
 
-// From the middle of a program what is on stays as it is, and a cut may come first: it is rehearsed before.
+// From the middle of a program what is on stays as it is, and a cut may come first: it is rehearsed before. Where
+// something else is asked meanwhile, or the sheet is closed, nobody waits for that any more.
 async function goOn(s, title) {
+  const opened = sheet.open(title, [sheet.soft('ngc rehearses it over a copy of the device; nothing moves\u2026')],
+    [sheet.gap(), sheet.button('Back', sheet.close)]);
   const found = await asks('rehearse');
-  if (!found) return;
+  if (!opened.head.isConnected) return;
+  if (!found) {
+    sheet.close();
+    return;
+  }
+  const does = what => () => { sheet.close(); asks(what); };
+  opened.words.replaceChildren(...goingOn(s, found).filter(Boolean));
+  opened.foot.append(s.restore?.length ? sheet.button('Restore', does('restore')) : '', sheet.go(title, does('run')));
+}
+
+// What is said before the program goes on.
+function goingOn(s, found) {
   const turns = s.spindle === 1 ? 'clockwise' : 'counter-clockwise';
   const spindle = s.spindle ? `The spindle turns ${turns} at ${grouped(s.speed)}.`
     : 'The spindle is off, and nothing switches it on by itself: give M3 as a line first, unless it is meant so.';
-  const does = what => () => { sheet.close(); asks(what); };
-  sheet.open(title, [
+  return [
     found.refused && sheet.warning(found.refused, 'bad'),
     ...(found.differs ?? []).map(one => sheet.warning(one, 'bad')),
     s.restore?.length ? sheet.said(`Restore puts back what your lines left in force: ${s.restore.join(', ')}`) : null,
     sheet.warning(spindle, s.spindle ? 'fine' : ''), sheet.lead(program.line(s.line)),
     sheet.said(`The tool goes on from where it is now: ${point(s.at)}. Look that the way is free.`),
-    sheet.lines(found.lines.slice(1))],
-  [sheet.gap(), sheet.button('Back', sheet.close), s.restore?.length ? sheet.button('Restore', does('restore')) : '',
-    sheet.go(title, does('run'))]);
+    sheet.lines(found.lines.slice(1))];
 }
 
 // ---- what people touch

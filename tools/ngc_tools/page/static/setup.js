@@ -15,15 +15,15 @@ export class Setup {
     this.homed = el('span');
     this.home = ['', ...AXES].map(axes => button(axes || 'Home all', () => asks('home', { axes })));
     this.touched = el('span');
-    this.within = entry('10', 'How far the probe is sought, in mm');
+    const changed = () => { if (this.shown) this.show(...this.shown); };
+    this.within = entry('10', 'How far the probe is sought, in mm', changed);
     this.seeks = SEEKS.map(([axis, sign]) => button(axis + SIGNS[sign], () => this.seek(axis, sign)));
     this.system = el('span');
-    this.value = entry('0', 'Work coordinate of this place, in mm');
-    this.byProbe = toggle('Where the probe was touched', () => { flip(this.byProbe); this.showUsed(this.state); });
+    this.value = entry('0', 'Work coordinate of this place, in mm', changed);
+    this.byProbe = toggle('Where the probe was touched', () => { flip(this.byProbe); changed(); });
     this.used = el('p', { class: 'hint' });
     this.zero = [...AXES, 'XY'].map(axes => button(`Set ${axes}`, () => this.sets(axes)));
-    this.height = entry('', 'Machine Z of the setter, in mm');
-    this.height.addEventListener('input', () => this.showLength(this.state));
+    this.height = entry('', 'Machine Z of the setter, in mm', changed);
     this.length = el('p', { class: 'hint' });
     this.setter = el('label', { class: 'entry-row' }, 'Setter at machine Z', this.height, 'mm');
     this.touch = button('', () => this.touchOff());
@@ -47,6 +47,7 @@ export class Setup {
   }
 
   show(s, isIdle) {
+    this.shown = [s, isIdle];
     const hasMoves = s.machine !== null && s.machine !== undefined, isJogging = s.command?.word === 'jog';
     const isFree = s.yours && canMove(s), isOff = isFree && !isOn(s);
     for (const name of ['home', 'jog', 'probe']) this.parts[name].hidden = !hasMoves;
@@ -59,8 +60,10 @@ export class Setup {
     this.home.forEach((one, i) => { one.disabled = !isOff || s.busy || !isHome(i); });
     this.jog.told = s.press;
     this.jog.enable(isFree && hasMoves && !s.alarm && (!s.busy || isJogging));
-    for (const one of [...this.seeks, this.within]) one.disabled = !isOff || s.busy || Boolean(s.alarm);
-    for (const one of [...this.zero, this.value, this.byProbe]) one.disabled = !isIdle;
+    this.within.disabled = !isOff || s.busy || Boolean(s.alarm);
+    for (const one of this.seeks) one.disabled = this.within.disabled || typed(this.within) === null;
+    for (const one of [this.value, this.byProbe]) one.disabled = !isIdle;
+    for (const one of this.zero) one.disabled = !isIdle || typed(this.value) === null;
     text(this.touched, s.touched ? `touched: ${point(s.touched)} mm` : '');
     this.showUsed(s);
     this.showTool(s, isIdle);
@@ -79,11 +82,13 @@ export class Setup {
     const key = String(s.touched ?? '');
     if (!s.touched || key !== this.seen) this.byProbe.setAttribute('aria-checked', 'false');
     this.seen = key;
-    this.state = s;
     this.byProbe.hidden = !s.touched;
-    text(this.used, this.probe() ? `Takes machine ${point(s.touched)} mm, where the probe was touched`
-      : s.known ? `Takes machine ${point(s.at)} mm, where the motors are`
-        : 'Where the machine stands isn\u2019t known');
+    const other = this.value.value.trim() ? `${this.value.value.trim()} isn\u2019t a number of mm`
+      : 'Which coordinate is this place to have, in mm?';
+    text(this.used, typed(this.value) === null ? other
+      : this.probe() ? `Takes machine ${point(s.touched)} mm, where the probe was touched`
+        : s.known ? `Takes machine ${point(s.at)} mm, where the motors are`
+          : 'Where the machine stands isn\u2019t known');
   }
 
   showTool(s, isIdle) {
@@ -91,7 +96,8 @@ export class Setup {
     this.needsHeight = s.setter === null || s.setter === undefined;
     this.setter.hidden = !this.needsHeight;
     this.height.disabled = !isIdle;
-    this.touch.disabled = !isIdle || !s.slot || s.has_probe && !s.touched;
+    const isHigh = !this.needsHeight || typedNumber(this.height.value) !== null;
+    this.touch.disabled = !isIdle || !s.slot || !isHigh || s.has_probe && !s.touched;
     text(this.touch, s.slot ? `Tool ${s.slot} stands on the setter` : 'No tool is in the spindle');
     means(this.touch, this.touch.textContent);
     this.showLength(s);
@@ -111,20 +117,17 @@ export class Setup {
   }
 
   seek(axis, sign) {
-    const within = typed(this.within);
-    if (within !== null) this.asks('seek', { axis, sign, rate: SEEK_RATE, within });
+    this.asks('seek', { axis, sign, rate: SEEK_RATE, within: typedNumber(this.within.value) });
   }
 
   sets(axes) {
-    const value = typed(this.value);
-    if (value !== null) {
-      this.asks('zero', { axes: Object.fromEntries([...axes].map(axis => [axis, value])), probe: this.probe() });
-    }
+    const value = typedNumber(this.value.value);
+    this.asks('zero', { axes: Object.fromEntries([...axes].map(axis => [axis, value])), probe: this.probe() });
   }
 
   touchOff() {
-    const height = this.needsHeight ? typed(this.height) : undefined;
-    if (height !== null) this.asks('touch', { slot: this.slot, height, probe: Boolean(this.state.touched) });
+    const height = this.needsHeight ? typedNumber(this.height.value) : undefined;
+    this.asks('touch', { slot: this.slot, height, probe: Boolean(this.shown[0].touched) });
   }
 
   probe() { return !this.byProbe.hidden && isChosen(this.byProbe); }
@@ -153,7 +156,7 @@ function part(title, beside, ...content) {
   return el('section', { class: 'part' }, el('h2', {}, title, beside), ...content);
 }
 
-const entry = (value, label) => el('input', { value, inputMode: 'decimal', 'aria-label': label });
+const entry = (value, label, oninput) => el('input', { value, inputMode: 'decimal', 'aria-label': label, oninput });
 
 function toggle(says, does) {
   return el('button', { role: 'switch', 'aria-checked': 'false', class: 'wide switch', onclick: does }, el('i'),

@@ -21,17 +21,23 @@ function row(slot, length, isIn, isIdle, asks) {
     disabled: !isIdle, placeholder: isNew ? 'a length' : '', 'aria-label': `Length of tool ${slot}` });
   const number = el('input', { value: String(slot), inputMode: 'numeric', disabled: !isIdle,
     'aria-label': 'Number of a new tool' });
+  const typed = () => [isNew ? slotNumber(number.value, slot) : slot, typedNumber(input.value)];
   const give = () => {
-    const typed = typedNumber(input.value), own = isNew ? slotNumber(number.value, slot) : slot;
-    input.classList.toggle('wrong', typed === null);
-    number.classList.toggle('wrong', own === null);
-    if (typed === null || own === null) return;
+    const [own, length] = typed();
     for (const one of [input, number]) one.blur();
-    asks('tool', { slot: own, length: typed });
+    asks('tool', { slot: own, length });
   };
-  input.addEventListener('keydown', event => { if (event.key === 'Enter') give(); });
-  return el('div', { class: `slot ${isIn ? 'in' : ''}` }, isNew ? number : el('b', {}, `T${slot}`), input,
-    el('button', { onclick: give, disabled: !isIdle }, isNew ? 'Add' : 'Set'));
+  const button = el('button', { onclick: give }, isNew ? 'Add' : 'Set');
+  const check = () => { // what isn't a number is marked, and can't be given
+    const [own, length] = typed();
+    input.classList.toggle('wrong', length === null && input.value.trim() !== '');
+    number.classList.toggle('wrong', own === null);
+    button.disabled = !isIdle || own === null || length === null;
+  };
+  for (const one of [input, number]) one.addEventListener('input', check);
+  input.addEventListener('keydown', event => { if (event.key === 'Enter' && !button.disabled) give(); });
+  check();
+  return el('div', { class: `slot ${isIn ? 'in' : ''}` }, isNew ? number : el('b', {}, `T${slot}`), input, button);
 }
 
 // The number of a slot that isn't in the table yet; null for another one.
