@@ -1,6 +1,6 @@
 """What tests of a player over a step sink share: a sink at the other end of a pseudo terminal, whose clock goes on by
-itself. With NGC_SINK=stm32f103, or another board of chip_parts.py, it is that board's firmware on the emulated chip, else
-the sink of this computer's own code."""
+itself. With NGC_SINK=stm32f103, or another board of chip_parts.py, it is that board's firmware on the emulated chip,
+else the sink of this computer's own code."""
 import os
 import subprocess
 import time

@@ -19,7 +19,8 @@
 
 enum { FLASH_AT = 0x08000000, FLASH_BYTES = 65536, RAM_AT = 0x20000000, RAM_BYTES = 20480 };
 enum { PORTS = 2 /* A and B */, PERIPHERALS_BYTES = 0x30000 };
-enum { IRQS = 43, IRQ_TIMER = 28 /* of the steps: where a stray pulse comes */, PRIORITY_BITS = 0xf0, VECTORS_ALIGNED = 256 };
+enum { IRQS = 43, IRQ_TIMER = 28 /* of the steps: where a stray pulse comes */ };
+enum { PRIORITY_BITS = 0xf0, VECTORS_ALIGNED = 256 };
 
 /* What happens at a time. */
 enum { E_TIM2, E_TIM3, E_TIM4, E_SENT, E_RECEIVED, E_DMA4, E_DMA5, E_WATCHDOG, E_CRYSTAL, E_PLL, E_HEARD, E_UNTIL,
