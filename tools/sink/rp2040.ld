@@ -2,7 +2,7 @@
  * all else to RAM, where it runs: the flash is slow. The stack is at the RAM's end. */
 MEMORY {
     FLASH (rx) : ORIGIN = 0x10000000, LENGTH = 2040K
-    RAM (rwx) : ORIGIN = 0x20000000, LENGTH = 256K
+    RAM (rwx) : ORIGIN = 0x20000000, LENGTH = 264K
 }
 ENTRY(boot)
 rom_table = 0x14;

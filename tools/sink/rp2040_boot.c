@@ -33,6 +33,6 @@ __attribute__((section(".boot"), noreturn)) void boot(void) {
     SSI_SPI_CTRLR0 = (uint32_t)READ << 24 | 2u << 8 | 6u << 2; /* a command of 8 bits, an address of 24, on one wire */
     SSI_SSIENR = 1;
     VTOR = (uint32_t)(uintptr_t)&start_vectors;
-    __asm volatile("msr msp, %0\n bx %1" : : "r"(start_vectors.stack), "r"(start_vectors.start));
+    __asm volatile("mov sp, %0\n bx %1" : : "r"(start_vectors.stack), "r"(start_vectors.start));
     __builtin_unreachable();
 }

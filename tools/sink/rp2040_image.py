@@ -1,9 +1,9 @@
 #!/usr/bin/env python3
-"""Makes of a linked firmware for an RP2040 what the chip takes: `rp2040_image.py LINKED ELF UF2`.
+"""Makes of a linked firmware for an RP2040 what the chip takes: `rp2040_image.py ELF UF2`.
 
-ELF is LINKED with the checksum of its boot block, without which the chip's ROM doesn't start it (RP2040's datasheet,
+In the ELF it puts the checksum of the boot block, without which the chip's ROM doesn't start it (RP2040's datasheet,
 "Boot sequence"). UF2 is the file that is copied to the drive which a board shows with BOOTSEL held (Microsoft's "USB
-Flashing Format"). It ends with status 1 and a line where LINKED isn't such a firmware."""
+Flashing Format"). It ends with status 1 and a line where the ELF isn't such a firmware, and leaves both as they were."""
 import struct
 import sys
 from collections.abc import Iterator
@@ -70,14 +70,14 @@ def uf2(filled: dict[int, bytes]) -> bytes:
     return b"".join(blocks)
 
 
-def main(linked: str, to_elf: str, to_uf2: str) -> int:
+def main(elf: str, to_uf2: str) -> int:
     """Makes both."""
     try:
-        elf = checked(Path(linked).read_bytes())
-        Path(to_uf2).write_bytes(uf2(pages(elf)))
-        Path(to_elf).write_bytes(elf)
+        firmware = checked(Path(elf).read_bytes())
+        Path(to_uf2).write_bytes(uf2(pages(firmware)))
+        Path(elf).write_bytes(firmware)
     except (OSError, ValueError, struct.error) as why:
-        print(f"rp2040_image.py: {linked}: {why}", file=sys.stderr)
+        print(f"rp2040_image.py: {elf}: {why}", file=sys.stderr)
         return 1
     return 0
 

@@ -4,6 +4,7 @@
 
 #include "chip.h"
 #include "decode.h"
+#include "flash.h"
 #include "memory.h"
 #include "nvic.h"
 #include "told.h"
@@ -76,14 +77,14 @@ void core_enter(uint32_t number) {
     core.exception = number;
     core.it = 0;
     core.is_faulty = false;
-    uint32_t vector = memory_load(4 * number, 4);
+    uint32_t vector = memory_load(nvic_vectors() + 4 * number, 4);
     chip.now = from;
     core_pass(12);
     if ((vector & 1) == 0) {
         violation("the vector of exception %u is %08x, which isn't code of Thumb", (unsigned)number, (unsigned)vector);
     }
     core.r[15] = vector & ~1u;
-    core.line = UINT64_MAX;
+    flash_leave();
     nvic_entered(number);
 }
 
@@ -107,7 +108,7 @@ void core_leave(uint32_t how) {
     core.r[14] = frame[5];
     core.next = frame[6] & ~1u;
     core.r[13] += 32 + (frame[7] >> 9 & 1) * 4;
-    core.line = UINT64_MAX;
+    flash_leave();
     if ((core.exception == 0) != (how == 0xfffffff9)) {
         violation("an exception's return to another mode than it says");
     }
@@ -119,7 +120,7 @@ void core_reset(void) {
     uint32_t least_sp = core.least_sp;
     uint64_t count = core.count;
     uint32_t vectors[2];
-    memcpy(vectors, chip.flash, 8);
+    memcpy(vectors, chip.flash + (chip.program_at - FLASH_AT), 8);
     memset(&core, 0, sizeof core);
     core.branch_cycles = branch_cycles == 0 ? 2 : branch_cycles;
     core.least_sp = least_sp;
@@ -127,7 +128,7 @@ void core_reset(void) {
     core.r[13] = vectors[0] & ~3u;
     core.r[14] = 0xffffffff;
     core.r[15] = vectors[1] & ~1u;
-    core.line = UINT64_MAX;
+    flash_reset();
     if ((vectors[1] & 1) == 0 || vectors[0] - RAM_AT > RAM_BYTES || (vectors[0] & 7) != 0) {
         violation("the vectors begin with %08x %08x", (unsigned)vectors[0], (unsigned)vectors[1]);
     }
@@ -142,7 +143,7 @@ static void run_one(void) {
         return;
     }
     const struct op *op = &ops[offset / 2];
-    memory_fetch(at, op->size);
+    flash_fetch(at, op->size);
     core.count++;
     core.at = at;
     core.next = at + op->size;
