@@ -80,13 +80,21 @@ static uint32_t newest_slot(void) {
     return newest < SLOTS ? newest : SLOTS - 1;
 }
 
+static bool is_blank(uint32_t slot) {
+    bool is = true;
+    for (uint32_t each = slot; each < slot + SLOTS_OF_SECTOR && is; each++) {
+        is = boot_log[each] == (uint32_t)BLANK;
+    }
+    return is;
+}
+
 uint16_t boots_count(void) {
     uint32_t slot = newest_slot();
     uint32_t last = is_number(boot_log[slot]) ? boot_log[slot] & 0xffff : 0;
     uint32_t word = ((last + 1) & 0xffff) | (~(last + 1) << 16);
     do {
         slot = (slot + 1) % SLOTS;
-        if (slot % SLOTS_OF_SECTOR == 0) {
+        if (slot % SLOTS_OF_SECTOR == 0 && !is_blank(slot)) {
             erase_sector(slot);
         }
         if (boot_log[slot] == (uint32_t)BLANK) {

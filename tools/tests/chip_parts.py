@@ -35,7 +35,12 @@ BOARDS = {board.name: board for board in (
     Board("stm32f103", "stm32f103",
           {"hclk_hz": 72_000_000, "apb1_hz": 36_000_000, "baud": 2_000_000, "tick_hz": 8_000_000, "pwm_hz": 10_000},
           pins("PA0 PA2 PA4"), pins("PA1 PA3 PA5"), pins("PB0 PB1 PB5 PB7"),
-          {"lsi_hz": 40_000, "hse_hz": 8_000_000}, 7200, 30_000, 60_000, True),)}
+          {"lsi_hz": 40_000, "hse_hz": 8_000_000}, 7200, 30_000, 60_000, True),
+    Board("pico", "rp2040",
+          {"sys_hz": 128_000_000, "ref_hz": 12_000_000, "us_hz": 1_000_000, "baud": 2_000_000, "tick_hz": 8_000_000,
+           "pwm_hz": 10_000},
+          pins("PA2 PA4 PA6"), pins("PA3 PA5 PA7"), pins("PA8 PA9 PA11 PA12"),
+          {"lsi_hz": 6_500_000, "hse_hz": 12_000_000, "branch_cycles": 1}, 12800, 1_800_000, 12_000_000, True))}
 
 
 def board_of(elf: Path | str) -> Board:
