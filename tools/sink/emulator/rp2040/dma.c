@@ -74,6 +74,9 @@ static uint32_t behind(const struct channel *channel, uint32_t at, bool is_to) {
 
 static void begin(struct channel *channel) {
     uint32_t by = channel->ctrl >> 15 & 0x3f;
+    if (channel->is_busy) {
+        violation("channel %u of the DMA is begun while it is busy", (unsigned)(channel - channels));
+    }
     if ((channel->ctrl & CTRL_ON) == 0 || channel->is_busy) {
         return;
     }

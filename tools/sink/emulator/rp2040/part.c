@@ -5,6 +5,7 @@
 #include "chip.h"
 #include "clocks.h"
 #include "dma.h"
+#include "model.h"
 #include "pins.h"
 #include "pwm.h"
 #include "rom.h"
@@ -12,6 +13,7 @@
 #include "uart.h"
 #include "watchdog.h"
 
+enum { OFF_NS = 50000000 /* for which power is off that is cut amid a change of the flash */ };
 enum { SLICE_OF_STEPS = 7, SLICE_OF_SPINDLE = 5 };
 
 /* `lsi_hz` is the ring oscillator's here. */
@@ -48,6 +50,7 @@ void part_happen(int event) {
     case E_DMA: dma_move(); break;
     case E_WATCHDOG: watchdog_bite(); break;
     case E_CRYSTAL: chip_arm(event, NEVER); clocks_crystal_starts(); break;
+    case E_CUT: model_power_off(OFF_NS); break;
     case E_PLL: chip_arm(event, NEVER); clocks_pll_locks(); break;
     default: break;
     }

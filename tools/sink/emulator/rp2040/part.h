@@ -29,6 +29,6 @@ enum { IRQS = 26, IRQ_TIMER = 4 /* of the steps, which a slice of the PWM times 
        VECTORS_ALIGNED = 256 };
 
 /* What happens at a time. */
-enum { E_PWM, E_SENT, E_RECEIVED, E_DMA, E_WATCHDOG, E_CRYSTAL, E_PLL, E_HEARD, E_UNTIL, E_INPUTS, EVENTS };
+enum { E_PWM, E_SENT, E_RECEIVED, E_DMA, E_WATCHDOG, E_CRYSTAL, E_PLL, E_CUT, E_HEARD, E_UNTIL, E_INPUTS, EVENTS };
 
 #endif

@@ -18,6 +18,7 @@ enum { AT_TABLE = 0x100, AT_FIND = 0x200, AT_FUNCTIONS = 0x210, FUNCTION_BYTES =
 enum { FIND_CYCLES = 60, CALL_CYCLES = 200, ERASE_US = 45000, PROGRAM_US = 700, PAGE = 256 };
 enum { CONNECT, LEAVE, ERASE, PROGRAM, FLUSH, ENTER };
 
+static uint32_t cuts; /* after so many more changes of the flash power goes off amid one; 0 for never */
 static const char codes[FUNCTIONS][3] = {"IF", "EX", "RE", "RP", "FC", "CX"};
 
 static uint32_t crc32_of(const uint8_t *bytes, uint32_t size) {
@@ -94,24 +95,52 @@ static bool is_in_flash(uint32_t at, uint32_t size, uint32_t unit) {
     return is && !ssi_is_memory();
 }
 
+/* Power goes off in the midst of it, if that is to be: what it makes of each bit is chance. */
+static bool is_cut(const uint8_t *was, uint32_t at, uint32_t size) {
+    static uint32_t chance = 7;
+    if (cuts == 0) {
+        return false;
+    }
+    cuts--;
+    for (uint32_t each = 0; cuts == 0 && each < size; each++) {
+        chance = chance * 1664525 + 1013904223;
+        chip.flash[at + each] = (uint8_t)((was[each] & chance >> 24) | (chip.flash[at + each] & ~(chance >> 24)));
+    }
+    return cuts == 0;
+}
+
+static void change(uint32_t at, const uint8_t *to, uint32_t size, uint32_t takes_us) {
+    static uint8_t was[LOG_BYTES];
+    memcpy(was, chip.flash + at, size);
+    memcpy(chip.flash + at, to, size);
+    chip.now += takes_us * UNITS_A_US;
+    if (is_cut(was, at, size)) {
+        chip_arm(E_CUT, chip.now);
+    }
+}
+
 static void erase(uint32_t at, uint32_t size) {
-    if (is_in_flash(at, size, LOG_SECTOR)) {
-        memset(chip.flash + at, 0xff, size);
-        chip.now += size / LOG_SECTOR * ERASE_US * UNITS_A_US;
+    static uint8_t blank[LOG_BYTES];
+    memset(blank, 0xff, sizeof blank);
+    if (size > LOG_BYTES) {
+        violation("the ROM erases %u bytes at once, which isn't modelled", (unsigned)size);
+    } else if (is_in_flash(at, size, LOG_SECTOR)) {
+        change(at, blank, size, size / LOG_SECTOR * ERASE_US);
     }
 }
 
 /* Writing makes zeros. */
 static void program(uint32_t at, uint32_t from, uint32_t size) {
     uint32_t in_ram = from - RAM_AT;
-    if (!is_in_flash(at, size, PAGE) || in_ram >= RAM_BYTES || size > RAM_BYTES - in_ram) {
+    static uint8_t bytes[PAGE];
+    if (!is_in_flash(at, size, PAGE) || size != PAGE || in_ram >= RAM_BYTES || size > RAM_BYTES - in_ram) {
         violation("the ROM is to write %u bytes of %08x to the flash", (unsigned)size, (unsigned)from);
         return;
     }
-    for (uint32_t each = 0; each < size; each++) {
-        chip.flash[at + each] &= chip.ram[in_ram + each];
+    for (uint32_t each = 0; each < PAGE; each++) {
+        bytes[each] = chip.flash[at + each] & chip.ram[in_ram + each];
     }
-    chip.now += size / PAGE * PROGRAM_US * UNITS_A_US;
+    change(at, bytes, PAGE, PROGRAM_US);
 }
 
 static void call(uint32_t function) {
@@ -147,6 +176,10 @@ static uint32_t word_of(uint32_t slot) {
     uint32_t word = 0;
     memcpy(&word, chip.flash + FLASH_BYTES - LOG_BYTES + 4 * slot, 4);
     return word;
+}
+
+void rom_cut(uint32_t after) {
+    cuts = after;
 }
 
 uint16_t log_newest(void) {

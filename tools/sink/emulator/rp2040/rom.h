@@ -8,6 +8,9 @@
 /* The ROM's bytes that a program may read. */
 uint32_t rom_load(uint32_t address, uint32_t size);
 
+/* Power goes off amid the change of the flash that is the n-th from now on; its bits are chance then. 0 for never. */
+void rom_cut(uint32_t after);
+
 /* The newest number of the log of boots in the flash's last two sectors (docs/SINK.md), 0 where there is none; makes it
  * that number alone. */
 uint16_t log_newest(void);
