@@ -101,7 +101,7 @@ def build(folder: Path, edits: list[Edit]) -> str | None:
         assert old in text, f"{file} has no {old!r}"
         (folder / "sink" / file).write_text(text.replace(old, new))
     try:
-        make_chip(folder / "sink", folder / "out", "arm")
+        make_chip(folder / "sink", folder / "out", "stm32f103", "arm")
     except AssertionError:
         return None
     return str(folder / "out" / "stm32f103.elf")

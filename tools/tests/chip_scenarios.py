@@ -12,14 +12,13 @@ from pathlib import Path
 
 sys.path.insert(0, str(Path(__file__).resolve().parent))
 
-from chip_support import (CYCLES_A_TICK, HZ, MS_CYCLES, SLOPE, US, Chip, Driver, Edge, Pulse, Violation,  # noqa: E402
-                          chip_folder, pulses, setups, spindle)
+from chip_parts import BOARDS, Pin, Pulse, board_of, highs, setups  # noqa: E402
+from chip_support import MS_NS, S_NS, SLOPE, TICK_NS, US, Chip, Driver, Violation, elf_of, spindle  # noqa: E402
 from sink_frames import (ASKED, BROKEN, DEAD, INPUT, LEAST, NEW, NOTHING, OUTPUT, REST, RUNS, SILENT,  # noqa: E402
                          SPEED, STANDS, STOPPED, TOUCHED, WORD, slope_of)
 
 Step = tuple[int, int, int]  # ticks, axes, which of them count down
 Figures = dict[str, float]
-OUTPUT_PINS = (("A", 0), ("A", 1), ("A", 2), ("A", 3), ("A", 4), ("A", 5), ("B", 0), ("B", 1), ("B", 5), ("B", 7))
 LATE_US = 10
 MOST_LATE_US = 30  # that words make up for
 
@@ -46,20 +45,19 @@ def words_of(steps: list[Step], slope: int = 0x7f) -> Iterator[tuple[int, int]]:
 
 
 def lateness(steps: list[Step], made: list[Pulse]) -> list[int]:
-    """How many cycles each step that was made is later than the first, by its due time. All are made, in order."""
+    """How many ns each step that was made is later than the first, by its due time. All are made, in order."""
     wanted = [(axes, down & axes) for _, axes, down in steps]
     assert [(pulse.axes, pulse.down) for pulse in made] == wanted, "the pins made something else than was given"
     due, late = 0, []
     for (ticks, _, _), pulse in zip(steps, made):
-        late.append(pulse.cycle - made[0].cycle - due)
-        due += ticks * CYCLES_A_TICK
+        late.append(pulse.ns - made[0].ns - due)
+        due += ticks * TICK_NS
     return late
 
 
-def check_pins(edges: list[Edge]) -> Figures:
+def check_pins(chip: Chip) -> Figures:
     """Steps of at least 2 us, directions at least 5 us before them."""
-    before, _ = setups(edges)
-    high = [pulse.falls - pulse.cycle for pulse in pulses(edges) if pulse.falls]
+    before, high = setups(chip.board, chip.edges), highs(chip.board, chip.edges)
     assert min(before, default=5 * US) >= 5 * US, f"a direction only {min(before) / US:.2f} us before its step"
     assert not high or min(high) >= 2 * US, f"a step only {min(high) / US:.2f} us long"
     return {"setup_us": min(before, default=0) / US, "high_us": max(high, default=0) / US}
@@ -69,28 +67,28 @@ def in_time(driver: Driver, steps: list[Step]) -> Figures:
     """Plays steps: all are made in their times."""
     driver.give(words_of(steps))
     driver.play()
-    late = lateness(steps, pulses(driver.chip.edges))
+    late = lateness(steps, driver.chip.pulses())
     assert max(late) - min(late) < LATE_US * US, (min(late) / US, max(late) / US)
     assert driver.last.dry == 0, driver.last
     return {"spread_us": (max(late) - min(late)) / US}
 
 
-def left_on(edges: list[Edge]) -> list[tuple[str, int]]:
+def left_on(chip: Chip) -> list[Pin]:
     """The outputs that are high at the end."""
-    level = {(edge.port, edge.pin): edge.level for edge in edges}
-    return [pin for pin in OUTPUT_PINS if level.get(pin)]
+    level = {(edge.port, edge.pin): edge.level for edge in chip.edges}
+    return [pin for pin in chip.board.driven if level.get(pin)]
 
 
-def falls(edges: list[Edge], port: str, pin: int) -> list[int]:
-    """When a pin fell."""
-    return [edge.cycle for edge in edges if (edge.port, edge.pin, edge.level) == (port, pin, 0)]
+def off_at(chip: Chip) -> list[int]:
+    """When the spindle went off."""
+    return [edge.ns for edge in chip.edges if (edge.port, edge.pin) == chip.board.outputs[0] and not edge.level]
 
 
 def check_ramp(made: list[Pulse]) -> None:
     """They come to rest by the slopes: over each 8 steps the square of the rate loses no more than they allow, but for
     two ticks in each, and the last one is slow."""
     slope = slope_of(SLOPE << 24)
-    squares = [2 ** 42 / ((after.cycle - at.cycle) / CYCLES_A_TICK) ** 2 for at, after in zip(made, made[1:])]
+    squares = [2 ** 42 / ((after.ns - at.ns) / TICK_NS) ** 2 for at, after in zip(made, made[1:])]
     for before, after in zip(squares, squares[8:]):
         noise = 8 * before / (2 ** 21 / before ** 0.5)
         assert before - after < 8 * 1.1 * slope + noise, f"from a square of {before:.0f} to {after:.0f}"
@@ -101,18 +99,18 @@ def boot(elf: str) -> Figures:
     """Power on: the clocks, all outputs low, an answer each 5 ms."""
     driver = Driver(Chip(elf))
     chip = driver.chip
-    chip.run(200 * MS_CYCLES)
+    chip.run(200 * MS_NS)
     driver.hear()
-    assert not [edge for edge in chip.edges if (edge.port, edge.pin) in OUTPUT_PINS or edge.port == "P"], chip.edges[:5]
-    figures = {name: chip.figure(name) for name in ("hclk_hz", "apb1_hz", "baud", "tick_hz", "pwm_hz", "boots")}
-    assert figures == {"hclk_hz": HZ, "apb1_hz": HZ // 2, "baud": 2_000_000, "tick_hz": 8_000_000, "pwm_hz": 10_000,
-                       "boots": 1}, figures
-    ends = [cycle for cycle, byte in chip.heard if byte == 0]
+    is_driven = [edge for edge in chip.edges if (edge.port, edge.pin) in chip.board.driven or edge.port == "P"]
+    assert not is_driven, is_driven[:5]
+    figures = {name: chip.figure(name) for name in (*chip.board.clocks, "boots")}
+    assert figures == {**chip.board.clocks, "boots": 1}, figures
+    ends = [ns for ns, byte in chip.heard if byte == 0]
     assert len(ends) > 20, f"{len(ends)} answers"
-    off = max(abs(after - at - 5 * MS_CYCLES) for at, after in zip(ends, ends[1:]))
-    assert off < 0.1 * MS_CYCLES, "an answer isn't sent each 5 ms"
-    first = next(cycle for cycle, _ in chip.heard)
-    return {"first_byte_ms": first / MS_CYCLES, "burst_us": len(chip.heard) // len(ends) * 5,
+    off = max(abs(after - at - 5 * MS_NS) for at, after in zip(ends, ends[1:]))
+    assert off < 0.1 * MS_NS, "an answer isn't sent each 5 ms"
+    first = next(ns for ns, _ in chip.heard)
+    return {"first_byte_ms": first / MS_NS, "burst_us": len(chip.heard) // len(ends) * 5,
             "poll_us": chip.figure("hunger_us")}
 
 
@@ -124,13 +122,13 @@ def worked_frame(elf: str) -> Figures:
     assert driver.session == 65537
     at = driver.chip.now
     driver.chip.send(bytes.fromhex(block))
-    driver.pump(10 * MS_CYCLES)
-    made = pulses(driver.chip.edges)
+    driver.pump(10 * MS_NS)
+    made = driver.chip.pulses()
     assert [(pulse.axes, pulse.down) for pulse in made] == [(1, 0), (2, 2)], made
-    gap = (made[1].cycle - made[0].cycle) / US
+    gap = (made[1].ns - made[0].ns) / US
     assert 39.8 <= gap < 47, gap
-    assert made[0].cycle - at < MS_CYCLES, f"the first step comes {(made[0].cycle - at) / MS_CYCLES:.1f} ms after it"
-    return {"gap_us": gap} | check_pins(driver.chip.edges)
+    assert made[0].ns - at < MS_NS, f"the first step comes {(made[0].ns - at) / MS_NS:.1f} ms after it"
+    return {"gap_us": gap} | check_pins(driver.chip)
 
 
 def even_steps(elf: str) -> Figures:
@@ -138,7 +136,7 @@ def even_steps(elf: str) -> Figures:
     driver = begun(elf)
     figures = in_time(driver, [(8000, 1, 0)] * 1000)
     assert figures["spread_us"] < 0.5, figures
-    return figures | check_pins(driver.chip.edges)
+    return figures | check_pins(driver.chip)
 
 
 def all_axes(elf: str) -> Figures:
@@ -146,38 +144,37 @@ def all_axes(elf: str) -> Figures:
     driver = begun(elf)
     chance = random.Random(1)
     figures = in_time(driver, even(10_000, 6000, lambda number: (chance.randint(1, 7), chance.randint(0, 7))))
-    return figures | check_pins(driver.chip.edges)
+    return figures | check_pins(driver.chip)
 
 
 def still_directions(elf: str) -> Figures:
     """X down and Y up in turns: a direction pin changes only where its axis goes the other way."""
     driver = begun(elf)
     figures = in_time(driver, even(10_000, 2000, lambda number: ((1, 1), (2, 0))[number % 2]))
-    changes = sum(edge.port == "A" and edge.pin in (1, 3, 5) for edge in driver.chip.edges)
+    changes = sum((edge.port, edge.pin) in driver.chip.board.directions for edge in driver.chip.edges)
     assert changes <= 2, f"{changes} changes of direction pins for axes that keep their directions"
     return figures | {"changes": changes}
 
 
-def outputs_of_pins(edges: list[Edge]) -> tuple[int, int, int, int, int]:
+def outputs_of_pins(chip: Chip) -> tuple[int, ...]:
     """Clockwise, counter-clockwise, mist, flood and duty at the end."""
-    level = {(edge.port, edge.pin): edge.level for edge in edges}
-    cw, ccw, mist, flood, duty = (level.get(pin, 0) for pin in (("B", 0), ("B", 1), ("B", 5), ("B", 7), ("P", 6)))
-    return cw, ccw, mist, flood, duty
+    level = {("P" if edge.port == "P" else (edge.port, edge.pin)): edge.level for edge in chip.edges}
+    return tuple(level.get(pin, 0) for pin in (*chip.board.outputs, "P"))
 
 
 def switches(elf: str) -> Figures:
     """Each combination of spindle, mist and flood, and speeds, at their pins."""
-    driver = begun(elf)
+    driver, steps = begun(elf), board_of(elf).duty_steps
     for rpm in (0, 1, 10, 1200, 24_000, 30_000, 12_000.5, 23_999, 2 ** 24 - 1):
         for which in range(12):
             direction, mist, flood = which % 3, which // 3 % 2, which // 6
             driver.give(spindle(direction, int(rpm * 1_000_000), mist, flood))
             driver.play()
-            driver.pump(MS_CYCLES)
-            duty = 0 if direction == 0 else min(int(rpm * 7200 / 24000), 7200)
-            pins = outputs_of_pins(driver.chip.edges)
+            driver.pump(MS_NS)
+            duty = 0 if direction == 0 else min(int(rpm * steps / 24000), steps)
+            pins = outputs_of_pins(driver.chip)
             assert pins == (direction == 1, direction == 2, mist, flood, duty), (rpm, which, pins)
-    return {"handler_us": driver.chip.figure("handler_cycles") / US}
+    return {"handler_us": driver.chip.figure("handler_ns") / US}
 
 
 def speeds(elf: str) -> Figures:
@@ -192,7 +189,7 @@ def speeds(elf: str) -> Figures:
         given.insert(at, ((1000 + at) * 128, OUTPUT | SPEED))
     driver.give(given)
     driver.play()
-    late = lateness(steps, pulses(driver.chip.edges))
+    late = lateness(steps, driver.chip.pulses())
     duties = sum(edge.port == "P" for edge in driver.chip.edges)
     assert duties > 100 and max(late) - min(late) < LATE_US * US, (duties, min(late), max(late))
     return {"spread_us": (max(late) - min(late)) / US, "duties": duties}
@@ -211,7 +208,7 @@ def short_words(elf: str) -> Figures:
                                                               (chance.randint(360, 420), 1, turns and ~pair & 1))]
             driver.give(words_of(steps))
             driver.play()
-            off = lateness(steps, pulses(driver.chip.edges))
+            off = lateness(steps, driver.chip.pulses())
             early, late = min(early, *off), max(late, *off)
         empty += driver.chip.figure("spurious")
     assert early > -US, f"a step is {-early / US:.1f} us early"
@@ -225,17 +222,17 @@ def pulled(elf: str) -> Figures:
     chip = driver.chip
     at = driver.move(ms=300)
     chip.model.serial_pull(True)
-    chip.run(700 * MS_CYCLES)
+    chip.run(700 * MS_NS)
     chip.model.serial_pull(False)
     answer = driver.await_answer()
-    made = pulses(chip.edges)
-    after = [pulse for pulse in made if pulse.cycle > at]
+    made = chip.pulses()
+    after = [pulse for pulse in made if pulse.ns > at]
     assert (answer.state, answer.fault) == (STOPPED, SILENT), answer
     assert answer.made - driver.base == len(made) + 2, (answer, len(made))
     check_ramp(after)
-    off = falls(chip.edges, "B", 0)
-    assert off and 490 * MS_CYCLES < off[-1] - at < 520 * MS_CYCLES, "the outputs aren't off after 500 ms"
-    return {"steps_after": len(after), "off_after_ms": (off[-1] - at) / MS_CYCLES}
+    off = off_at(chip)
+    assert off and 490 * MS_NS < off[-1] - at < 520 * MS_NS, "the outputs aren't off after 500 ms"
+    return {"steps_after": len(after), "off_after_ms": (off[-1] - at) / MS_NS}
 
 
 def spoiled(chance: random.Random) -> Callable[[bytes], bytes]:
@@ -256,7 +253,7 @@ def damaged(elf: str) -> Figures:
     steps = even(10_000, 10_000, lambda number: (1 + number % 7, number // 100 % 8))
     driver.give(words_of(steps))
     answer = driver.play()
-    lateness(steps, pulses(driver.chip.edges))
+    lateness(steps, driver.chip.pulses())
     assert answer.lost > 5, answer
     return {"lost": answer.lost, "dry": answer.dry}
 
@@ -273,7 +270,7 @@ def noise(elf: str) -> Figures:
             driver.chip.send(chance.randbytes(chance.randrange(60)))
         driver.pump()
     driver.play()
-    lateness(steps, pulses(driver.chip.edges))
+    lateness(steps, driver.chip.pulses())
     return {"lost": driver.last.lost, "dry": driver.last.dry}
 
 
@@ -282,8 +279,8 @@ def bad_word(elf: str) -> Figures:
     driver = begun(elf)
     driver.move(ms=50)
     driver.chip.send(driver.frame(driver.sent, [(LEAST - 1, 1)]))
-    driver.pump(200 * MS_CYCLES)
-    made = pulses(driver.chip.edges)
+    driver.pump(200 * MS_NS)
+    made = driver.chip.pulses()
     assert (driver.last.state, driver.last.fault) == (STOPPED, WORD), driver.last
     assert driver.last.made - driver.base == len(made) + 2
     check_ramp(made[-40:])
@@ -298,12 +295,12 @@ def input_stops(elf: str) -> Figures:
         driver.begin(stops=4)
         driver.chip.edges.clear()
         at = driver.move(rate, 100) + delay * US
-        driver.chip.model.model_turn_at(at, 10, 1)
-        driver.pump(5 * MS_CYCLES)
+        driver.chip.model.model_turn_at(at, 2, 1)
+        driver.pump(5 * MS_NS)
         answer = driver.await_answer()
         assert driver.has_stopped() and (answer.fault, answer.inputs) == (INPUT, 4), answer
-        last_us = max(last_us, (pulses(driver.chip.edges)[-1].cycle - at) / US)
-        off_us = max(off_us, (falls(driver.chip.edges, "B", 0)[-1] - at) / US)
+        last_us = max(last_us, (driver.chip.pulses()[-1].ns - at) / US)
+        off_us = max(off_us, (off_at(driver.chip)[-1] - at) / US)
     assert last_us <= 1000 and off_us <= 1000, (last_us, off_us)
     return {"last_step_after_us": last_us, "outputs_off_after_us": off_us}
 
@@ -311,14 +308,14 @@ def input_stops(elf: str) -> Figures:
 def input_halts(elf: str) -> Figures:
     """An input that brings to rest, and is on while low: by the slopes, and the answer has the count of then."""
     driver = begun(elf, ahead=900)
-    driver.chip.model.pins_turn(1, 15, True)
+    driver.chip.model.model_turn_inputs(0x80)
     driver.begin(halts=0x80, low=0x80)
     driver.chip.edges.clear()
     at = driver.move(ms=100)
-    driver.chip.model.model_turn_at(at, 15, 0)
-    driver.pump(200 * MS_CYCLES)
-    answer, made = driver.last, pulses(driver.chip.edges)
-    before = sum(pulse.cycle <= at for pulse in made)
+    driver.chip.model.model_turn_at(at, 7, 0)
+    driver.pump(200 * MS_NS)
+    answer, made = driver.last, driver.chip.pulses()
+    before = sum(pulse.ns <= at for pulse in made)
     assert (answer.state, answer.fault) == (STOPPED, TOUCHED), answer
     assert answer.made - driver.base == len(made) + 2
     assert 0 <= answer.touched - driver.base - 2 - before <= 1, (answer, before)
@@ -333,18 +330,18 @@ def stops(elf: str) -> Figures:
         driver = begun(elf, ahead=900)
         at = driver.move(ms=100)
         driver.stop(at_once)
-        driver.pump(200 * MS_CYCLES)
-        made = pulses(driver.chip.edges)
+        driver.pump(200 * MS_NS)
+        made = driver.chip.pulses()
         assert (driver.last.state, driver.last.fault) == wanted, driver.last
         assert driver.last.made - driver.base == len(made) + 2
-        figures[name] = (made[-1].cycle - at) / MS_CYCLES
+        figures[name] = (made[-1].ns - at) / MS_NS
     assert figures["dead_ms"] <= 1.5 and figures["slopes_ms"] > 20, figures
     return figures
 
 
 def check_new(driver: Driver, session: int) -> None:
     """The chip has started again: all is off, and it begins as it began first."""
-    assert not left_on(driver.chip.edges), left_on(driver.chip.edges)
+    assert not left_on(driver.chip), left_on(driver.chip)
     answer = driver.await_answer()
     assert (answer.session, answer.state, answer.made, answer.fault) == (session, NEW, 0, NOTHING), answer
     driver.begin()
@@ -361,8 +358,8 @@ def reset_amid(elf: str) -> Figures:
     for _ in range(60):
         driver.push()  # goes on with its old session
         driver.pump()
-    high = [edge for edge in driver.chip.edges if edge.cycle > at + US and edge.level
-            and (edge.port, edge.pin) in OUTPUT_PINS]
+    high = [edge for edge in driver.chip.edges if edge.ns > at + US and edge.level
+            and (edge.port, edge.pin) in driver.chip.board.driven]
     assert not high, high[:3]
     check_new(driver, 2 << 16)
     return {}
@@ -373,8 +370,8 @@ def power(elf: str) -> Figures:
     for battery in (1, 0):
         driver = begun(elf, battery=battery)
         driver.move(ms=50)
-        driver.chip.model.model_power_off(50 * MS_CYCLES)
-        driver.pump(50 * MS_CYCLES)
+        driver.chip.model.model_power_off(50 * MS_NS)
+        driver.pump(50 * MS_NS)
         check_new(driver, (1 + battery) << 16)
     return {}
 
@@ -382,8 +379,8 @@ def power(elf: str) -> Figures:
 def crystal(elf: str) -> Figures:
     """The crystal doesn't start: nothing is said, and no output is on."""
     chip = Chip(elf, hse_hz=0)
-    chip.run(300 * MS_CYCLES)
-    assert not chip.heard and not [edge for edge in chip.edges if edge.port in "ABP"]
+    chip.run(300 * MS_NS)
+    assert not chip.heard and not [edge for edge in chip.edges if edge.port != "R"]
     return {}
 
 
@@ -396,19 +393,24 @@ def baud(elf: str) -> Figures:
     return {}
 
 
+def oscillators(elf: str) -> tuple[int, int]:
+    """The watchdog's slowest and fastest."""
+    return board_of(elf).slow_hz, board_of(elf).fast_hz
+
+
 def watchdog(elf: str) -> Figures:
     """A fault of the core amid motion: the watchdog resets, and all is off. By its slowest and fastest oscillator."""
     figures = {}
-    for lsi in (30_000, 60_000):
+    for lsi in oscillators(elf):
         driver = begun(elf, lsi_hz=lsi)
         at = driver.move(ms=100)
         driver.chip.model.model_fault()
-        driver.pump(200 * MS_CYCLES)
-        resets = [edge.cycle for edge in driver.chip.edges if edge.port == "R"]
-        late = [pulse for pulse in pulses(driver.chip.edges) if pulse.cycle > at]
+        driver.pump(200 * MS_NS)
+        resets = [edge.ns for edge in driver.chip.edges if edge.port == "R"]
+        late = [pulse for pulse in driver.chip.pulses() if pulse.ns > at]
         assert len(resets) == 1 and not late, (resets, late[:2])
         check_new(driver, 2 << 16)
-        figures[f"bites_ms_{lsi // 1000}"] = (resets[0] - at) / MS_CYCLES
+        figures[f"bites_ms_{lsi // 1000}"] = (resets[0] - at) / MS_NS
     return figures
 
 
@@ -424,20 +426,20 @@ def hung(elf: str) -> Figures:
     """The main loop hangs amid 20,000 steps a second: the timer brings the motors to rest by the slopes, then the
     watchdog resets. By its slowest and fastest oscillator."""
     figures = {}
-    for lsi in (30_000, 60_000):
+    for lsi in oscillators(elf):
         driver = begun(elf, ahead=2000, lsi_hz=lsi)
         chip = driver.chip
         at = driver.move(20_000, 150)
         chip.model.model_go_astray(chip.model.model_symbol(b"hang", None))
-        driver.pump(400 * MS_CYCLES)
-        made = [pulse for pulse in pulses(chip.edges) if pulse.cycle > at]
-        resets = [edge.cycle for edge in chip.edges if edge.port == "R"]
-        off = falls(chip.edges, "B", 0)
-        assert len(resets) == 1 and made[-1].cycle < off[-1] < resets[0], (made[-1:], off[-1:], resets)
+        driver.pump(400 * MS_NS)
+        made = [pulse for pulse in chip.pulses() if pulse.ns > at]
+        resets = [edge.ns for edge in chip.edges if edge.port == "R"]
+        off = off_at(chip)
+        assert len(resets) == 1 and made[-1].ns < off[-1] < resets[0], (made[-1:], off[-1:], resets)
         check_ramp(made)
         check_new(driver, 2 << 16)
-        figures[f"rests_ms_{lsi // 1000}"] = (made[-1].cycle - at) / MS_CYCLES
-        figures[f"bites_ms_{lsi // 1000}"] = (resets[0] - at) / MS_CYCLES
+        figures[f"rests_ms_{lsi // 1000}"] = (made[-1].ns - at) / MS_NS
+        figures[f"bites_ms_{lsi // 1000}"] = (resets[0] - at) / MS_NS
     return figures
 
 
@@ -448,11 +450,11 @@ def debounced(elf: str) -> Figures:
     driver.chip.edges.clear()
     at = driver.move(10_000, 100)
     for after_us, is_open in ((100, 1), (300, 0), (20_000, 1)):
-        driver.chip.model.model_turn_at(at + after_us * US, 10, is_open)
-    driver.pump(15 * MS_CYCLES)
+        driver.chip.model.model_turn_at(at + after_us * US, 2, is_open)
+    driver.pump(15 * MS_NS)
     assert (driver.last.state, driver.last.fault) == (RUNS, NOTHING), driver.last
-    driver.pump(20 * MS_CYCLES)
-    last = (pulses(driver.chip.edges)[-1].cycle - at) / US - 20_000
+    driver.pump(20 * MS_NS)
+    last = (driver.chip.pulses()[-1].ns - at) / US - 20_000
     assert (driver.last.state, driver.last.fault) == (BROKEN, INPUT) and 800 < last < 2100, (driver.last, last)
     return {"last_step_after_us": last}
 
@@ -462,16 +464,16 @@ def storm(elf: str) -> Figures:
     evenly; those behind them take their own times, but for 30 us; the main loop has its turn."""
     figures = {}
     for way, how in WAYS.items():
-        driver = begun(elf, ahead=2040, lsi_hz=60_000)
+        driver = begun(elf, ahead=2040, lsi_hz=oscillators(elf)[1])
         steps = [(800_000, 1, 0)] + [(LEAST, *how(number)) for number in range(1500)]
         slower = even(10_000, 400, how)
         driver.give(words_of(steps + slower))
         driver.play()
-        made = pulses(driver.chip.edges)
+        made = driver.chip.pulses()
         lateness(steps + slower, made)
-        gaps = [(after.cycle - at.cycle) / US for at, after in zip(made[1:], made[2:])]
+        gaps = [(after.ns - at.ns) / US for at, after in zip(made[1:], made[2:])]
         assert max(gaps[:1500]) < 100, f"{way}: {max(gaps[:1500]):.0f} us between two of the shortest words"
-        lasted = (made[-1].cycle - made[len(steps)].cycle) / US - 100 * (len(slower) - 1)
+        lasted = (made[-1].ns - made[len(steps)].ns) / US - 100 * (len(slower) - 1)
         assert abs(lasted) < MOST_LATE_US + LATE_US, f"{way}: the words behind take {lasted:.0f} us more"
         assert driver.is_done and driver.last.state == STANDS and driver.chip.figure("resets") == 0, driver.last
         figures[f"{way}_us"] = sum(gaps[:1500]) / 1500
@@ -483,7 +485,7 @@ def storm(elf: str) -> Figures:
 def flood(elf: str) -> Figures:
     """1,900 speeds in a row, which last no time, and a line that is full all the time: nothing is made twice or left
     out, and the watchdog doesn't bite."""
-    driver = begun(elf, ahead=2040, lsi_hz=60_000)
+    driver = begun(elf, ahead=2040, lsi_hz=oscillators(elf)[1])
     driver.give(spindle(1, 5_000_000_000))
     driver.play()
     driver.chip.edges.clear()
@@ -496,7 +498,7 @@ def flood(elf: str) -> Figures:
             driver.chip.send(driver.frame(driver.sent, []))
         driver.pump()
     driver.play()
-    late = lateness(steps, pulses(driver.chip.edges))
+    late = lateness(steps, driver.chip.pulses())
     assert driver.last.state == STANDS and driver.chip.figure("resets") == 0, driver.last
     return {"late_us": max(late) / US, "poll_us": driver.chip.figure("hunger_us"), "lost": driver.last.lost}
 
@@ -507,8 +509,8 @@ def is_in_time(elf: str, rate: int, way: str, seconds: float = 0.5) -> bool:
     steps = even(rate, int(rate * seconds), WAYS[way])
     driver.give(words_of(steps))
     driver.play(seconds * 3)
-    made = pulses(driver.chip.edges)
-    late = lateness(steps, made) if len(made) == len(steps) else [0, HZ]
+    made = driver.chip.pulses()
+    late = lateness(steps, made) if len(made) == len(steps) else [0, S_NS]
     return max(late) - min(late) < LATE_US * US
 
 
@@ -542,7 +544,7 @@ def long(elf: str, count: int = 100_000) -> Figures:
         axes = chance.randint(1, 7)
         steps.append((int(now), axes, (number // 4000) & axes))
     figures = in_time(driver, steps)
-    named = ("latency_cycles", "handler_cycles", "stack_bytes", "room_bytes", "hunger_us")
+    named = ("latency_ns", "handler_ns", "stack_bytes", "room_bytes", "hunger_us")
     return figures | {name: driver.chip.figure(name) for name in named}
 
 
@@ -561,16 +563,17 @@ def told(scenario: Callable[[str], Figures], elf: str) -> tuple[str, bool]:
     return json.dumps(figures), True
 
 
-def main(*names: str) -> int:
-    """Runs what is named."""
-    elf = str(chip_folder() / "stm32f103.elf")
-    every = [each for each in (*QUICK, *SLOW) if not names or each.__name__ in names]
+def main(*words: str) -> int:
+    """Runs what is named: boards, stm32f103 where there is none, and scenarios."""
+    boards = [word for word in words if word in BOARDS] or ["stm32f103"]
+    names = [word for word in words if word not in BOARDS]
+    every = [(board, each) for board in boards for each in (*QUICK, *SLOW) if not names or each.__name__ in names]
     failed = 0
-    for scenario in every:
+    for board, scenario in every:
         begun_at = time.process_time()
-        said, holds = told(scenario, elf)
+        said, holds = told(scenario, elf_of(board))
         failed += not holds
-        print(f"{scenario.__name__:16} {time.process_time() - begun_at:6.1f} s  {said}", flush=True)
+        print(f"{board} {scenario.__name__:16} {time.process_time() - begun_at:6.1f} s  {said}", flush=True)
     print(f"{len(every) - failed} of {len(every)} hold")
     return 1 if failed or not every else 0
 

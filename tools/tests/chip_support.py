@@ -9,8 +9,8 @@ from collections.abc import Iterable
 from dataclasses import dataclass, field
 from functools import cache
 from pathlib import Path
-from typing import NamedTuple
 
+from chip_parts import BOARDS, Edge, Pulse, board_of, pulses
 from player_support import builds
 from session_support import TOOLS
 from sink_frames import (BROKEN, MS, NOTHING, REST, RUNS, STANDS, STOPPED, Answer, answer_of, begin_frame, stop_frame,
@@ -18,9 +18,8 @@ from sink_frames import (BROKEN, MS, NOTHING, REST, RUNS, STANDS, STOPPED, Answe
 
 SINK = TOOLS / "sink"
 COMPILER = "arm-none-eabi-gcc"
-CYCLES_A_TICK = 9
-US, MS_CYCLES, HZ = 72, 72_000, 72_000_000
-STEP_PINS, DIRECTION_PINS = (0, 2, 4), (1, 3, 5)
+TICK_NS = 125
+US, MS_NS, S_NS = 1000, 1_000_000, 1_000_000_000
 SLOPE = 0x5c  # the byte of some 200,000 steps/s2
 TAKES_TOKENS = iter(range(100, 1 << 32))
 
@@ -31,31 +30,28 @@ def has_compiler() -> bool:
 
 
 @cache
-def chip_folder() -> Path:
-    """The folder of stm32f103.elf, emulate and libchip.so: built once for all tests of a run."""
-    folder = Path(builds(), "chip")
+def chip_folder(board: str = "stm32f103") -> Path:
+    """The folder of a board's ELF, emulate-CHIP and libCHIP.so: built once for all tests of a run."""
+    folder = Path(builds(), f"chip-{board}")
     with open(f"{folder}.lock", "w") as lock:
         fcntl.flock(lock, fcntl.LOCK_EX)
         if not folder.exists():
-            make_chip(SINK, Path(f"{folder}.part"))
+            make_chip(SINK, Path(f"{folder}.part"), board)
             os.rename(f"{folder}.part", folder)
     return folder
 
 
-def make_chip(sink: Path, folder: Path, target: str = "emulate") -> None:
+def elf_of(board: str) -> str:
+    """The path of a board's ELF."""
+    return str(chip_folder(board) / f"{board}.elf")
+
+
+def make_chip(sink: Path, folder: Path, board: str, target: str = "emulate") -> None:
     """Has make build it of a folder as tools/sink is."""
-    done = subprocess.run(["make", "-C", sink, f"OUT={folder}", target], capture_output=True, text=True)
+    words = ["make", "-C", sink, f"OUT={folder}", f"BOARD={board}", target]
+    done = subprocess.run(words, capture_output=True, text=True)
     if done.returncode:
         raise AssertionError("tools/sink isn't built:\n" + done.stderr)
-
-
-class Edge(NamedTuple):
-    """What a pin did: PORT is A or B, P the duty of the PWM, R a reset."""
-
-    cycle: int
-    port: str
-    pin: int
-    level: int
 
 
 class Violation(AssertionError):
@@ -63,21 +59,22 @@ class Violation(AssertionError):
 
 
 class _Edge(ctypes.Structure):
-    _fields_ = [("cycle", ctypes.c_uint64), ("port", ctypes.c_uint8), ("pin", ctypes.c_uint8),
+    _fields_ = [("ns", ctypes.c_uint64), ("port", ctypes.c_uint8), ("pin", ctypes.c_uint8),
                 ("level", ctypes.c_uint16)]
 
 
-SURROUNDINGS = {"baud": 2_000_000, "lsi_hz": 40_000, "hse_hz": 8_000_000, "hse_us": 2000, "battery": 1,
-                "matches_at_once": 0, "branch_cycles": 2}
+SURROUNDINGS = {"baud": 2_000_000, "hse_us": 2000, "battery": 1, "matches_at_once": 0, "branch_cycles": 2}
 ROOM = 65_536
 
 
-def library() -> ctypes.CDLL:
-    """The model, with its types (tools/sink/emulator/model.h)."""
-    found = ctypes.CDLL(str(chip_folder() / "libchip.so"))
+@cache
+def library(name: str) -> ctypes.CDLL:
+    """The model of a board's chip, with its types (tools/sink/emulator/model.h)."""
+    found = ctypes.CDLL(str(chip_folder(name) / f"lib{BOARDS[name].chip}.so"))
     found.model_load.restype = found.model_run.restype = found.model_set.restype = ctypes.c_bool
     found.model_run.argtypes = found.model_power_off.argtypes = [ctypes.c_uint64]
     found.model_turn_at.argtypes = [ctypes.c_uint64, ctypes.c_int, ctypes.c_int]
+    found.model_turn_inputs.argtypes = [ctypes.c_uint32]
     found.model_symbol.argtypes = [ctypes.c_char_p, ctypes.c_void_p]
     found.model_set.argtypes = [ctypes.c_char_p, ctypes.c_uint64]
     found.model_figure.argtypes = [ctypes.c_char_p]
@@ -85,26 +82,27 @@ def library() -> ctypes.CDLL:
     found.serial_send.argtypes = [ctypes.c_char_p, ctypes.c_size_t]
     found.serial_heard.argtypes = [ctypes.c_void_p, ctypes.c_void_p, ctypes.c_size_t]
     found.told_edges.argtypes = [ctypes.c_void_p, ctypes.c_size_t]
-    for name in ("model_cycle", "model_figure", "serial_sending", "serial_heard", "told_edges"):
+    for name in ("model_ns", "model_figure", "serial_sending", "serial_heard", "told_edges"):
         getattr(found, name).restype = ctypes.c_uint64
     return found
 
 
 class Chip:
-    """An STM32F103C8 with a firmware. The environment's CHIP may have surroundings, as in "branch_cycles=4"."""
+    """A chip with a firmware. The environment's CHIP may have surroundings, as in "branch_cycles=4"."""
 
     def __init__(self, elf: Path | str, **surroundings: int) -> None:
         """Puts power on."""
-        self.model = library()
+        self.board = board_of(elf)
+        self.model = library(self.board.name)
         given = dict(each.split("=") for each in os.environ.get("CHIP", "").split())
-        for name, value in {**SURROUNDINGS, **given, **surroundings, "clear_figures": 1}.items():
+        for name, value in {**SURROUNDINGS, **self.board.around, **given, **surroundings, "clear_figures": 1}.items():
             self.set(name, int(value))
         if not self.model.model_load(str(elf).encode()):
             raise Violation(f"{elf}: not an ELF for this chip")
         self.edges: list[Edge] = []
         self.heard: list[tuple[int, int]] = []
         self._bytes = (ctypes.c_uint8 * ROOM)()
-        self._cycles = (ctypes.c_uint64 * ROOM)()
+        self._times = (ctypes.c_uint64 * ROOM)()
         self._edges = (_Edge * ROOM)()
         self.model.model_power_on()
 
@@ -118,22 +116,26 @@ class Chip:
 
     @property
     def now(self) -> int:
-        """Cycles of 72 MHz since power came on."""
-        return self.model.model_cycle()
+        """Nanoseconds since power came on."""
+        return self.model.model_ns()
 
-    def run(self, cycles: float) -> None:
+    def run(self, ns: float) -> None:
         """Lets it run."""
-        is_good = self.model.model_run(int(cycles))
+        is_good = self.model.model_run(int(ns))
         self.take()
         if not is_good:
             raise Violation(self.model.told_violation().decode())
 
     def take(self) -> None:
         """Takes what it said and did."""
-        while count := self.model.serial_heard(self._bytes, self._cycles, ROOM):
-            self.heard += zip(self._cycles[:count], self._bytes[:count])
+        while count := self.model.serial_heard(self._bytes, self._times, ROOM):
+            self.heard += zip(self._times[:count], self._bytes[:count])
         while count := self.model.told_edges(self._edges, ROOM):
-            self.edges += [Edge(edge.cycle, chr(edge.port), edge.pin, edge.level) for edge in self._edges[:count]]
+            self.edges += [Edge(edge.ns, chr(edge.port), edge.pin, edge.level) for edge in self._edges[:count]]
+
+    def pulses(self) -> list[Pulse]:
+        """The pulses of its step pins."""
+        return pulses(self.board, self.edges)
 
     def send(self, line: bytes) -> None:
         """Sends bytes over the line, as soon as it is free."""
@@ -179,15 +181,15 @@ class Driver:
         """The newest answer."""
         return self.answers[-1]
 
-    def pump(self, cycles: float = MS_CYCLES // 2) -> None:
+    def pump(self, ns: float = MS_NS // 2) -> None:
         """Lets the chip run, and hears it."""
-        self.chip.run(cycles)
+        self.chip.run(ns)
         self.hear()
 
     def await_answer(self) -> Answer:
         """A new answer, within 30 ms."""
         count = len(self.answers)
-        until = self.chip.now + 30 * MS_CYCLES
+        until = self.chip.now + 30 * MS_NS
         while len(self.answers) == count:
             assert self.chip.now < until, "the sink doesn't answer"
             self.pump()
@@ -198,7 +200,7 @@ class Driver:
         answer = self.await_answer()
         token = next(TAKES_TOKENS)
         frame = begin_frame(answer.session, token=token, **inputs)
-        until = self.chip.now + 300 * MS_CYCLES
+        until = self.chip.now + 300 * MS_NS
         while answer.token != token or answer.state != STANDS:
             assert self.chip.now < until, f"no session: {answer}"
             self.chip.send(frame)
@@ -229,7 +231,7 @@ class Driver:
             made = (answer.made - self.base) & 0xffffffff
             while self.sent < len(self.words) and self.sent - made < self.ahead and self.chip.sending < 600:
                 self._send(min(48, len(self.words) - self.sent, self.ahead - (self.sent - made)))
-        if self.chip.now - self._spoke > 5 * MS_CYCLES and not self.chip.sending:
+        if self.chip.now - self._spoke > 5 * MS_NS and not self.chip.sending:
             self._send(0)
 
     def _send(self, count: int) -> None:
@@ -246,17 +248,17 @@ class Driver:
 
     def play(self, seconds: float = 60) -> Answer:
         """Sends all words, until they are made, or the sink stops."""
-        until = self.chip.now + int(seconds * HZ)
+        until = self.chip.now + int(seconds * S_NS)
         while self.chip.now < until and not self.is_done and self.last.state in (STANDS, RUNS):
             self.push()
             self.pump()
         return self.last
 
     def move(self, rate: int = 10_000, ms: int = 300) -> int:
-        """Lets it move at an even rate, with the spindle on; the cycle."""
+        """Lets it move at an even rate, with the spindle on; the time."""
         self.give(spindle(1, 12_000_000_000, 1, 1))
         self.give([(MS * 1000 // rate | SLOPE << 24, 1)] * rate)
-        until = self.chip.now + ms * MS_CYCLES
+        until = self.chip.now + ms * MS_NS
         while self.chip.now < until:
             self.push()
             self.pump()
@@ -272,51 +274,3 @@ def spindle(direction: int, speed: int, mist: int = 0, flood: int = 0) -> list[t
     """The two words of outputs; the speed in millionths."""
     high = direction | mist << 2 | flood << 3 | (speed >> 32) << 20
     return [(speed & 0xffffffff, 0x80 | REST), (high, 0x80 | REST | 1)]
-
-
-class Pulse(NamedTuple):
-    """A pulse of the step pins: when it rises, whose, which of them count down, when the last of them falls."""
-
-    cycle: int
-    axes: int
-    down: int
-    falls: int
-
-
-def pulses(edges: list[Edge]) -> list[Pulse]:
-    """The pulses of the step pins."""
-    level = dict.fromkeys((*STEP_PINS, *DIRECTION_PINS), 0)
-    found: list[Pulse] = []
-    for cycle, port, pin, high in edges:
-        if port == "R":
-            level = dict.fromkeys(level, 0)
-        if port != "A" or pin not in level:
-            continue
-        level[pin] = high
-        if pin in DIRECTION_PINS:
-            continue
-        axis = STEP_PINS.index(pin)
-        last = found[-1] if found else Pulse(-1, 0, 0, 0)
-        if not high:
-            found[-1] = last._replace(falls=cycle)
-            continue
-        if last.cycle == cycle:
-            found.pop()
-        else:
-            last = Pulse(cycle, 0, 0, 0)
-        found.append(Pulse(cycle, last.axes | 1 << axis, last.down | level[DIRECTION_PINS[axis]] << axis, 0))
-    return found
-
-
-def setups(edges: list[Edge]) -> tuple[list[int], list[int]]:
-    """How long before steps of their axes directions changed, and how long after such steps' end: cycles."""
-    changed, fell, before, after = {}, {}, [], []
-    for cycle, port, pin, high in edges:
-        if port == "A" and pin in DIRECTION_PINS:
-            changed[pin] = cycle
-            after += [cycle - fell[pin - 1]] if pin - 1 in fell else []
-        elif port == "A" and pin in STEP_PINS and high and pin + 1 in changed:
-            before.append(cycle - changed[pin + 1])
-        elif port == "A" and pin in STEP_PINS and not high:
-            fell[pin] = cycle
-    return before, after

@@ -1,29 +1,32 @@
 """What tests of a player over a step sink share: a sink at the other end of a pseudo terminal, whose clock goes on by
-itself. With NGC_SINK=chip it is the firmware on the emulated chip, else the sink of this computer's own code."""
+itself. With NGC_SINK=stm32f103, or another board of chip_parts.py, it is that board's firmware on the emulated chip,
+else the sink of this computer's own code."""
 import os
 import subprocess
 import time
 from pathlib import Path
 from typing import NamedTuple
 
-from chip_support import chip_folder
+from chip_parts import BOARDS
+from chip_support import chip_folder, elf_of
 from player_support import SANITIZERS, built, has_sanitizers
 from session_support import PATIENCE_S, TOOLS
 
 SINK = TOOLS / "sink"
 TICK_NS = 125
 PARTS = tuple(SINK / f"{name}.c" for name in ("sink_posix", "bench", "bench_line", "sink", "make", "wire"))
-IS_CHIP = os.environ.get("NGC_SINK") == "chip"
+BOARD = BOARDS.get(os.environ.get("NGC_SINK", ""))
+IS_CHIP = BOARD is not None
 LATE_TICKS = 80 if IS_CHIP else 1
 """How far a step may be from its time: on the chip 10 us."""
-DUTY_MILLIONTHS = 24_000_000_000 / 7200
+DUTY_MILLIONTHS = 24_000_000_000 / (BOARD.duty_steps if BOARD else 7200)
 """The speed that a step of the PWM's duty is."""
 
 
 def bench(boot: int = 1) -> list[str]:
     """The command that puts a sink on the bench (tools/sink/bench.c)."""
     if IS_CHIP:
-        return [str(chip_folder() / "emulate"), str(chip_folder() / "stm32f103.elf"), str(boot)]
+        return [str(chip_folder(BOARD.name) / f"emulate-{BOARD.chip}"), elf_of(BOARD.name), str(boot)]
     return [built("-std=c99", *(SANITIZERS if has_sanitizers() else ("-O2",)), "-I", SINK, sources=PARTS), str(boot)]
 
 
@@ -32,7 +35,7 @@ def seen(outputs: tuple[int, ...]) -> tuple[int, ...]:
     direction, speed, mist, flood, *tool = outputs
     if not IS_CHIP:
         return outputs
-    duty = 0 if direction == 0 else min(int(speed / DUTY_MILLIONTHS), 7200)
+    duty = 0 if direction == 0 else min(int(speed / DUTY_MILLIONTHS), BOARD.duty_steps)
     return direction, int(duty * DUTY_MILLIONTHS), mist, flood, *[0 for _ in tool]
 
 

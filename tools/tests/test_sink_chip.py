@@ -11,7 +11,7 @@ sys.path.insert(0, str(Path(__file__).resolve().parent))
 
 import chip_planted  # noqa: E402
 import chip_scenarios  # noqa: E402
-from chip_support import COMPILER, SINK, chip_folder, has_compiler  # noqa: E402
+from chip_support import COMPILER, SINK, chip_folder, elf_of, has_compiler  # noqa: E402
 
 
 @unittest.skipUnless(has_compiler(), f"no {COMPILER} here: Debian's gcc-arm-none-eabi and libnewlib-arm-none-eabi")
@@ -22,7 +22,7 @@ class OnChip(unittest.TestCase):
         """Each does what docs/SINK.md says, at its pins and in its answers."""
         for scenario in chip_scenarios.QUICK:
             with self.subTest(scenario.__name__):
-                scenario(str(chip_folder() / "stm32f103.elf"))
+                scenario(elf_of("stm32f103"))
 
     def test_planted(self) -> None:
         """Faults that were planted are shown: of a register, of the linker script, and of the program."""
@@ -35,7 +35,8 @@ class OnChip(unittest.TestCase):
         """What isn't an ELF for this chip is refused by name."""
         with tempfile.TemporaryDirectory() as folder:
             shutil.copy(SINK / "Makefile", Path(folder, "elf"))
-            done = subprocess.run([chip_folder() / "emulate", f"{folder}/elf", "1"], capture_output=True, text=True)
+            words = [chip_folder() / "emulate-stm32f103", f"{folder}/elf", "1"]
+            done = subprocess.run(words, capture_output=True, text=True)
         self.assertEqual((done.returncode, done.stdout), (2, ""))
         self.assertIn("emulate ELF BOOT", done.stderr)
 

@@ -1,4 +1,4 @@
-/* Holds the core against Unicorn (QEMU's Cortex-M3): runs a firmware in the model, and each instruction of it again in
+/* Holds the core against Unicorn (QEMU's cores): runs a firmware in the model, and each instruction of it again in
  * Unicorn, from the same registers, flags, memory and values of peripherals. All registers, flags and stores have to be
  * the same after it.
  *
@@ -167,10 +167,10 @@ static bool run_one(uint32_t before[REGISTERS]) {
 
 static void open_unicorn(void) {
     need(uc_open(UC_ARCH_ARM, UC_MODE_THUMB | UC_MODE_MCLASS, &uc), "Unicorn");
-    need(uc_ctl_set_cpu_model(uc, UC_CPU_ARM_CORTEX_M3), "the core");
+    need(uc_ctl_set_cpu_model(uc, UNICORN_CORE), "the core");
     need(uc_mem_map_ptr(uc, FLASH_AT, FLASH_BYTES, UC_PROT_READ | UC_PROT_EXEC, chip.flash), "the flash");
     need(uc_mem_map_ptr(uc, RAM_AT, RAM_BYTES, UC_PROT_READ | UC_PROT_WRITE, chip.ram), "the RAM");
-    need(uc_mmio_map(uc, AT_PERIPHERALS, 0x30000, on_load, (void *)(uintptr_t)AT_PERIPHERALS, on_store,
+    need(uc_mmio_map(uc, AT_PERIPHERALS, PERIPHERALS_BYTES, on_load, (void *)(uintptr_t)AT_PERIPHERALS, on_store,
                      (void *)(uintptr_t)AT_PERIPHERALS), "the peripherals");
     need(uc_mmio_map(uc, AT_CORE, 0x100000, on_load, (void *)(uintptr_t)AT_CORE, on_store,
                      (void *)(uintptr_t)AT_CORE), "the core's registers");

@@ -2,24 +2,16 @@
 
 #include <string.h>
 
-#include "clocks.h"
 #include "core.h"
-#include "dma.h"
 #include "model.h"
 #include "nvic.h"
-#include "pins.h"
 #include "serial.h"
-#include "timers.h"
 #include "told.h"
-#include "usart.h"
-#include "watchdog.h"
 
 enum { TURNS = 1024, RESET_US = 20, POWER_ON_US = 2500 };
-enum { BY_PIN = 0, BY_POWER = 1 << 27, BY_WATCHDOG = 1 << 29 }; /* of RCC_CSR, which has the pin's bit at each */
 
 struct chip chip;
-struct surroundings around = {2000000, 40000, 8000000, 2000, true, false};
-static struct { uint64_t at; int pin, is_open; } turns[TURNS];
+static struct { uint64_t at; int input, is_open; } turns[TURNS];
 static uint32_t turns_begin, turns_end;
 
 static void set_next_event(void) {
@@ -41,23 +33,34 @@ static void clear_events(void) {
     }
 }
 
-void chip_reset(uint32_t why) {
+uint64_t chip_ns(uint64_t units) {
+    return units / UNITS_A_US * 1000 + units % UNITS_A_US * 1000 / UNITS_A_US;
+}
+
+static uint64_t units_of(uint64_t ns) {
+    return ns / 1000 * UNITS_A_US + (ns % 1000 * UNITS_A_US + 999) / 1000;
+}
+
+__attribute__((weak)) void part_vectors(uint32_t vectors[2]) {
+    memcpy(vectors, chip.flash + (chip.program_at - FLASH_AT), 8);
+}
+
+__attribute__((weak)) const struct op *part_code(uint32_t address) {
+    (void)address;
+    return NULL;
+}
+
+void chip_reset(enum why why) {
     clear_events();
     nvic_reset();
-    clocks_reset(why);
-    pins_reset();
-    dma_reset();
-    usart_reset();
-    timers_reset();
-    watchdog_reset();
-    backup_reset();
+    part_reset(why);
     serial_reset();
     core_reset();
     chip.is_due = false;
     set_next_event();
 }
 
-static void reset_for(uint32_t why) {
+void chip_restart(enum why why) {
     chip.resets++;
     told_note('R', 0, 0);
     chip_reset(why);
@@ -65,7 +68,7 @@ static void reset_for(uint32_t why) {
 }
 
 void model_reset(void) {
-    reset_for(BY_PIN);
+    chip_restart(BY_PIN);
 }
 
 void model_power_on(void) {
@@ -75,53 +78,49 @@ void model_power_on(void) {
         chip.ram[at] = (uint8_t)(chance >> 24);
     }
     memset(chip.known, 0, sizeof chip.known);
-    if (!around.has_battery) {
-        backup_clear();
-    }
-    clocks_power_on();
+    part_power_on();
     core.least_sp = UINT32_MAX;
     chip_reset(BY_POWER);
     chip.now += POWER_ON_US * UNITS_A_US;
 }
 
-void model_power_off(uint64_t cycles) {
-    pins_reset();
+void model_power_off(uint64_t ns) {
+    part_float();
     told_note('R', 1, 0);
-    chip.now += cycles * UNITS_A_CYCLE;
+    chip.now += units_of(ns);
     chip.resets++;
     model_power_on();
 }
 
 static void turn_contacts(void) {
     while (turns_begin != turns_end && turns[turns_begin % TURNS].at <= chip.now) {
-        pins_turn(PORT_B, turns[turns_begin % TURNS].pin, turns[turns_begin % TURNS].is_open != 0);
+        part_turn_input(turns[turns_begin % TURNS].input, turns[turns_begin % TURNS].is_open != 0);
         turns_begin++;
     }
     chip_arm(E_INPUTS, turns_begin == turns_end ? NEVER : turns[turns_begin % TURNS].at);
 }
 
-void model_turn_at(uint64_t cycle, int pin, int is_open) {
-    turns[turns_end % TURNS].at = cycle * UNITS_A_CYCLE;
-    turns[turns_end % TURNS].pin = pin;
+void model_turn_at(uint64_t ns, int input, int is_open) {
+    turns[turns_end % TURNS].at = units_of(ns);
+    turns[turns_end % TURNS].input = input;
     turns[turns_end % TURNS].is_open = is_open;
     turns_end++;
     turn_contacts();
 }
 
+void model_turn_inputs(uint32_t levels) {
+    for (int input = 0; input < MODEL_INPUTS; input++) {
+        part_turn_input(input, (levels >> input & 1) != 0);
+    }
+}
+
 /* Does one thing that is due. */
 static void happen(int event) {
     switch (event) {
-    case E_TIM2: case E_TIM3: case E_TIM4: timers_happen(event - E_TIM2); break;
-    case E_SENT: usart_shift(); break;
-    case E_RECEIVED: usart_receive(); break;
-    case E_DMA4: dma_move(4); break;
-    case E_DMA5: dma_move(5); break;
-    case E_WATCHDOG: reset_for(BY_WATCHDOG); break;
-    case E_CRYSTAL: chip_arm(event, NEVER); clocks_crystal_starts(); break;
-    case E_PLL: chip_arm(event, NEVER); clocks_pll_locks(); break;
     case E_HEARD: serial_hear(); break;
     case E_INPUTS: turn_contacts(); break;
-    default: break;
+    case E_UNTIL: break;
+    default: part_happen(event); break;
     }
 }
 
@@ -134,12 +133,12 @@ void chip_events(void) {
     set_next_event();
 }
 
-uint64_t model_cycle(void) {
-    return chip.now / UNITS_A_CYCLE;
+uint64_t model_ns(void) {
+    return chip_ns(chip.now);
 }
 
-bool model_run(uint64_t cycles) {
-    uint64_t until = (model_cycle() + cycles) * UNITS_A_CYCLE;
+bool model_run(uint64_t ns) {
+    uint64_t until = units_of(model_ns() + ns);
     chip_arm(E_UNTIL, until);
     while (chip.now < until && !chip.is_stopped) {
         core_run();

@@ -1,28 +1,23 @@
-/* A model of an STM32F103C8, by ST's RM0008 and PM0056, not by what any firmware expects of it. Each part has a file.
- *
- * Time is counted in units of which all clocks of this chip are whole multiples: 2,882,880 in a microsecond, so one
- * cycle of 72 MHz has 40,040.
- *
- * Not modelled: sleep modes, the clock's security system, the voltage detector, input capture, other channels of the
- * DMA and other USARTs, ADC, USB, CAN, SPI, I2C; the write buffers of the buses (a store is waited for), what DMA takes
- * of the RAM's time; levels, drive strengths, noise, and all else that is analog. */
+/* A model of a chip: what all of them share. The folder of a chip has its part.h, which says what is left out of the
+ * model, and a file for each of its parts; part.c has what chip.c asks of it. */
 #ifndef CHIP_H
 #define CHIP_H
 
 #include <stdbool.h>
 #include <stdint.h>
 
-#define UNITS_A_US UINT64_C(2882880)
+#include "part.h"
+
+/* Of chips whose part.h doesn't say otherwise: their core is of ARMv7-M; code in RAM isn't run. */
+#ifndef CORE_V6M
+#define CORE_V6M false
+#endif
+#ifndef RUNS_RAM
+#define RUNS_RAM false
+#endif
+
 #define UNITS_A_SECOND (UNITS_A_US * 1000000)
-#define UNITS_A_CYCLE UINT64_C(40040) /* of 72 MHz */
 #define NEVER UINT64_MAX
-
-enum { FLASH_BYTES = 65536, RAM_BYTES = 20480 };
-enum { FLASH_AT = 0x08000000, RAM_AT = 0x20000000 };
-
-/* What happens at a time. */
-enum { E_TIM2, E_TIM3, E_TIM4, E_SENT, E_RECEIVED, E_DMA4, E_DMA5, E_WATCHDOG, E_CRYSTAL, E_PLL, E_HEARD, E_UNTIL,
-       E_INPUTS, EVENTS };
 
 struct chip {
     uint8_t flash[FLASH_BYTES];
@@ -31,25 +26,24 @@ struct chip {
     uint64_t now;
     uint64_t next_event;
     uint64_t at[EVENTS];
-    uint64_t happened;     /* when what is looked at now was due; 0 for now */
-    uint64_t cycle;        /* units of one of HCLK */
-    uint32_t wait_states;  /* of the flash */
-    bool has_prefetch;
-    bool is_due;           /* an exception may be due */
-    bool is_stopped;       /* by a violation */
-    uint32_t bss_end;      /* below which the stack must not come */
+    uint64_t happened;      /* when what is looked at now was due; 0 for now */
+    uint64_t cycle;         /* units of one of the core's clock */
+    uint32_t program_at;    /* where a program begins: behind a bootloader, if it leaves room for one */
+    bool is_due;            /* an exception may be due */
+    bool is_stopped;        /* by a violation */
+    uint32_t bss_end;       /* below which the stack must not come */
     uint64_t resets;
 };
 
 extern struct chip chip;
 
-/* What the model was told of its surroundings. */
+/* What the model was told of its surroundings; part.c has how they are at first. */
 struct surroundings {
     uint32_t baud;        /* of who is at the other end */
-    uint32_t lsi_hz;      /* the watchdog's oscillator: 30,000 to 60,000 */
+    uint32_t lsi_hz;      /* the watchdog's oscillator */
     uint32_t hse_hz;      /* 0 for a crystal that doesn't start */
     uint32_t hse_us;      /* how long it takes to start */
-    bool has_battery;     /* the backup registers outlast a loss of power */
+    bool has_battery;     /* what is backed up outlasts a loss of power */
     bool matches_at_once; /* a compare register that is written while the counter has its value: a match at once */
 };
 
@@ -61,7 +55,37 @@ void chip_arm(int event, uint64_t at);
 /* Does what is due at this time. */
 void chip_events(void);
 
-/* Starts again, by bits of RCC_CSR that say why; all but RAM and backup registers is as new. */
-void chip_reset(uint32_t why);
+/* Why it starts again. */
+enum why { BY_PIN, BY_POWER, BY_WATCHDOG };
+
+/* Starts again; all but RAM and what is backed up is as new. */
+void chip_reset(enum why why);
+
+/* As chip_reset, from the model itself: counted, told, and after some time. */
+void chip_restart(enum why why);
+
+/* Nanoseconds since power came on first, of units. */
+uint64_t chip_ns(uint64_t units);
+
+/* What a chip's part.c has: its peripherals are as after a reset; power came on, or has never been on; all pins float,
+ * as while power is off; an event of its own; an input's contact, by its number, is open or closed to ground; how often
+ * it has started by the count that it keeps, and sets that; a figure, UINT64_MAX where it has none of this name; and
+ * sets all figures to 0. */
+void part_reset(enum why why);
+void part_power_on(void);
+void part_clear(void);
+void part_float(void);
+void part_happen(int event);
+void part_turn_input(int input, bool is_open);
+uint16_t part_boots(void);
+void part_set_boots(uint16_t count);
+uint64_t part_figure(const char *name);
+void part_clear_figures(void);
+
+/* And what it may have, where the core begins elsewhere than at the flash's begin, or runs code of a ROM: the first two
+ * vectors; the instruction at an address that is neither flash nor RAM, NULL for none. */
+struct op;
+void part_vectors(uint32_t vectors[2]);
+const struct op *part_code(uint32_t address);
 
 #endif

@@ -3,22 +3,15 @@
 #include <string.h>
 
 #include "chip.h"
-#include "decode.h"
+#include "code.h"
+#include "flash.h"
 #include "memory.h"
 #include "nvic.h"
 #include "told.h"
 
 struct core core;
 
-static struct op ops[FLASH_BYTES / 2];
-
-void core_load(void) {
-    for (uint32_t at = 0; at < FLASH_BYTES; at += 2) {
-        uint32_t one = chip.flash[at] | (uint32_t)chip.flash[at + 1] << 8;
-        uint32_t two = at + 2 < FLASH_BYTES ? chip.flash[at + 2] | (uint32_t)chip.flash[at + 3] << 8 : 0;
-        ops[at / 2] = one >> 11 >= 29 ? decode32(one, two) : decode16(one);
-    }
-}
+enum { ENTRY_CYCLES = CORE_V6M ? 15 : 12, RETURN_CYCLES = CORE_V6M ? 12 : 10 };
 
 void core_pass(uint32_t cycles) {
     chip.now += cycles * chip.cycle;
@@ -76,14 +69,14 @@ void core_enter(uint32_t number) {
     core.exception = number;
     core.it = 0;
     core.is_faulty = false;
-    uint32_t vector = memory_load(4 * number, 4);
+    uint32_t vector = memory_load(nvic_vectors() + 4 * number, 4);
     chip.now = from;
-    core_pass(12);
+    core_pass(ENTRY_CYCLES);
     if ((vector & 1) == 0) {
         violation("the vector of exception %u is %08x, which isn't code of Thumb", (unsigned)number, (unsigned)vector);
     }
     core.r[15] = vector & ~1u;
-    core.line = UINT64_MAX;
+    flash_leave();
     nvic_entered(number);
 }
 
@@ -100,14 +93,14 @@ void core_leave(uint32_t how) {
         frame[at] = memory_load(core.r[13] + 4 * at, 4);
     }
     chip.now = from;
-    core_pass(10);
+    core_pass(RETURN_CYCLES);
     core_set_status(frame[7]);
     memcpy(core.r, frame, 16);
     core.r[12] = frame[4];
     core.r[14] = frame[5];
     core.next = frame[6] & ~1u;
     core.r[13] += 32 + (frame[7] >> 9 & 1) * 4;
-    core.line = UINT64_MAX;
+    flash_leave();
     if ((core.exception == 0) != (how == 0xfffffff9)) {
         violation("an exception's return to another mode than it says");
     }
@@ -119,15 +112,16 @@ void core_reset(void) {
     uint32_t least_sp = core.least_sp;
     uint64_t count = core.count;
     uint32_t vectors[2];
-    memcpy(vectors, chip.flash, 8);
+    part_vectors(vectors);
     memset(&core, 0, sizeof core);
     core.branch_cycles = branch_cycles == 0 ? 2 : branch_cycles;
+    core.aligns_stack = CORE_V6M;
     core.least_sp = least_sp;
     core.count = count;
     core.r[13] = vectors[0] & ~3u;
     core.r[14] = 0xffffffff;
     core.r[15] = vectors[1] & ~1u;
-    core.line = UINT64_MAX;
+    flash_reset();
     if ((vectors[1] & 1) == 0 || vectors[0] - RAM_AT > RAM_BYTES || (vectors[0] & 7) != 0) {
         violation("the vectors begin with %08x %08x", (unsigned)vectors[0], (unsigned)vectors[1]);
     }
@@ -135,14 +129,13 @@ void core_reset(void) {
 
 static void run_one(void) {
     uint32_t at = core.r[15];
-    uint32_t offset = at - FLASH_AT;
-    if (offset >= FLASH_BYTES) {
-        violation("the program counter is %08x, which isn't flash", (unsigned)at);
+    const struct op *op = code_at(at);
+    if (op == NULL) {
+        violation("the program counter is %08x, where no code is run", (unsigned)at);
         core_enter(CORE_HARDFAULT);
         return;
     }
-    const struct op *op = &ops[offset / 2];
-    memory_fetch(at, op->size);
+    flash_fetch(at, op->size);
     core.count++;
     core.at = at;
     core.next = at + op->size;

@@ -2,7 +2,7 @@
  *
  * Cycles are those of its reference manual (r1p1): 1 for most, 2 for a load, 1 for a store, 1 + N for N registers, a
  * branch that is taken 1 + `branch_cycles`, a division 2 to 12, an exception's entry 12 and its return 10. The flash
- * adds its wait states where code isn't in one of its two prefetch buffers of 8 bytes; the buses add theirs (bus.c).
+ * adds what it has to be waited for (flash.c of the chip), and so do the buses (bus.c).
  *
  * Not modelled: coprocessors, exclusive loads and stores, special registers but PRIMASK, sleep, the process stack,
  * bit-banding, SysTick: what a program uses of these is a violation. Nor loads in a pipeline (so loads are a little
@@ -26,17 +26,12 @@ struct core {
     uint32_t masks;      /* PRIMASK */
     bool is_faulty;      /* this instruction's access failed */
     bool aligns_stack;   /* CCR.STKALIGN: 0 after a reset of r1p1 */
-    uint64_t line;       /* of 8 bytes that the prefetch buffer has .. */
-    uint64_t next_ready; /* .. and the time at which the next one is there */
     uint64_t count;      /* instructions */
     uint32_t least_sp;   /* ever */
     uint32_t branch_cycles;
 };
 
 extern struct core core;
-
-/* Decodes the flash. */
-void core_load(void);
 
 /* Begins at the vectors. */
 void core_reset(void);

@@ -7,8 +7,8 @@
  *     set NAME VALUE something of the surroundings (figures.c)
  *     figure NAME    prints `figure NAME VALUE`
  * The pins tell less than the sink knows: words without a step, the tool, and a change that changes no pin aren't
- * printed; a speed is that of the PWM's duty, a seven thousand two hundredth of the greatest, and 0 while the spindle
- * stands. A violation ends it with status 2. */
+ * printed; a speed is that of the PWM's duty, and 0 while the spindle stands. A violation ends it with status 2, and so
+ * does a direction that changes less than 5 us before its step. */
 #include <inttypes.h>
 #include <stdio.h>
 #include <stdlib.h>
@@ -16,44 +16,69 @@
 
 #include "../bench.h"
 #include "../bench_line.h"
+#include "board.h"
 #include "chip.h"
 #include "model.h"
 #include "nvic.h"
-#include "pins.h"
 #include "serial.h"
 #include "told.h"
-#include "watchdog.h"
 
-enum { CYCLES_A_TICK = 9, CYCLES_A_MS = 72000, IRQ_TIMER = 28, SLICE_TICKS = 400, READS_TICKS = 4000,
-       STARTS_TICKS = 40000 };
-enum { CLOCKWISE = 0, COUNTER = 1, MIST = 5, FLOOD = 7 }; /* pins of port B */
+enum { TICK_NS = 125, MS_NS = 1000000, SLICE_TICKS = 400, READS_TICKS = 4000, STARTS_TICKS = 40000 };
+enum { SETUP_NS = 5000, TOGETHER_NS = 1000 }; /* axes whose pins rise within this make one step */
 
 static uint32_t sink_at;     /* where the firmware's RAM has the sink */
 static uint64_t came_at;     /* the tick at which bytes were on their way last */
 static uint64_t uncounted;   /* ticks in which the chip started: the bench's clock stands meanwhile */
-static uint32_t levels[2];   /* of ports A and B */
+static uint32_t levels[PORTS]; /* of port A and on */
 static uint32_t duty;
-static struct { uint64_t cycle; uint8_t steps; bool switches; } waits; /* what changed at a cycle, until that is over */
+static uint64_t turned[BOARD_AXES]; /* when a direction changed last */
+static struct { uint64_t ns; uint8_t steps; bool switches; } waits; /* what changed at a time, until that is over */
 
-static uint64_t tick_of(uint64_t cycle) {
-    return cycle / CYCLES_A_TICK - uncounted;
+static uint64_t tick_of(uint64_t ns) {
+    return ns / TICK_NS - uncounted;
 }
 
-static uint8_t axes_of(uint32_t pins) {
-    return (uint8_t)((pins & 1) | (pins >> 1 & 2) | (pins >> 2 & 4));
+static uint32_t level_of(struct pin pin) {
+    return levels[pin.port - 'A'] >> pin.number & 1;
+}
+
+/* The axes that count down. */
+static uint8_t down(void) {
+    uint32_t axes = 0;
+    for (uint32_t axis = 0; axis < BOARD_AXES; axis++) {
+        axes |= level_of(board->directions[axis]) << axis;
+    }
+    return (uint8_t)axes;
+}
+
+/* The axis whose step a pin makes, as a bit; 0 for none. */
+static uint8_t axis_of(const struct edge *edge) {
+    uint32_t axes = 0;
+    for (uint32_t axis = 0; axis < BOARD_AXES; axis++) {
+        axes |= (uint32_t)board_is(board->steps[axis], (char)edge->port, edge->pin) << axis;
+    }
+    return (uint8_t)axes;
+}
+
+static bool is_switch(const struct edge *edge) {
+    const struct pin pins[] = {board->clockwise, board->counter, board->mist, board->flood};
+    bool is_one = edge->port == 'P';
+    for (size_t each = 0; each < sizeof pins / sizeof pins[0]; each++) {
+        is_one = is_one || board_is(pins[each], (char)edge->port, edge->pin);
+    }
+    return is_one;
 }
 
 static void tell_outputs(void) {
-    uint32_t b = levels[PORT_B];
     struct sink_outputs outputs = {
-        .speed = duty * UINT64_C(24000000000) / 7200,
-        .spindle = (uint8_t)((b >> CLOCKWISE & 1) | (b >> COUNTER & 1) << 1),
-        .mist = b >> MIST & 1,
-        .flood = b >> FLOOD & 1};
-    bench_outputs(tick_of(waits.cycle), &outputs);
+        .speed = duty * UINT64_C(24000000000) / board->duty_steps,
+        .spindle = (uint8_t)(level_of(board->clockwise) | level_of(board->counter) << 1),
+        .mist = (uint8_t)level_of(board->mist),
+        .flood = (uint8_t)level_of(board->flood)};
+    bench_outputs(tick_of(waits.ns), &outputs);
 }
 
-/* Tells what changed at the cycle that is over. */
+/* Tells what changed at the time that is over. */
 static void tell_changes(void) {
     uint8_t steps = waits.steps;
     bool switches = waits.switches;
@@ -63,29 +88,47 @@ static void tell_changes(void) {
         tell_outputs();
     }
     if (steps != 0) {
-        bench_step(tick_of(waits.cycle), steps, steps & axes_of(levels[PORT_A] >> 1));
+        bench_step(tick_of(waits.ns), steps, steps & down());
+    }
+}
+
+static void set_level(const struct edge *edge) {
+    uint32_t bit = 1u << edge->pin;
+    uint32_t *port = &levels[edge->port - 'A'];
+    *port = edge->level != 0 ? *port | bit : *port & ~bit;
+}
+
+/* Drives need a direction some time before its step. */
+static void check_direction(const struct edge *edge, uint8_t axes) {
+    for (uint32_t axis = 0; axis < BOARD_AXES; axis++) {
+        bool is_direction = board_is(board->directions[axis], (char)edge->port, edge->pin);
+        bool is_step = (axes >> axis & 1) != 0;
+        turned[axis] = is_direction ? edge->ns : turned[axis];
+        if (is_step && turned[axis] != 0 && edge->ns - turned[axis] < SETUP_NS) {
+            bench_give_up("a direction changes less than 5 us before its step");
+        }
     }
 }
 
 static void note_edge(const struct edge *edge) {
-    uint32_t bit = 1u << edge->pin;
-    if (edge->cycle != waits.cycle) {
+    uint8_t axis = edge->level != 0 ? axis_of(edge) : 0;
+    bool is_together = axis != 0 && waits.steps != 0 && edge->ns - waits.ns < TOGETHER_NS;
+    if (edge->ns != waits.ns && !is_together) {
         tell_changes();
-        waits.cycle = edge->cycle;
+        waits.ns = edge->ns;
     }
-    if (edge->port == 'A' || edge->port == 'B') {
-        uint32_t *port = &levels[edge->port - 'A'];
-        *port = edge->level != 0 ? *port | bit : *port & ~bit;
-        waits.switches = waits.switches || edge->port == 'B';
-        waits.steps |= edge->port == 'A' && edge->level != 0 ? axes_of(bit & 0x15) : 0;
-    } else if (edge->port == 'P') {
+    check_direction(edge, axis);
+    waits.steps |= axis;
+    waits.switches = waits.switches || is_switch(edge);
+    if (edge->port == 'P') {
         duty = edge->level;
-        waits.switches = true;
+    } else if (edge->port != 'R') {
+        set_level(edge);
     }
 }
 
 uint64_t device_now(void) {
-    return tick_of(model_cycle());
+    return tick_of(model_ns());
 }
 
 void device_run(uint64_t ticks) {
@@ -93,7 +136,7 @@ void device_run(uint64_t ticks) {
     uint64_t until = device_now() + ticks;
     while (device_now() < until) {
         uint64_t left = until - device_now();
-        if (!model_run((left < SLICE_TICKS ? left : SLICE_TICKS) * CYCLES_A_TICK)) {
+        if (!model_run((left < SLICE_TICKS ? left : SLICE_TICKS) * TICK_NS)) {
             bench_give_up(told_violation());
         }
         bench_send(heard, serial_heard(heard, NULL, sizeof heard));
@@ -112,7 +155,7 @@ bool device_takes(void) {
 }
 
 void device_see(uint16_t inputs) {
-    pins_turn_inputs(inputs);
+    model_turn_inputs(inputs);
 }
 
 void device_look(struct sink *to) {
@@ -125,7 +168,7 @@ void device_stray(void) {
 
 void device_boot(uint16_t count) {
     uint64_t from = device_now();
-    backup_set_first((uint16_t)(count - 1));
+    part_set_boots((uint16_t)(count - 1));
     model_reset();
     device_run(STARTS_TICKS);
     uncounted += device_now() - from;
@@ -139,7 +182,7 @@ bool device_obey(const char *line) {
     if (got == 1 && strcmp(word, "reset") == 0) {
         model_reset();
     } else if (got == 2 && strcmp(word, "off") == 0) {
-        model_power_off(strtoul(name, NULL, 10) * CYCLES_A_MS);
+        model_power_off(strtoul(name, NULL, 10) * MS_NS);
     } else if (got == 2 && strcmp(word, "battery") == 0) {
         model_set("battery", strtoul(name, NULL, 10));
     } else if (got == 1 && strcmp(word, "fault") == 0) {

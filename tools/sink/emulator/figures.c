@@ -2,45 +2,32 @@
 #include <string.h>
 
 #include "chip.h"
-#include "clocks.h"
 #include "core.h"
 #include "model.h"
 #include "nvic.h"
-#include "timers.h"
-#include "usart.h"
-#include "watchdog.h"
 
 uint64_t model_figure(const char *name) {
     const struct { const char *name; uint64_t value; } figures[] = {
-        {"latency_cycles", nvic_figures.latency / UNITS_A_CYCLE},
-        {"handler_cycles", nvic_figures.handler / UNITS_A_CYCLE},
+        {"latency_ns", chip_ns(nvic_figures.latency)},
+        {"handler_ns", chip_ns(nvic_figures.handler)},
         {"entries", nvic_figures.entries},
         {"spurious", nvic_figures.spurious},
-        {"hunger_us", watchdog_hunger / UNITS_A_US},
         {"instructions", core.count},
         {"stack_bytes", RAM_AT + RAM_BYTES - core.least_sp},
         {"room_bytes", core.least_sp - chip.bss_end},
-        {"overruns", usart_figures.overruns},
-        {"framing", usart_figures.framing},
-        {"hclk_hz", clocks_hclk_hz()},
-        {"apb1_hz", clocks_bus_hz(BUS_APB1)},
-        {"baud", usart_baud()},
-        {"boots", backup_first()},
         {"resets", chip.resets},
-        {"pwm_hz", timers_pwm_hz()},
-        {"tick_hz", timers_tick_hz(0)}};
+        {"boots", part_boots()}};
     for (size_t each = 0; each < sizeof figures / sizeof figures[0]; each++) {
         if (strcmp(name, figures[each].name) == 0) {
             return figures[each].value;
         }
     }
-    return UINT64_MAX;
+    return part_figure(name);
 }
 
 static void clear_figures(void) {
     memset(&nvic_figures, 0, sizeof nvic_figures);
-    memset(&usart_figures, 0, sizeof usart_figures);
-    watchdog_hunger = 0;
+    part_clear_figures();
 }
 
 bool model_set(const char *name, uint64_t value) {

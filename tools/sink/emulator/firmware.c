@@ -3,14 +3,13 @@
 #include <stdio.h>
 #include <string.h>
 
+#include "board.h"
 #include "chip.h"
+#include "code.h"
 #include "core.h"
 #include "model.h"
-#include "nvic.h"
-#include "pins.h"
 #include "serial.h"
 #include "told.h"
-#include "watchdog.h"
 
 enum { ROOM = 4 << 20 };
 
@@ -44,6 +43,7 @@ static bool put(const Elf32_Phdr *of) {
         return false;
     }
     memcpy(chip.flash + at, bytes, of->p_filesz);
+    chip.program_at = of->p_paddr < chip.program_at ? of->p_paddr : chip.program_at;
     return true;
 }
 
@@ -74,7 +74,7 @@ uint32_t model_symbol(const char *name, uint32_t *bytes) {
     return found != NULL ? found->st_value : 0;
 }
 
-/* All but the flash is as if power had never been on; all contacts of port B are closed. */
+/* All but the flash is as if power had never been on; all contacts are closed. */
 static void begin(void) {
     memset(&chip.at, 0xff, sizeof chip.at);
     chip.now = chip.resets = chip.happened = 0;
@@ -84,21 +84,22 @@ static void begin(void) {
     core.least_sp = UINT32_MAX;
     told_clear();
     serial_clear();
-    backup_clear();
-    pins_reset();
-    pins_turn_inputs(0);
+    part_clear();
+    model_turn_inputs(0);
     told_clear();
 }
 
 bool model_load(const char *elf) {
     const Elf32_Ehdr *head = read_head(elf);
     const Elf32_Phdr *parts = head == NULL ? NULL : part(head->e_phoff, head->e_phnum * (uint32_t)sizeof *parts);
-    bool fits = parts != NULL;
+    bool fits = parts != NULL && board_set(elf);
     memset(chip.flash, 0xff, sizeof chip.flash);
+    chip.program_at = FLASH_AT + FLASH_BYTES;
     for (int each = 0; fits && each < head->e_phnum; each++) {
         fits = put(&parts[each]);
     }
+    fits = fits && chip.program_at < FLASH_AT + FLASH_BYTES;
     begin();
-    core_load();
+    code_clear();
     return fits;
 }

@@ -4,7 +4,9 @@
 
 #include "bus.h"
 #include "chip.h"
+#include "code.h"
 #include "core.h"
+#include "flash.h"
 #include "told.h"
 
 void (*memory_watch)(uint32_t address, uint32_t width, bool is_store, uint32_t value);
@@ -32,8 +34,7 @@ static uint32_t load_ram(uint32_t at, uint32_t width) {
 
 static uint32_t load_flash(uint32_t at, uint32_t width) {
     uint32_t value = 0;
-    core_pass(1 + chip.wait_states);
-    core.next_ready += chip.cycle * (1 + chip.wait_states);
+    flash_pass_load(at);
     memcpy(&value, chip.flash + at, width);
     return value;
 }
@@ -48,10 +49,23 @@ static bool is_on_bus(const char *what, uint32_t address, uint32_t width) {
     return true;
 }
 
+/* ARMv6-M has no unaligned accesses at all. */
+static bool bears(uint32_t address, uint32_t width) {
+    if (CORE_V6M && is_unaligned(address, width)) {
+        violation("an unaligned access of %u bytes at %08x", (unsigned)width, (unsigned)address);
+        core_fail();
+        return false;
+    }
+    return true;
+}
+
 uint32_t memory_load(uint32_t address, uint32_t width) {
     uint32_t value = 0;
     uint32_t in_ram = address - RAM_AT;
-    uint32_t in_flash = address < FLASH_BYTES ? address : address - FLASH_AT;
+    uint32_t in_flash = address - ALIAS_AT < FLASH_BYTES ? address - ALIAS_AT : address - FLASH_AT;
+    if (!bears(address, width)) {
+        return 0;
+    }
     if (in_ram < RAM_BYTES && in_ram + width <= RAM_BYTES) {
         return load_ram(in_ram, width);
     }
@@ -68,27 +82,15 @@ uint32_t memory_load(uint32_t address, uint32_t width) {
 void memory_store(uint32_t address, uint32_t width, uint32_t value) {
     uint32_t in_ram = address - RAM_AT;
     watch(address, width, true, value);
+    if (!bears(address, width)) {
+        return;
+    }
     if (in_ram < RAM_BYTES && in_ram + width <= RAM_BYTES) {
         core_pass(is_unaligned(address, width) ? 2 : 1);
         memset(chip.known + in_ram, 1, width);
         memcpy(chip.ram + in_ram, &value, width);
+        code_change(in_ram, width);
     } else if (is_on_bus("store", address, width) && !bus_store(address, width, value)) {
         core_fail();
     }
-}
-
-void memory_fetch(uint32_t at, uint32_t size) {
-    uint64_t line = (at + size - 1) >> 3;
-    if (line == core.line) {
-        return;
-    }
-    bool is_next = line == core.line + 1 && chip.has_prefetch;
-    if (is_next && chip.now < core.next_ready) {
-        chip.now = core.next_ready;
-    } else if (!is_next) {
-        bool is_split = at >> 3 != line && at >> 3 != core.line;
-        chip.now += chip.cycle * chip.wait_states * (is_split ? 2 : 1);
-    }
-    core.line = line;
-    core.next_ready = chip.now + chip.cycle * (1 + chip.wait_states);
 }

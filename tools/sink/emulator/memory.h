@@ -9,9 +9,6 @@
 uint32_t memory_load(uint32_t address, uint32_t width);
 void memory_store(uint32_t address, uint32_t width, uint32_t value);
 
-/* Takes an instruction of the flash: what isn't in the prefetch buffers has to be waited for. */
-void memory_fetch(uint32_t at, uint32_t size);
-
 /* Called at each access but those of RAM and flash that load, where it isn't NULL: a check of the core looks at it. */
 extern void (*memory_watch)(uint32_t address, uint32_t width, bool is_store, uint32_t value);
 

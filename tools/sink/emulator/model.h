@@ -1,4 +1,4 @@
-/* What a user of the model calls, from C or by a shared library. A cycle is one of 72 MHz. */
+/* What a user of the model calls, from C or by a shared library. Times are nanoseconds since power came on first. */
 #ifndef MODEL_H
 #define MODEL_H
 
@@ -12,17 +12,19 @@ bool model_load(const char *elf);
 /* Power comes on: the RAM has chance values; backup registers stay where there is a battery. */
 void model_power_on(void);
 
-/* Runs it for so many cycles; false once a violation has stopped it, which told_violation tells. */
-bool model_run(uint64_t cycles);
-uint64_t model_cycle(void);
+/* Runs it for so long; false once a violation has stopped it, which told_violation tells. */
+bool model_run(uint64_t ns);
+uint64_t model_ns(void);
 
-/* Turns a contact of port B at a cycle that is still to come: 0 closed to ground, 1 open. They are given in the order
- * of their times. */
-void model_turn_at(uint64_t cycle, int pin, int is_open);
+/* Turns the contact of an input, from 0 on, at a time that is still to come: 0 closed to ground, 1 open. They are given
+ * in the order of their times. All contacts at once, now. */
+enum { MODEL_INPUTS = 8 };
+void model_turn_at(uint64_t ns, int input, int is_open);
+void model_turn_inputs(uint32_t levels);
 
-/* The pin NRST is pulled low; power is off for so many cycles. */
+/* The pin that resets it is pulled low; power is off for so long. */
 void model_reset(void);
-void model_power_off(uint64_t cycles);
+void model_power_off(uint64_t ns);
 
 /* The core takes a fault that has no other cause; outside of interrupts the program goes on at an address, as by an
  * error. */

@@ -6,7 +6,7 @@
 #include "core.h"
 #include "told.h"
 
-enum { IRQS = 43, LOWEST = 256, LATE_CYCLES = 14 };
+enum { LOWEST = 256, LATE_CYCLES = 14 };
 enum { AT_PRIORITIES = 0xe000e400, AT_CPUID = 0xe000ed00, AT_ICSR = 0xe000ed04, AT_VTOR = 0xe000ed08,
        AT_AIRCR = 0xe000ed0c, AT_CCR = 0xe000ed14 };
 
@@ -16,11 +16,17 @@ static struct {
     uint64_t pended_at[IRQS], fell_at[IRQS], entered_at[IRQS];
 } nvic;
 static bool is_in_fault;
+static uint32_t vtor;
 struct nvic_figures nvic_figures;
 
 void nvic_reset(void) {
     memset(&nvic, 0, sizeof nvic);
     is_in_fault = false;
+    vtor = 0;
+}
+
+uint32_t nvic_vectors(void) {
+    return vtor;
 }
 
 void nvic_pend(int irq) {
@@ -110,8 +116,9 @@ bool nvic_load(uint32_t address, uint32_t *value) {
         return true;
     }
     switch (address) {
-    case AT_CPUID: *value = 0x411fc231; return true;
+    case AT_CPUID: *value = CORE_ID; return true;
     case AT_ICSR: *value = core.exception; return true;
+    case AT_VTOR: *value = vtor; return true;
     case AT_AIRCR: *value = 0xfa050000; return true;
     case AT_CCR: *value = core.aligns_stack ? 0x200 : 0; return true;
     default: violation("a load of %08x of the core isn't modelled", (unsigned)address); return false;
@@ -138,6 +145,14 @@ static void set_bit(uint32_t address, uint32_t irq) {
     chip.is_due = true;
 }
 
+static void store_vtor(uint32_t value) {
+    if (value % VECTORS_ALIGNED != 0) {
+        violation("VTOR %x: the vectors have to be at a multiple of %u bytes", (unsigned)value,
+                  (unsigned)VECTORS_ALIGNED);
+    }
+    vtor = value;
+}
+
 bool nvic_store(uint32_t address, uint32_t size, uint32_t value) {
     if (address >= 0xe000e100 && address < 0xe000e300 && size == 4) {
         for (uint32_t bits = value; bits != 0; bits &= bits - 1) {
@@ -147,12 +162,16 @@ bool nvic_store(uint32_t address, uint32_t size, uint32_t value) {
     }
     if (address >= AT_PRIORITIES && address < AT_PRIORITIES + IRQS) {
         for (uint32_t at = 0; at < size && address - AT_PRIORITIES + at < IRQS; at++) {
-            nvic.priority[address - AT_PRIORITIES + at] = (uint8_t)(value >> 8 * at & 0xf0);
+            nvic.priority[address - AT_PRIORITIES + at] = (uint8_t)(value >> 8 * at & PRIORITY_BITS);
         }
         return true;
     }
     if (address == AT_CCR) {
         core.aligns_stack = (value & 0x200) != 0;
+        return true;
+    }
+    if (address == AT_VTOR) {
+        store_vtor(value);
         return true;
     }
     violation("a store to %08x of the core isn't modelled", (unsigned)address);

@@ -10,6 +10,9 @@ uint32_t nvic_due(void);
 void nvic_entered(uint32_t number);
 void nvic_left(uint32_t number);
 
+/* Where the vectors are (VTOR). */
+uint32_t nvic_vectors(void);
+
 /* The level of an interrupt's line. A rising one is kept, also while the handler works. */
 void nvic_line(int irq, bool level);
 

@@ -6,7 +6,7 @@
 struct serial serial_to_chip = {.event = E_RECEIVED};
 struct serial serial_from_chip = {.event = E_HEARD};
 static bool is_pulled;
-static struct { uint8_t bytes[SERIAL_BYTES]; uint64_t cycles[SERIAL_BYTES]; size_t begin, end; } heard;
+static struct { uint8_t bytes[SERIAL_BYTES]; uint64_t ns[SERIAL_BYTES]; size_t begin, end; } heard;
 
 static struct serial_byte *byte_at(struct serial *line, uint32_t at) {
     return &line->bytes[at % SERIAL_BYTES];
@@ -85,18 +85,18 @@ void serial_hear(void) {
     uint8_t byte = serial_sample(&serial_from_chip, &is_framed);
     if (heard.end - heard.begin < SERIAL_BYTES && !is_pulled) {
         heard.bytes[heard.end % SERIAL_BYTES] = byte;
-        heard.cycles[heard.end % SERIAL_BYTES] = chip.now / UNITS_A_CYCLE;
+        heard.ns[heard.end % SERIAL_BYTES] = chip_ns(chip.now);
         heard.end++;
     }
     serial_seek(&serial_from_chip);
 }
 
-size_t serial_heard(uint8_t *bytes, uint64_t *cycles, size_t room) {
+size_t serial_heard(uint8_t *bytes, uint64_t *ns, size_t room) {
     size_t count = 0;
     while (count < room && heard.begin != heard.end) {
         bytes[count] = heard.bytes[heard.begin % SERIAL_BYTES];
-        if (cycles != NULL) {
-            cycles[count] = heard.cycles[heard.begin % SERIAL_BYTES];
+        if (ns != NULL) {
+            ns[count] = heard.ns[heard.begin % SERIAL_BYTES];
         }
         heard.begin++;
         count++;

@@ -45,10 +45,10 @@ void serial_reset(void);
 void serial_clear(void);
 
 /* What the other end does: sends as soon as the line is free; how many bytes still are to come; takes what it heard
- * with the cycles of 72 MHz, where `cycles` isn't NULL; pulls the line out or puts it in. */
+ * with the nanoseconds, where `ns` isn't NULL; pulls the line out or puts it in. */
 void serial_send(const uint8_t *bytes, size_t size);
 size_t serial_sending(void);
-size_t serial_heard(uint8_t *bytes, uint64_t *cycles, size_t room);
+size_t serial_heard(uint8_t *bytes, uint64_t *ns, size_t room);
 void serial_pull(bool is_out);
 
 #endif

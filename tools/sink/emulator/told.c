@@ -32,7 +32,7 @@ const char *told_violation(void) {
 }
 
 void told_note(uint8_t port, uint8_t pin, uint32_t level) {
-    struct edge edge = {chip.now / UNITS_A_CYCLE, port, pin, (uint16_t)level};
+    struct edge edge = {chip_ns(chip.now), port, pin, (uint16_t)level};
     if (told_edge != NULL) {
         told_edge(&edge);
     } else if (end < ROOM) {

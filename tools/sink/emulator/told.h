@@ -6,8 +6,8 @@
 #include <stdint.h>
 
 struct edge {
-    uint64_t cycle; /* of 72 MHz, since power came on first */
-    uint8_t port;   /* 'A', 'B'; 'P' a PWM's duty, 'R' a reset */
+    uint64_t ns;   /* since power came on first */
+    uint8_t port;  /* 'A', 'B' ..; 'P' a PWM's duty, 'R' a reset */
     uint8_t pin;
     uint16_t level; /* or the duty */
 };

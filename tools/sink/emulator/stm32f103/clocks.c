@@ -5,6 +5,7 @@
 
 #include "addresses.h"
 #include "chip.h"
+#include "flash.h"
 #include "timers.h"
 #include "told.h"
 
@@ -69,8 +70,8 @@ static void check(uint64_t hz) {
     if (hz > MOST_HZ) {
         violation("a clock of %" PRIu64 " Hz: more than 72 MHz", hz);
     }
-    if (chip.wait_states < needs) {
-        violation("%u wait states of the flash at %" PRIu64 " Hz, which needs %u", (unsigned)chip.wait_states, hz,
+    if ((flash_acr & 7) < needs) {
+        violation("%u wait states of the flash at %" PRIu64 " Hz, which needs %u", (unsigned)(flash_acr & 7), hz,
                   (unsigned)needs);
     }
     if (clocks_bus_hz(BUS_APB1) > MOST_APB1_HZ) {
@@ -86,8 +87,7 @@ static void set_clocks(void) {
         return;
     }
     chip.cycle = UNITS_A_SECOND / clocks_hclk_hz();
-    chip.wait_states = flash_acr & 7;
-    chip.has_prefetch = (flash_acr & 0x10) != 0;
+    flash_set(flash_acr);
     access_units[BUS_AHB] = 2 * chip.cycle;
     for (int bus = BUS_APB1; bus <= BUS_APB2; bus++) {
         access_units[bus] = (1 + 2 * clocks_hclk_hz() / clocks_bus_hz((enum bus)bus)) * chip.cycle;

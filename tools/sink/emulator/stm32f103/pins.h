@@ -5,13 +5,10 @@
 #include <stdbool.h>
 #include <stdint.h>
 
-enum { PORT_A, PORT_B, PORTS };
+enum { PORT_A, PORT_B };
 
 /* What a contact at a pin does: 0 closed to ground, 1 open. */
 void pins_turn(int port, int pin, bool is_open);
-
-/* The contacts of pins 8 to 15 of port B at once, from bit 0 on. */
-void pins_turn_inputs(uint32_t levels);
 
 /* Whether a pin is a peripheral's push-pull output, or an input that isn't pulled down. */
 bool pins_is_output_of_peripheral(int port, int pin);

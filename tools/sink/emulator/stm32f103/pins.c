@@ -6,7 +6,7 @@
 #include "told.h"
 #include "usart.h"
 
-enum { PINS = 16, MODE_FLOATS = 4, MODE_PULLED = 8, INPUTS_FROM = 8 };
+enum { PINS = 16, MODE_FLOATS = 4, MODE_PULLED = 8 };
 
 static struct port {
     uint32_t modes[2]; /* CRL, CRH */
@@ -55,10 +55,6 @@ void pins_note_duty(uint32_t duty) {
 
 void pins_turn(int port, int pin, bool is_open) {
     ports[port].open = (ports[port].open & ~(1u << pin)) | (uint32_t)is_open << pin;
-}
-
-void pins_turn_inputs(uint32_t levels) {
-    ports[PORT_B].open = (ports[PORT_B].open & 0xff) | (levels & 0xff) << INPUTS_FROM;
 }
 
 bool pins_is_output_of_peripheral(int port, int pin) {
