@@ -85,6 +85,7 @@ static bool say_way(const struct play *play, uint64_t to, struct way_sum *sum, b
     const struct player *player = play->player;
     char what[CAUSE_ROOM];
     way_begin(&way, &player->source, player->lines, player->bytes, to, player->least_us);
+    way.keeps_times = options_keep_times(play->options) && play->options->lift == NULL;
     if (!way_look(&way, player->step_nm, sum, why)) {
         return false;
     }

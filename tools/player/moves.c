@@ -128,6 +128,7 @@ void moves_begin(struct moves *from, struct play *play) {
         from->has_later = next_pulse(from, &from->later);
     } else {
         way_begin(&from->way, &player->source, player->lines, player->bytes, player->errand.bytes, play->least_us);
+        from->way.keeps_times = options_keep_times(play->options);
         set_least(from);
     }
 }

@@ -126,6 +126,10 @@ static bool read_option(int option, int count, char **given, struct options *opt
     }
 }
 
+bool options_keep_times(const struct options *options) {
+    return !options->is_untimed || options->times != NULL;
+}
+
 bool options_read(int count, char **given, struct options *options, struct cause *why) {
     *options = (struct options){.pipe_bytes = 4096, .off_after_ns = INT64_C(10000000000)};
     opterr = 0;

@@ -32,6 +32,9 @@ struct options {
     const char *position;
 };
 
+/* Whether the times of lines count: they are waited for, or written. */
+bool options_keep_times(const struct options *options);
+
 /* Reads the words. Returns false, with the cause. */
 bool options_read(int count, char **given, struct options *options, struct cause *why);
 

@@ -181,8 +181,8 @@ enum end end_of_out(struct play *play) {
 
 bool read_taken(const struct play *play, const char *text, size_t size, struct line *line, struct cause *why) {
     size_t length = size - (text[size - 1] == '\n');
-    bool keeps_times = !play->options->is_untimed || play->options->times != NULL;
-    return line_read(text, length, play->least_us, line, why) && (!keeps_times || line_fits_clock(line, why));
+    return line_read(text, length, play->least_us, line, why)
+        && (!options_keep_times(play->options) || line_fits_clock(line, why));
 }
 
 /* How long a line lasts, in nanoseconds, as OUT says. */

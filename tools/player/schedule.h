@@ -5,8 +5,8 @@
 #include <stdbool.h>
 #include <stdint.h>
 
-/* 73 years: a line that is longer is refused where times are kept (line_fits_clock). A pulse that a person has slowed
- * down to more lasts so long. */
+/* 73 years: a line that is longer is refused where times are kept (line_fits_clock). An override makes no pulse longer:
+ * at the least of the pacer's rates it lasts 512 s, and one that OUT has slower keeps its own time. */
 #define SCHEDULE_MOST_NS (INT64_MAX / 4)
 
 /* In nanoseconds of the monotonic clock; of a play without times, from its start. */

@@ -17,7 +17,7 @@ void way_begin(struct way *way, const struct source *source, uint64_t lines, uin
     way->to = to;
     way->least_us = least_us;
     way->is_back = to < bytes;
-    way->has_later = false;
+    way->keeps_times = way->has_later = false;
     way->begin = 0;
     way->size = 0;
 }
@@ -66,13 +66,19 @@ static const char *text_back(struct way *way, size_t *size) {
     return *stop == '\n' ? first : NULL;
 }
 
+/* Whether a line's time is waited for on the way, and is one for which a clock has no room. */
+static bool is_too_long(const struct way *way, const struct line *line, struct cause *why) {
+    bool is_waited_for = way->keeps_times && (line->kind == 'P' || !way->is_back);
+    return is_waited_for && !line_fits_clock(line, why);
+}
+
 /* Reads the next line, and passes it. */
 static bool next_line(struct way *way, struct line *line, struct cause *why) {
     size_t size = 0;
     struct cause what = {"its room was given back to the disk, or it isn't a line of OUT"};
     const char *text = way->is_back ? text_back(way, &size) : text_on(way, &size);
     uint64_t number = way->lines + (way->is_back ? 0 : 1);
-    if (text == NULL || !line_read(text, size - 1, way->least_us, line, &what)) {
+    if (text == NULL || !line_read(text, size - 1, way->least_us, line, &what) || is_too_long(way, line, &what)) {
         return because(why, "line %" PRIu64 ": %.*s", number, CAUSE_ROOM - 64, what.text);
     }
     way->lines = way->is_back ? way->lines - 1 : way->lines + 1;

@@ -25,6 +25,7 @@ struct way {
     uint64_t bytes;
     uint64_t to;
     uint64_t least_us;
+    bool keeps_times;  /* a line is refused for whose time a player's clock has no room */
     bool is_back;
     bool has_later;    /* back: a pulse that waits for the time between it and the one before it */
     struct move later;
@@ -54,7 +55,7 @@ enum step { MOVE, NO_MORE, NO_LINE };
 void way_begin(struct way *way, const struct source *source, uint64_t lines, uint64_t bytes, uint64_t to,
                uint64_t least_us);
 
-/* The next move; NO_LINE, with the cause, at what isn't a line of OUT. */
+/* The next move; NO_LINE, with the cause, at what isn't a line of OUT, or is one that is refused. */
 enum step way_next(struct way *way, struct move *move, struct cause *why);
 
 /* Sums all of a way up. Returns false, with the cause. */

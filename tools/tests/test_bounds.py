@@ -175,6 +175,19 @@ class Bounds(InFolder):
         self.assertTrue(1 <= count < 30, said)
         self.assertIn(", and more\n", said)
 
+    def test_adapted(self) -> None:
+        """What ngc-adapt can't mend is looked for until 500 dry runs have been done, and it says so; where they aren't
+        needed, ten refused lines are told."""
+        lines = {" ".join(f"G{code}" for code in range(40)): ("There may be more: it stops after 500 dry runs, and"
+                                                              " ngc-check new.ngc looks further\n", 600),
+                 "G1 X1 Y2 A3": ("and more: ngc-check new.ngc lists each\n", 200)}
+        for line, (ending, most) in lines.items():
+            Path("many.ngc").write_text("F9\n" + f"{line}\n" * 30 + "M2\n")
+            with mock.patch.object(adapt, "refusal", side_effect=run.refusal) as asked:
+                status, _, said = told(adapt.main, "many.ngc", "--ngc", ngc(), "--output", "new.ngc", "--force")
+            self.assertEqual((status, said[-len(ending):]), (1, ending))
+            self.assertLess(asked.call_count, most, line)
+
     def test_killed(self) -> None:
         """A tool that is killed leaves no `ngc` behind."""
         Path("long.ngc").write_text(HEAD + HOLES * 9999)

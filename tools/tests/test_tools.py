@@ -52,6 +52,17 @@ class Tools(InFolder):
             self.assertEqual("--ngc PATH" in said, name != "ngc-device")
             self.assertTrue((TOOLS / name).stat().st_mode & 0o111, name)
 
+    def test_folder(self) -> None:
+        """No Python of the folder in which a tool is started is run, by a tool or by what it starts."""
+        for name in ("sitecustomize", "usercustomize", "argparse", "json", "re", "ngc_tools"):
+            Path(f"{name}.py").write_text("open('ran', 'w').close()\n")
+        Path("part.ngc").write_text("G21 G90 G17 G54 G94 G98\nG1 X1 F100\nM2\n")
+        Path("motion.toml").write_text("[motion]\naccel_mm_s2 = [500, 500, 500]\n")
+        words = ("part.ngc", "--settings", "first.toml", "--machine", "motion.toml", "--ngc", ngc())
+        for name, *given in (("ngc-check", *words), ("ngc-plot", *words), *((name, "--help") for name in NAMES)):
+            self.assertEqual(self.run_tool(name, *given)[::2], (0, ""), name)
+        self.assertFalse(Path("ran").exists())
+
     def test_one_name(self) -> None:
         """No two modules have a public class of one name."""
         names = [node.name for path in (TOOLS / "ngc_tools").rglob("*.py") for node in ast.parse(path.read_text()).body

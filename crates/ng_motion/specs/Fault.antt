@@ -4,8 +4,9 @@ use Rattle.ng_motion.specs.declared.key.Key.TheVariants.{Accel, Rate, Start, Sla
 use Rattle.ng_motion.specs.declared.axis.AxisName.{AxisName}
 use Rattle.ng_motion.specs.declared.axis.AxisName.TheVariants.{X, Y, Z}
 use Rattle.ng_motion.specs.Name.{told}
+use Rattle.ng_motion.specs.Table.{no_table_text}
 use Rattle.ng_motion.specs.declared.fault.MotionFault.{MotionFault}
-use Rattle.ng_motion.specs.declared.fault.MotionFault.TheVariants.{NotToml, OutOfMemory, UnknownTable, NoTable, UnknownKey}
+use Rattle.ng_motion.specs.declared.fault.MotionFault.TheVariants.{NotToml, OutOfMemory, UnknownTable, NotATable, NoTable, UnknownKey}
 use Rattle.ng_motion.specs.declared.fault.MotionFault.TheVariants.{NoAcceleration, OutOfRange, TooWeak, TooStrong}
 use Rattle.ng_motion.specs.declared.fault.MotionFault.TheVariants.{TooSlow}
 
@@ -13,6 +14,7 @@ abbrev pub cause_text : MotionFault → List ℕ
 cause_text NotToml = codes ": not TOML"
 cause_text OutOfMemory = codes ": out of memory"
 cause_text (UnknownTable name) = codes ": has a table that isn't one of its nine: "
+cause_text (NotATable table) = no_table_text table
 cause_text NoTable = codes " motion: missing"
 cause_text (UnknownKey name) = codes " motion: has a key that isn't one of its five: "
 cause_text NoAcceleration = codes " accel_mm_s2: missing"

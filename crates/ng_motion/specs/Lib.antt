@@ -4,4 +4,5 @@ pub mod Fault
 pub mod Values
 pub mod Given
 pub mod Steps
+pub mod Table
 pub mod Reading

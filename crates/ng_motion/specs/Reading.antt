@@ -1,7 +1,6 @@
 -- The limits that a text gives, or its fault (own).
-use Rattle.std.specs.Prelude.{◌≡◌, ◌⊎◌, ℕ, Bool, List, [], ◌∷◌, Option, None, Some, codes, not}
-use Rattle.std.specs.List.{find, list_any}
-use Rattle.std.specs.Str.{bytes_eq}
+use Rattle.std.specs.Prelude.{◌≡◌, ◌⊎◌, ℕ, List, Option, None, Some, codes, not}
+use Rattle.std.specs.List.{find}
 use Rattle.toml.specs.Data.{Members, get_member, table}
 use Rattle.toml.specs.Errors.{IsBlank}
 use Rattle.ng_canon.specs.declared.geometry.Geometry.{Geometry}
@@ -9,24 +8,16 @@ use Rattle.ng_pace.specs.declared.limits.Limits.{Limits}
 use Rattle.ng_settings.specs.Causes.{names}
 use Rattle.ng_settings.specs.Reading.{IsToml}
 use Rattle.ng_motion.specs.declared.fault.MotionFault.{MotionFault}
-use Rattle.ng_motion.specs.declared.fault.MotionFault.TheVariants.{NotToml, OutOfMemory, UnknownTable, NoTable}
+use Rattle.ng_motion.specs.declared.fault.MotionFault.TheVariants.{NotToml, OutOfMemory, UnknownTable, NotATable, NoTable}
 use Rattle.ng_motion.specs.declared.name.KeyName.{KeyName}
+use Rattle.ng_motion.specs.declared.table.TableName.{TableName}
 use Rattle.ng_motion.specs.Name.{shown_name, told}
+use Rattle.ng_motion.specs.Table.{is_table, other_value}
 use Rattle.ng_motion.specs.declared.given.Given.{Given}
 use Rattle.ng_motion.specs.Given.{Gives, IsTableFault}
 use Rattle.ng_motion.specs.Steps.{AreLimits, IsStepFault}
 
--- the tables of a machine's file: the motors' limits, and what only a player reads
-abbrev pub tables : List (List ℕ)
-tables =
-    codes "motion" ∷ codes "window" ∷ codes "wait" ∷ codes "spindle" ∷ codes "backlash"
-    ∷ codes "sink" ∷ codes "inputs" ∷ codes "home" ∷ codes "setter" ∷ []
-
--- whether a name is that of one of them
-unfoldable pub is_table : List ℕ → Bool
-is_table name = list_any (λ table. bytes_eq name table) tables
-
--- the first name at the top that isn't
+-- the first name at the top that is none of a machine's file
 unfoldable pub unknown_table : Members → Option (List ℕ)
 unknown_table root = find (λ name. not (is_table name)) (names root)
 
@@ -46,17 +37,22 @@ GivesLimits motion machine limits = (given : Given) × Gives motion given × Are
 abbrev pub IsMotionFault : Members → Geometry → MotionFault → Type 0
 IsMotionFault motion machine fault = IsTableFault motion fault ⊎ ((given : Given) × Gives motion given × IsStepFault given machine fault)
 
--- the first fault of the table of a text: it has a name at the top that is none of a machine's file, it has no [motion],
--- or that has a fault
+-- each name at the top is that of a table, and has one
+abbrev pub HasTables : Members → Type 0
+HasTables root = (unknown_table root ≡ None) × (other_value root ≡ None)
+
+-- the first fault of the table of a text: it has a name at the top that is none of a machine's file, one of those has
+-- another value than a table, it has no [motion], or that has a fault
 abbrev pub IsRootFault : Members → Geometry → MotionFault → Type 0
 IsRootFault root machine fault =
     ((name : KeyName) × (fault ≡ UnknownTable name) × HasUnknownTable root name)
-    ⊎ ((unknown_table root ≡ None) × (fault ≡ NoTable) × ((motion : Members) → IsMotion root motion → ⊥))
-    ⊎ ((unknown_table root ≡ None) × ((motion : Members) × IsMotion root motion × IsMotionFault motion machine fault))
+    ⊎ ((unknown_table root ≡ None) × ((name : TableName) × (fault ≡ NotATable name) × (other_value root ≡ Some name)))
+    ⊎ (HasTables root × (fault ≡ NoTable) × ((motion : Members) → IsMotion root motion → ⊥))
+    ⊎ (HasTables root × ((motion : Members) × IsMotion root motion × IsMotionFault motion machine fault))
 
 abbrev pub GivesAtRoot : Members → Geometry → Limits → Type 0
 GivesAtRoot root machine limits =
-    (unknown_table root ≡ None) × ((motion : Members) × IsMotion root motion × GivesLimits motion machine limits)
+    HasTables root × ((motion : Members) × IsMotion root motion × GivesLimits motion machine limits)
 
 abbrev pub AreLimitsOf : List ℕ → Geometry → Limits → Type 0
 AreLimitsOf text machine limits = (root : Members) × IsToml text root × GivesAtRoot root machine limits

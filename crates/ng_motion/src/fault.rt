@@ -5,6 +5,7 @@ ghost use Rattle.ng_motion.specs.Fault.{cause_text, name_told};
 use crate::axis::AxisName;
 use crate::key::Key;
 use crate::name::KeyName;
+use crate::table::TableName;
 
 /// Why a text gives no limits (own).
 #[derive(Clone, Copy, Debug, PartialEq, Eq)]
@@ -15,6 +16,8 @@ pub enum MotionFault {
     /// A name at the top is none of the nine tables of a machine's file: of those the first, in the order of their
     /// names.
     UnknownTable(KeyName),
+    /// The name of a table has another value: of those the first, in the order of their names.
+    NotATable(TableName),
     /// There is no table `[motion]`.
     NoTable,
     /// The table has a key that is none of its five: of those the first, in the order of their names.
@@ -40,6 +43,7 @@ impl MotionFault {
             MotionFault::NotToml => b": not TOML",
             MotionFault::OutOfMemory => b": out of memory",
             MotionFault::UnknownTable(_) => b": has a table that isn't one of its nine: ",
+            MotionFault::NotATable(table) => table.no_table_text(),
             MotionFault::NoTable => b" motion: missing",
             MotionFault::UnknownKey(_) => b" motion: has a key that isn't one of its five: ",
             MotionFault::NoAcceleration => b" accel_mm_s2: missing",

@@ -2,8 +2,8 @@
 //!
 //! `limits` reads the table `[motion]` of a text, in millimetres, and returns what a pacer takes, in steps; or it
 //! returns a fault, whose text names the key and its range. specs/Given.antt has the keys, their ranges and the faults,
-//! specs/Steps.antt how millimetres become steps. The other eight tables of a machine's file are a player's: what is in
-//! them isn't looked at, and a name that is none of the nine is refused.
+//! specs/Steps.antt how millimetres become steps. The other eight tables of a machine's file (specs/Table.antt) are a
+//! player's: what is in them isn't looked at. A name that is none of the nine is refused, and a value that is no table.
 //!
 //! The crate `toml` defines what TOML is, and which table a text stands for; `ng_pace` takes the limits. Memory is
 //! allocated only for the parsed table.
@@ -16,6 +16,7 @@ mod key;
 mod name;
 mod reading;
 mod steps;
+mod table;
 mod values;
 
 pub use axis::AxisName;
@@ -23,3 +24,4 @@ pub use fault::MotionFault;
 pub use key::Key;
 pub use name::KeyName;
 pub use reading::limits;
+pub use table::TableName;

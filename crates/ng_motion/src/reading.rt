@@ -1,33 +1,26 @@
 //! Limits read from a text.
 ghost use Rattle.std.specs.Prelude.{◌≡◌, IfNone, IfSome, MatchOption, MatchResult, None, Some, codes};
-ghost use Rattle.toml.specs.Data.{Members};
+ghost use Rattle.toml.specs.Data.{Members, get_member};
 ghost use Rattle.toml.specs.View.{table_view};
 ghost use Rattle.ng_motion.specs.Reading.{AreLimitsOf, GivesAtRoot, HasUnknownTable, IsMotion, IsRefused, IsRootFault};
-ghost use Rattle.ng_motion.specs.Reading.{is_table, unknown_table};
+ghost use Rattle.ng_motion.specs.Reading.{unknown_table};
+ghost use Rattle.ng_motion.specs.Table.{is_other, is_table, other_value, table_name};
 
 use crate::fault::MotionFault;
 use crate::given::{read_given, value_at};
 use crate::name::KeyName;
 use crate::steps::limits_of;
+use crate::table::{TABLES, TableName};
 use ng_canon::Geometry;
 use ng_pace::Limits;
 use std::alloc::Global;
 use toml::Table;
 
 /// Whether a name is that of a table of a machine's file.
-#[tactic(auto, unfolding(crate::specs::Reading::is_table))]
 fn is_table(name: &str) -> bool
     ensures { result ≡ is_table name.now }
 {
-    name == "motion"
-        || name == "window"
-        || name == "wait"
-        || name == "spindle"
-        || name == "backlash"
-        || name == "sink"
-        || name == "inputs"
-        || name == "home"
-        || name == "setter"
+    TABLES.iter().any(|table| name == table.name())
 }
 
 /// The first name at the top that isn't that of a table of a machine's file.
@@ -38,6 +31,23 @@ fn unknown_table(root: &Table) -> Option<KeyName>
         Some(name) => Some(KeyName::of(name.as_str().as_bytes())),
         None => None,
     }
+}
+
+/// Whether the name of a table has another value.
+fn is_other(root: &Table, table: TableName) -> bool
+    ensures { result ≡ is_other (get_member (table_name table) (table_view root.now)) }
+{
+    match value_at(root, table.name()) {
+        Some(value) => !value.is_table(),
+        None => false,
+    }
+}
+
+/// The first of the tables whose name has another value.
+fn other_value(root: &Table) -> Option<TableName>
+    ensures { result ≡ other_value (table_view root.now) }
+{
+    TABLES.iter().find(|table| is_other(root, **table)).copied()
 }
 
 /// The table `[motion]`.
@@ -58,6 +68,9 @@ fn limits_in(root: &Table, machine: &Geometry) -> Result<Limits, MotionFault>
     if let Some(name) = unknown_table(root) {
         return Err(MotionFault::UnknownTable(name));
     }
+    if let Some(table) = other_value(root) {
+        return Err(MotionFault::NotATable(table));
+    }
     let Some(motion) = motion_table(root) else {
         return Err(MotionFault::NoTable);
     };
@@ -71,11 +84,12 @@ fn limits_in(root: &Table, machine: &Geometry) -> Result<Limits, MotionFault>
 /// turn millimetres into steps, rounded down, so that nothing is exceeded.
 ///
 /// Refused, in this order: a text that isn't TOML; a table or a key at its top that is none of the nine tables of a
-/// machine's file, of those the first by name; no `[motion]`; a key there that is none of its five, of those the first
-/// by name; no `accel_mm_s2`; a value of another type or outside its key's range, the keys in the order of `Key`; an
-/// axis that gains less than 3 steps a second, each second, then one that gains more than 1,000,000,000; a rate of less
-/// than one step a second. `OutOfMemory` if memory runs out. Without `start_mm_min` or `rate_mm_min` they are 0;
-/// `slack_steps` is 2, `most_percent` 100. Of the other eight tables only the names are looked at.
+/// machine's file, of those the first by name; another value than a table under one of these names, of those the first
+/// by name; no `[motion]`; a key there that is none of its five, of those the first by name; no `accel_mm_s2`; a value
+/// of another type or outside its key's range, the keys in the order of `Key`; an axis that gains less than 3 steps a
+/// second, each second, then one that gains more than 1,000,000,000; a rate of less than one step a second.
+/// `OutOfMemory` if memory runs out. Without `start_mm_min` or `rate_mm_min` they are 0; `slack_steps` is 2,
+/// `most_percent` 100. In the other eight tables nothing is looked at.
 pub fn limits(alloc: Global, text: &[u8], machine: &Geometry) -> Result<Limits, MotionFault>
     ensures { MatchResult result (AreLimitsOf text.now machine.now) (IsRefused text.now machine.now) }
 {

@@ -1,8 +1,8 @@
 """The words of `ngc-adapt`, and what it writes."""
 import argparse
 import sys
-from collections.abc import Callable, Iterator, Sequence
-from dataclasses import replace
+from collections.abc import Iterator, Sequence
+from dataclasses import dataclass, replace
 
 from ngc_tools import files
 from ngc_tools.cli.beginning import add_beginning, chosen_beginning
@@ -38,7 +38,8 @@ exit status:
   1  it is written, and ngc refuses a line of it
   2  the words are wrong, a file can't be used, or a height, a place or a slot is needed; nothing is written"""
 
-_MOST = 10  # refused lines that are told
+_MOST = 10  # refused lines that are told ..
+MOST_ASKED = 500  # .. and dry runs that look for them: each begins with the program's first line
 
 
 def make_parser() -> argparse.ArgumentParser:
@@ -191,12 +192,25 @@ def shown_changes(found: list[Change]) -> list[str]:
             for row in (f"line {change.line}: {change.why}", f"  - {change.before}", f"  + {change.after}")]
 
 
-def told(new: bytes, output: str | None, ask: Callable[[bytes], Refusal | None]) -> Iterator[str]:
+@dataclass(slots=True)
+class Counted:
+    """Dry runs, and how many were asked for."""
+
+    ask: Ask
+    count: int = 0
+
+    def __call__(self, text: bytes) -> Refusal | None:
+        self.count += 1
+        return self.ask(text)
+
+
+def told(new: bytes, output: str | None, ask: Ask) -> Iterator[str]:
     """The refused lines of what is written: where, which fault, the line, what to write; and what lists them all."""
     path, check = (shown(output), f"ngc-check {shown(output)}") if output else ("the text", "ngc-check")
     lines: set[int] = set()
     said: set[str] = set()
-    for finding in find_all(Lines(new), ask):
+    asked = Counted(ask)
+    for finding in find_all(Lines(new), asked, is_enough=lambda: asked.count >= MOST_ASKED):
         fault = finding.refusal
         if fault.line in lines:
             continue  # a fault that shows once another one's word is left out
@@ -213,5 +227,7 @@ def told(new: bytes, output: str | None, ask: Callable[[bytes], Refusal | None])
         if cure not in said:
             yield f"    mend: {shown(cure)}"
         said.add(cure)
-    if lines:
+    if asked.count >= MOST_ASKED:
+        yield f"There may be more: it stops after {MOST_ASKED} dry runs, and {check} looks further"
+    elif lines:
         yield f"Mend these, and check again: {check}"

@@ -4,7 +4,8 @@ use Rattle.std.proofs.lemmas.Iterator.Consumers.{YieldsList-from_rest}
 use Rattle.std.proofs.lemmas.Iterator.Search.{find_from_yields_List}
 use Rattle.std.specs.BTreeMap.{keys}
 use Rattle.std.specs.List.{find}
-use Rattle.ng_motion.specs.Reading.{is_table, unknown_table}
+use Rattle.ng_motion.specs.Reading.{unknown_table}
+use Rattle.ng_motion.specs.Table.{is_table}
 use Rattle.ng_motion.specs.Name.{shown_name}
 use Rattle.ng_motion.proofs.NameLemmas.{is_unknown, unknown_in_names}
 use Rattle.ng_motion.proofs.reading.unknown_table.Goals as goal
