@@ -107,7 +107,7 @@ def tables(text: str) -> list[list[list[str]]]:
 
 def cli(name: str) -> ModuleType:
     """The module of a tool."""
-    return import_module(f"ngc_tools.cli.{name.removeprefix('ngc-')}")
+    return import_module(f"ngc_tools.cli.{name.removeprefix('ngc-').replace('-', '_')}")
 
 
 class Documents(InFolder):
@@ -325,6 +325,7 @@ class Helps(Documents):
     """The examples of `--help`."""
 
     LONG = ("ngc-operate", "ngc-page")  # these go on until they are ended: their words are tried alone
+    ALONE = ("ngc-check-disk", "ngc-setup")  # so are those of these, which ask, or take seconds
 
     def setUp(self) -> None:
         """A half-done block on mill.dev, OUT and a player's record of it, and other files that the examples name."""
@@ -342,7 +343,7 @@ class Helps(Documents):
         """Each does its work, and writes the file that it names."""
         names = sorted(path.name for path in TOOLS.glob("ngc-*"))
         shown = [cli(name).make_parser().format_help().partition("\nexample:\n")[2] for name in names]
-        lines = re.findall(r"^  (?:\(.*\) )?(ngc-\w+ .*?)(?: {3,}.*)?$", "\n".join(shown), re.MULTILINE)
+        lines = re.findall(r"^  (?:\(.*\) |sudo )?(ngc-[\w-]+(?: .*?)?)(?: {3,}.*)?$", "\n".join(shown), re.MULTILINE)
         self.assertEqual(sorted({line.split()[0] for line in lines}), names)
         for line in lines:
             self.check_example(line)
@@ -353,7 +354,9 @@ class Helps(Documents):
         made = re.search("(?:--output|>) (.*)", line)
         if made:
             Path(made[1]).unlink(missing_ok=True)
-        if name in self.LONG:
+        if name in self.ALONE:
+            cli(name).make_parser().parse_args(words)
+        elif name in self.LONG:
             self.assertIn("mill.toml", vars(cli(name).make_parser().parse_args(words)).values())
         elif ">" in words:
             self.shell(line)

@@ -6,7 +6,7 @@ from pathlib import Path
 
 sys.path.insert(0, str(Path(__file__).resolve().parent))
 
-from player_support import InC, PlayerTest, preloaded  # noqa: E402
+from player_support import PlayerTest, preloaded  # noqa: E402
 from power_axes import HOME_TOML, SWITCH_STEPS, SWITCHES  # noqa: E402
 from session_support import PATIENCE_S  # noqa: E402
 from sink_support import ServedSink  # noqa: E402
@@ -66,7 +66,7 @@ int fdatasync(int file) {
 """
 
 
-class NoRecord(InC, PlayerTest):
+class NoRecord(PlayerTest):
     """A record that can't be kept any more."""
 
     def test_jog(self) -> None:
@@ -97,7 +97,7 @@ class NoRecord(InC, PlayerTest):
         child.communicate(timeout=PATIENCE_S)
 
 
-class LostAmidHome(InC, PlayerTest):
+class LostAmidHome(PlayerTest):
     """A player over a step sink that is killed while it homes, with a record that is slow."""
 
     def begun(self) -> None:

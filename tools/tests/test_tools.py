@@ -32,7 +32,7 @@ def imported(path: Path) -> set[str]:
 
 
 class Tools(InFolder):
-    """Each of the nine."""
+    """Each of the eleven."""
 
     def run_tool(self, name: str, *words: str, path: str = "", tools: Path = TOOLS) -> tuple[int, str, str]:
         """Runs a tool with this PATH: the exit status and what it writes."""
@@ -42,14 +42,14 @@ class Tools(InFolder):
 
     def test_help(self) -> None:
         """An example and what each exit status means, on standard output."""
-        self.assertEqual(len(NAMES), 8)
+        self.assertEqual(len(NAMES), 10)
         for name in NAMES:
             status, said, error = self.run_tool(name, "--help")
             self.assertEqual((status, error), (0, ""), name)
             example, _, statuses = said.partition("\nexample:\n")[2].partition("\nexit status:\n")
-            self.assertIn(f"  {name} ", example)
+            self.assertRegex(example, f"  (?:sudo )?{name}[ \n]")
             self.assertRegex(statuses, r"(?s)^  0  .*\n  2  ")
-            self.assertEqual("--ngc PATH" in said, name != "ngc-device")
+            self.assertEqual("--ngc PATH" in said, name not in ("ngc-device", "ngc-check-disk"))
             self.assertTrue((TOOLS / name).stat().st_mode & 0o111, name)
 
     def test_folder(self) -> None:

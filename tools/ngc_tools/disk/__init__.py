@@ -1,0 +1,1 @@
+"""What a disk does with records that are written and synced as `ngc` does it."""

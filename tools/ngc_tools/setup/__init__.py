@@ -1,0 +1,1 @@
+"""What `ngc-setup` asks, and the files that it makes of the answers."""
