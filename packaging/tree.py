@@ -186,8 +186,8 @@ def player_words() -> str:
     words = "".join(re.findall('"([^"]*)"', usage)).replace("player [", "/usr/libexec/ngc/player [")
     return (f"{words}\n\nCarries out the lines of OUT, each in its time or with ramps, over a step sink, and keeps in"
             " POSITION how far it came. What each word means, and what its socket answers, stands in"
-            " /usr/share/doc/ngc/docs/TOOLS.md and OUTPUT.md. It takes the words of ngc-player, long or short,"
-            " but for --spindle and --live. ngc-player.service runs it.\n")
+            " /usr/share/doc/ngc/docs/TOOLS.md and OUTPUT.md. Each word has a short and a long form."
+            " ngc-player.service runs it.\n")
 
 
 def printed(words: list[str]) -> str:
