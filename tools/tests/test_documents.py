@@ -596,7 +596,6 @@ class Machine(Documents):
     def test_page(self) -> None:
         """docs/PAGE.md: what it begins with, up to the address that is printed; Ctrl-C ends it, and the player that it
         started."""
-        os.symlink(player(), "bin/player")
         (make, _), (fresh, _), page = self.chapter("PAGE.md", "")[1]
         command = "\n".join(page).rstrip()
         Path("player.toml").write_text(blocks(chapters("MACHINE.md")["Motors"])[0])
