@@ -6,5 +6,8 @@ mod DryRunLemmas
 mod DeviceHeaderLemmas
 mod DeviceCopyLemmas
 mod HonestDeviceLemmas
+mod SmallAreaLemmas
+mod DeviceLimitLemmas
+mod LengthenedDeviceLemmas
 mod FileLifetimeLemmas
 mod SettlingLemmas

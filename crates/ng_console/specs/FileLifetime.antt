@@ -1,21 +1,22 @@
 -- The lifetime of a device in a file (own): power on after power on, each over the bytes that the loss of power before it
 -- left in the file.
-use Rattle.std.specs.Prelude.{◌≡◌, ◌≤◌, ℕ, ℤ, List, [], ◌∷◌, Option, None, Some, Result, Ok, OnOk}
+use Rattle.std.specs.Prelude.{◌≡◌, ◌≤◌, true, false, List, ◌∷◌, Option, None, Some, Result, Ok, OnOk, ℕ, ℤ, []}
 use Rattle.ng_num.specs.declared.fault.Fault.{Fault}
 use Rattle.ng_canon.specs.declared.geometry.Geometry.{Geometry}
 use Rattle.ng_rig.specs.Trace.{Image, Trace, reads, items, moment, trace_at}
 use Rattle.ng_layout.specs.Areas.{least_size}
-use Rattle.ng_layout.specs.Stands.{stands_beside, IsWritten}
+use Rattle.ng_layout.specs.Stands.{is_large, stands_beside, IsWritten}
 use Rattle.ng_layout.specs.Stored.{DurableState}
 use Rattle.ng_journal.specs.Formatting.{FormatSpec, fresh_standing}
 use Rattle.ng_core.specs.AnsweredEvents.{AreAnsweredEvents, answered_at}
-use Rattle.ng_core.specs.Lifetime.{DeviceSession, GivenEvents, IsFoundAs, HasOneTable, LifetimeHolds}
+use Rattle.ng_core.specs.Lifetime.{DeviceSession, GivenEvents, HasOneTable, LifetimeHolds}
 use Rattle.ng_core.specs.Power.{PowerOnSpec, power_on_rig}
 use Rattle.ng_file.specs.Promise.{Promise, IsDurable, IsLeft}
 use Rattle.ng_file.specs.Rig.{device_of, sector_count, storage_at}
 use Rattle.ng_file.specs.Sectors.{image_of}
 use Rattle.ng_file.specs.declared.rig.FileRig.{FileRig}
 use Rattle.ng_console.specs.Devices.{IsOver}
+use Rattle.ng_console.specs.Lengthening.{IsFoundInFile, NamesSmallAreas, grows}
 
 module _ {S W A E : Type 0} (content : S → Option (List ℕ)) (promise : S → Promise) where
   -- Power was lost at the session's moment of this device's trace, from a moment on. The loss left the session's image of
@@ -43,7 +44,7 @@ module _ {S W A E : Type 0} (content : S → Option (List ℕ)) (promise : S →
     pub over : IsOver content promise file out s.rig
     pub honest : (promise file).honest
     pub durable : IsDurable (content file) (promise file)
-    pub found : IsFoundAs s.is_grown left (image_of (sector_count s.rig) (content file))
+    pub found : IsFoundInFile s.is_grown left (image_of (sector_count s.rig) (content file))
     pub enough : least_size ≤ sector_count s.rig
     pub geometry_is : s.settings.geometry ≡ geometry
     pub powers : PowerOnSpec (device_of content promise) s.settings s.rig s.answer
@@ -61,8 +62,9 @@ KeepsFileFromFormat {S} W A E content promise = (result : Result (Unit {0}) Faul
     → IsFileLifetime content promise geometry (reads new) life
     → LifetimeHolds (device_of content promise) geometry tools (fresh_standing most) life)
 
--- as `KeepsFromImage`
+-- As `KeepsFromImage`. If the device is grown in it, and is small at first, its headers name areas of a small device then.
 abbrev pub KeepsFileFromImage : {S : Type 0} → (W A E : Type 0) → (S → Option (List ℕ)) → (S → Promise) → Type 0
 KeepsFileFromImage {S} W A E content promise = (geometry : Geometry) (tools : List ℤ) (left : Image) (x : DurableState)
     (life : List (DeviceSession E (FileRig S W A))) → stands_beside tools left ≡ Ok x → IsWritten left → HasOneTable tools left life
+    → (grows life ≡ true → is_large left ≡ false → NamesSmallAreas left)
     → IsFileLifetime content promise geometry left life → LifetimeHolds (device_of content promise) geometry tools x life

@@ -10,4 +10,5 @@ pub mod Program
 pub mod Size
 pub mod Devices
 pub mod Grow
+pub mod Lengthening
 pub mod FileLifetime
