@@ -417,15 +417,15 @@ class Player(Playing, PlayerTest):
             Path("times").unlink(missing_ok=True)
 
     def test_way_back_beyond_the_clock(self) -> None:
-        """Nor is it on a way back, of a line that was carried out without times: of its nanoseconds 64 bits keep 384."""
+        """Nor is it on a way back, of a line that was carried out without times: 64 bits keep 384 ns of it."""
         Path("motion.toml").write_text("[motion]\naccel_mm_s2 = [1000, 1000, 1000]\n")
         Path("out").write_text("P 1 0 0 50\nP 1 0 0 18446744073709552\nP 1 0 0 50\n")
         self.assertEqual(self.play("--untimed").returncode, 0)
         before = record()
         for words in ((), ("--machine", "motion.toml"), ("--untimed", "--times", "times")):
             done = self.run_player("--go-to-line", "0", "--yes", *words, "out", "first.toml", "position")
-            said = ("player: out: line 2: a time of 18446744073709552 microseconds, and the player's clock has room for 73"
-                    " years, 2305843009213693")
+            said = ("player: out: line 2: a time of 18446744073709552 microseconds, and the player's clock has room for"
+                    " 73 years, 2305843009213693")
             self.assertEqual((done.returncode, done.stderr.splitlines()[-1:], record()), (2, [said], before), words)
             Path("times").unlink(missing_ok=True)
         done = self.run_player("--go-to-line", "0", "--yes", "--untimed", "out", "first.toml", "position")
