@@ -183,7 +183,7 @@ class Person:
             raise Wrong(f"moves {ledger.made} to {self.to - 1} are never made")
         if self.to < self.before and not uncut.is_within_one(self.to, self.before):
             raise Wrong(f"moves {self.to} to {self.before - 1} are made twice, which are of several segments")
-        ledger.on, self.phase, self.cutting = self.to, "cut", True
+        ledger.on, ledger.is_away, self.phase, self.cutting = self.to, False, "cut", True
         self.shop.spare(False)
 
     def command(self, text: str) -> str:
@@ -203,6 +203,8 @@ class Person:
             status = read_status(text)
             _, _, at, kind, _ = status
             self.entries = max(0, status[0] - self.ledger.homed)
+            if self.ledger.is_away and (kind == "mdi" or self.is_left(self.opening)):
+                raise Unjudged("a line of the person's own is half-done")
             self.to = self.ledger.comes_next(*status)
             self.ledger.loses(self.to, self.job.ahead)
             if self.homes:
@@ -270,7 +272,7 @@ class Person:
     def back_by_hand(self) -> list[str]:
         """The lines that bring the machine to where the program goes on, with its outputs."""
         uncut, to = self.job.uncut, self.to
-        self.ledger.is_by_hand = True
+        self.ledger.is_by_hand = self.ledger.is_away = True
         self.shop.spare(True)
         spindle, mist, flood, _ = uncut.outputs[to] if to < len(uncut.moves) else uncut.last
         x, y, z = (f"{each / 1000:.3f}" for each in uncut.points[to])
@@ -705,8 +707,9 @@ def tried(tools: Tools, options: Options, seed: int, seconds: float, chains: int
         said = try_chain(tools, seed + found.chains, options, found)
         if said and keep:
             (keep / f"seed-{seed + found.chains - 1}.txt").write_text("\n".join(said))
-        if said or found.chains % 50 == 0:
-            print(found.wrong[-1] if said else f"{found.losses} losses in {found.chains} chains", flush=True)
+        if said or found.chains % 10 == 0:
+            print(found.wrong[-1] if said else f"{found.losses} losses, {found.states} states in {found.chains} chains,"
+                  f" {found.unjudged} not judged", flush=True)
     return found
 
 
