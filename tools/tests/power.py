@@ -443,7 +443,8 @@ class Chain:
         for _ in range(2 * len(self.plans) + 8):
             how = self.plans[self.lost] if self.lost < len(self.plans) else Plan()
             shop = Shop(self.tools, self.folder, how.deeds, measured, self.job, self.sink)
-            homes = self.homes or self.job.has_home and self.chance.random() < (0.25 if self.lost else 0.1)
+            may_home = self.job.has_home and not self.plant
+            homes = self.homes or may_home and self.chance.random() < (0.25 if self.lost else 0.1)
             person = Person(shop, self.job, self.ledger, self.screws, self.chance, bool(self.plant), homes)
             self.told.append(f"-- {how}, measured {measured}, at move {self.ledger.on} of {self.ledger.made} made")
             self.homes = False
@@ -521,6 +522,9 @@ class Chain:
                 self.ledger.leave()
         if self.plant and self.lost == 1:
             plant_in_record(self.folder, self.plant)
+            if self.plant == "home-off":
+                path, self.homes = self.folder / "machine.toml", True
+                path.write_text(path.read_text().replace(f"at_um = [{HOME[0]},", f"at_um = [{HOME[0] + 1},"))
             return None
         said = record_of(self.folder).get("reference", "0 0 0").split()
         if measures:
@@ -565,7 +569,8 @@ class Chain:
 
 
 PLANTS = {"record-behind": "", "place-off": "", "way-short": "player pins write 9 skip",
-          "spindle-off": "player pins write 1 still+", "sink-more": "", "sync-lies": ""}
+          "spindle-off": "player pins write 1 still+", "sink-more": "", "sync-lies": "",
+          "backlash-short": "player pins write 4 skip", "home-off": ""}
 """Faults, with the deeds of the session after the loss of power."""
 
 
@@ -593,8 +598,10 @@ def try_plant(tools: Tools, plant: str, seed: int) -> str:
     """What the judge finds of a planted fault, in long moves; nothing, if it finds none."""
     chance = random.Random(seed)
     text = b"G17 G21 G90 G94\nM3 S1000\nG1 X0.8 F1200\nG1 Y0.8\nG1 X0 Z-0.4\nG1 Y0\nM2\n"
-    over = "sink" if plant == "sink-more" else "file"
-    job = Job(text, run_uncut(tools.ngc, FIRST, text, []), over=over, has_ramps=over == "sink")
+    over = "sink" if plant in ("sink-more", "home-off") else "file"
+    is_loose = plant == "backlash-short"
+    job = Job(text, run_uncut(tools.ngc, FIRST, text, []), over=over, has_ramps=over == "sink" or is_loose,
+              backlash=(7, 7, 7) if is_loose else (0, 0, 0), has_home=plant == "home-off")
     at = 800 * chance.randint(0, 3) + chance.randint(300, 700)
     deeds = f"ngc out write {at} kill" if over == "sink" else "console out sync 1 lie+" if plant == "sync-lies" else ""
     lost = Plan(deeds=deeds, line=0 if over == "sink" else at, is_all=False)
