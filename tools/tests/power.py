@@ -183,7 +183,7 @@ class Person:
             raise Wrong(f"moves {ledger.made} to {self.to - 1} are never made")
         if self.to < self.before and not uncut.is_within_one(self.to, self.before):
             raise Wrong(f"moves {self.to} to {self.before - 1} are made twice, which are of several segments")
-        ledger.on, self.phase, self.cutting = self.to, "cut", True
+        ledger.on, ledger.is_away, self.phase, self.cutting = self.to, False, "cut", True
         self.shop.spare(False)
 
     def command(self, text: str) -> str:
@@ -203,6 +203,8 @@ class Person:
             status = read_status(text)
             _, _, at, kind, _ = status
             self.entries = max(0, status[0] - self.ledger.homed)
+            if self.ledger.is_away and (kind == "mdi" or self.is_left(self.opening)):
+                raise Unjudged("a line of the person's own is half-done")
             self.to = self.ledger.comes_next(*status)
             self.ledger.loses(self.to, self.job.ahead)
             if self.homes:
@@ -270,7 +272,7 @@ class Person:
     def back_by_hand(self) -> list[str]:
         """The lines that bring the machine to where the program goes on, with its outputs."""
         uncut, to = self.job.uncut, self.to
-        self.ledger.is_by_hand = True
+        self.ledger.is_by_hand = self.ledger.is_away = True
         self.shop.spare(True)
         spindle, mist, flood, _ = uncut.outputs[to] if to < len(uncut.moves) else uncut.last
         x, y, z = (f"{each / 1000:.3f}" for each in uncut.points[to])
@@ -441,7 +443,8 @@ class Chain:
         for _ in range(2 * len(self.plans) + 8):
             how = self.plans[self.lost] if self.lost < len(self.plans) else Plan()
             shop = Shop(self.tools, self.folder, how.deeds, measured, self.job, self.sink)
-            homes = self.homes or self.job.has_home and self.chance.random() < (0.25 if self.lost else 0.1)
+            may_home = self.job.has_home and not self.plant
+            homes = self.homes or may_home and self.chance.random() < (0.25 if self.lost else 0.1)
             person = Person(shop, self.job, self.ledger, self.screws, self.chance, bool(self.plant), homes)
             self.told.append(f"-- {how}, measured {measured}, at move {self.ledger.on} of {self.ledger.made} made")
             self.homes = False
@@ -519,6 +522,9 @@ class Chain:
                 self.ledger.leave()
         if self.plant and self.lost == 1:
             plant_in_record(self.folder, self.plant)
+            if self.plant == "home-off":
+                path, self.homes = self.folder / "machine.toml", True
+                path.write_text(path.read_text().replace(f"at_um = [{HOME[0]},", f"at_um = [{HOME[0] + 1},"))
             return None
         said = record_of(self.folder).get("reference", "0 0 0").split()
         if measures:
@@ -563,7 +569,8 @@ class Chain:
 
 
 PLANTS = {"record-behind": "", "place-off": "", "way-short": "player pins write 9 skip",
-          "spindle-off": "player pins write 1 still+", "sink-more": "", "sync-lies": ""}
+          "spindle-off": "player pins write 1 still+", "sink-more": "", "sync-lies": "",
+          "backlash-short": "player pins write 4 skip", "home-off": ""}
 """Faults, with the deeds of the session after the loss of power."""
 
 
@@ -591,8 +598,10 @@ def try_plant(tools: Tools, plant: str, seed: int) -> str:
     """What the judge finds of a planted fault, in long moves; nothing, if it finds none."""
     chance = random.Random(seed)
     text = b"G17 G21 G90 G94\nM3 S1000\nG1 X0.8 F1200\nG1 Y0.8\nG1 X0 Z-0.4\nG1 Y0\nM2\n"
-    over = "sink" if plant == "sink-more" else "file"
-    job = Job(text, run_uncut(tools.ngc, FIRST, text, []), over=over, has_ramps=over == "sink")
+    over = "sink" if plant in ("sink-more", "home-off") else "file"
+    is_loose = plant == "backlash-short"
+    job = Job(text, run_uncut(tools.ngc, FIRST, text, []), over=over, has_ramps=over == "sink" or is_loose,
+              backlash=(7, 7, 7) if is_loose else (0, 0, 0), has_home=plant == "home-off")
     at = 800 * chance.randint(0, 3) + chance.randint(300, 700)
     deeds = f"ngc out write {at} kill" if over == "sink" else "console out sync 1 lie+" if plant == "sync-lies" else ""
     lost = Plan(deeds=deeds, line=0 if over == "sink" else at, is_all=False)
@@ -705,8 +714,9 @@ def tried(tools: Tools, options: Options, seed: int, seconds: float, chains: int
         said = try_chain(tools, seed + found.chains, options, found)
         if said and keep:
             (keep / f"seed-{seed + found.chains - 1}.txt").write_text("\n".join(said))
-        if said or found.chains % 50 == 0:
-            print(found.wrong[-1] if said else f"{found.losses} losses in {found.chains} chains", flush=True)
+        if said or found.chains % 10 == 0:
+            print(found.wrong[-1] if said else f"{found.losses} losses, {found.states} states in {found.chains} chains,"
+                  f" {found.unjudged} not judged", flush=True)
     return found
 
 

@@ -182,6 +182,7 @@ class Ledger:
     homed: int = 0  # each is an entry of the device
     legs: "Legs | None" = None
     is_by_hand: bool = False  # OUT has lines that aren't the program's
+    is_away: bool = False  # lines of the person's own lead to where the program goes on
     is_of_sink: bool = False  # it tells steps and switches alone
 
     @property

@@ -10,6 +10,7 @@ from pathlib import Path
 sys.path.insert(0, str(Path(__file__).resolve().parent))
 
 import power  # noqa: E402
+from power_axes import Screws  # noqa: E402
 from power_path import Ledger, Legs, Uncut, Wrong  # noqa: E402
 from power_shop import CUT, SYNC, WRITE, Call, left_of, mark_lasting  # noqa: E402
 from session_support import ngc  # noqa: E402
@@ -49,6 +50,18 @@ class Judge(unittest.TestCase):
         self.assertRaisesRegex(Wrong, "where legs lead up", ledger.goes, over, 3)
         ledger.goes([b"P 0 0 1 50"] * 2 + over + [b"P 0 0 -1 50"] * 2 + [b"P 1 0 0 50"], 3)
         self.assertEqual((ledger.on, ledger.made, ledger.steps), (3, 3, (3, 0, 0)))
+
+    def test_screws(self) -> None:
+        """Two steps of backlash: a screw of which nothing is known takes the table along, and after each turn two steps
+        don't, also where they are taken back amid that."""
+        up, down = b"P 1 0 0 50", b"P -1 0 0 50"
+        for lines, made in (([up, up], [up, up]), ([up, down, down, down], [up, down]),
+                            ([down, up, down, down], [down, down]), ([b"S 0 0.000000 0 0 0 0"], None)):
+            self.assertEqual(Screws((2, 0, 0)).table(lines), lines if made is None else made)
+        known = Screws((2, 0, 4))
+        known.up = known.told("1 + -")
+        self.assertEqual(known.up, [1, 0, 4])
+        self.assertEqual(known.table([b"P 1 1 -1 50", up]), [b"P 0 1 -1 50", up])
 
     def test_disk(self) -> None:
         """What a sync that failed was to write isn't lasting, also once another one succeeds; what is behind it is. A

@@ -28,10 +28,7 @@ int fdatasync(int file) {
     return real(file);
 }
 """
-SECOND_TICKS = 8_000_000
-NO_RECORD = "the record can't be kept"
-# A disk that takes 300 ms for each record, and a line on which 200 ms pass between a frame that begins a session, whose
-# second byte is 2 (docs/SINK.md), and the next one.
+# A disk that takes 300 ms for each record.
 SLOW = r"""#define _GNU_SOURCE
 #include <dlfcn.h>
 #include <unistd.h>
@@ -41,29 +38,9 @@ int fdatasync(int file) {
     usleep(300000);
     return error;
 }
-ssize_t write(int file, const void *bytes, size_t size) {
-    ssize_t (*real)(int, const void *, size_t) = dlsym(RTLD_NEXT, "write");
-    static int has_begun;
-    if (has_begun && isatty(file)) {
-        usleep(200000);
-    }
-    has_begun = isatty(file) ? size > 2 && ((const char *)bytes)[1] == 2 : has_begun;
-    return real(file, bytes, size);
-}
 """
 SECOND_TICKS = 8_000_000
 NO_RECORD = "the record can't be kept"
-# A disk that takes a tenth of a second for each record.
-SLOW = r"""#define _GNU_SOURCE
-#include <dlfcn.h>
-#include <unistd.h>
-int fdatasync(int file) {
-    int (*real)(int) = dlsym(RTLD_NEXT, "fdatasync");
-    int error = real(file);
-    usleep(100000);
-    return error;
-}
-"""
 
 
 class NoRecord(PlayerTest):
@@ -121,12 +98,12 @@ class LostAmidHome(PlayerTest):
         """Whenever it is killed, the next player knows where the motors are, or says that it doesn't."""
         self.env = preloaded("slow", SLOW)
         known = 0
-        for number in range(5):
+        for number in range(10):
             self.begun()
             self.started()
             self.link.home("Z")
             self.wait_for("it moves", lambda: self.link.ask().at != "0.000000 0.000000 0.000000")
-            time.sleep(number * 0.1)
+            time.sleep(number * 0.04)
             self.child.kill()
             self.child.communicate()
             for line in ("serve 1", "serve 0", f"run {SECOND_TICKS} 0", "serve 20"):  # it makes what it has
@@ -141,7 +118,7 @@ class LostAmidHome(PlayerTest):
             if report.word != "alarm":
                 known += 1
                 self.assertEqual(tuple(round(float(each) * 1000) for each in report.at.split()), at, number)
-        self.assertLess(known, 5)
+        self.assertLess(known, 10)
 
 
 if __name__ == "__main__":
