@@ -93,18 +93,18 @@ FAULTS: dict[str, list[Edit]] = {
 SHOW = (*chip_scenarios.QUICK, chip_scenarios.short_words, chip_scenarios.all_axes)
 
 
-def build(folder: Path, edits: list[Edit]) -> str | None:
-    """The ELF of a copy of tools/sink with these edits; None where make refuses it."""
+def build(folder: Path, edits: list[Edit], board: str = "stm32f103") -> str | None:
+    """A board's ELF of a copy of tools/sink with these edits; None where make refuses it."""
     shutil.copytree(SINK, folder / "sink", ignore=shutil.ignore_patterns("out"))
     for file, old, new in edits:
         text = (folder / "sink" / file).read_text()
         assert old in text, f"{file} has no {old!r}"
         (folder / "sink" / file).write_text(text.replace(old, new))
     try:
-        make_chip(folder / "sink", folder / "out", "stm32f103", "arm")
+        make_chip(folder / "sink", folder / "out", board, "arm")
     except AssertionError:
         return None
-    return str(folder / "out" / "stm32f103.elf")
+    return str(folder / "out" / f"{board}.elf")
 
 
 def shown_by(edits: list[Edit]) -> str:

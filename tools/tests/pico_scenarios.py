@@ -11,8 +11,8 @@ from pathlib import Path
 
 sys.path.insert(0, str(Path(__file__).resolve().parent))
 
-from chip_scenarios import Figures, begun, check_new, even, told, words_of  # noqa: E402
-from chip_support import MS_NS, Chip, Driver, elf_of  # noqa: E402
+from chip_scenarios import LATE_US, WAYS, Figures, begun, check_new, even, lateness, told, words_of  # noqa: E402
+from chip_support import MS_NS, US, Chip, Driver, Violation, elf_of  # noqa: E402
 from sink_frames import NEW  # noqa: E402
 
 FLASH_BYTES, SECTOR = 2 << 20, 4096
@@ -124,7 +124,64 @@ def oscillator(elf: str) -> Figures:
     return figures
 
 
-EVERY: tuple[Callable[[str], Figures], ...] = (boots, kept, cut, long_line, bites, oscillator)
+NOT_OF_V6M = {
+    "cbz": "b100", "cbnz": "b900", "it": "bf08", "movw": "f2400000", "movt": "f2c00000", "udiv": "fbb0f0f1",
+    "sdiv": "fb90f0f1", "clz": "fab0f080", "rbit": "fa90f0a0", "mla": "fb013002", "umull": "fba20103",
+    "ldrd": "e9dd0100", "ldr.w": "f8dd0000", "str.w": "f8cd0000", "b.w": "f000b800", "beq.w": "f0008000",
+    "tbb": "e8dff000", "push.w": "e92d0110", "add.w": "eb000001", "and.w": "f0000001", "bfi": "f3600000",
+    "ubfx": "f3c00000", "ssat": "f3000000", "adr.w": "f20f0000", "ldrex": "e85d0f00", "clrex": "f3bf8f2f"}
+OF_V6M = {"nop": "bf00", "dmb": "f3bf8f5f", "dsb": "f3bf8f4f", "isb": "f3bf8f6f", "cpsie": "b662", "uxtb": "b2c0",
+          "rev": "ba00", "rsbs": "4240", "muls": "4340", "sxth": "b200", "bl": "f000f800"}
+"""Instructions by the manuals of ARMv6-M and ARMv7-M, with r0, r1 and sp."""
+
+
+def begins_with(elf: str, instruction: str) -> str:
+    """What stops a program whose main begins with this instruction; empty where nothing does at once."""
+    chip = Chip(elf)
+    symbol = {name: chip.model.model_symbol(name.encode(), None) & ~1 for name in ("main", "program_begin",
+                                                                                "program_from")}
+    at = symbol["main"] - symbol["program_begin"] + symbol["program_from"] - 0x10000000
+    halves = [int(instruction[each:each + 4], 16) for each in range(0, len(instruction), 4)]
+    flash(chip)[at:at + len(instruction) // 2] = list(struct.pack(f"<{len(halves)}H", *halves))
+    try:
+        chip.run(20 * MS_NS)
+    except Violation as why:
+        return str(why)
+    return ""
+
+
+def instructions(elf: str) -> Figures:
+    """The core refuses what ARMv7-M has and ARMv6-M hasn't, and takes what both have."""
+    for name, code in NOT_OF_V6M.items():
+        assert "that this core hasn't" in begins_with(elf, code), f"{name} is taken"
+    for name, code in OF_V6M.items():
+        assert "that this core hasn't" not in begins_with(elf, code), f"{name} is refused"
+    return {"refused": len(NOT_OF_V6M), "taken": len(OF_V6M)}
+
+
+def is_in_time_from_fifo(elf: str, rate: int, way: str) -> bool:
+    """Whether 1,800 steps at this rate, which are in the FIFO when the first is made, are in time."""
+    driver = begun(elf, ahead=2040)
+    steps = [(800_000, 1, 0), *even(rate, 1800, WAYS[way])]
+    driver.give(words_of(steps))
+    driver.play()
+    late = lateness(steps, driver.chip.pulses())[1:]
+    return max(late) - min(late) < LATE_US * US
+
+
+def fifo_rates(elf: str) -> Figures:
+    """The highest rates from the FIFO alone at which no step is more than 10 us late."""
+    figures = {}
+    for way in WAYS:
+        low, high = 30_000, 110_000
+        while high - low > 1000:
+            middle = (low + high) // 2
+            low, high = (middle, high) if is_in_time_from_fifo(elf, middle, way) else (low, middle)
+        figures[way] = low
+    return figures
+
+
+EVERY: tuple[Callable[[str], Figures], ...] = (boots, kept, cut, long_line, bites, oscillator, instructions, fifo_rates)
 
 
 def main(*names: str) -> int:

@@ -15,7 +15,8 @@ static bool is_of_v6m(const struct op *op, uint32_t one, uint32_t two) {
     if (op->size == 2) {
         return op->kind != CBZ && op->kind != IT;
     }
-    return (one & 0xf800) == 0xf000 && ((two & 0xd000) == 0xd000 || (one == 0xf3bf && op->kind == BARRIER));
+    bool is_barrier = one == 0xf3bf && ((two & 0xfff0) == 0x8f40 || (two & 0xfff0) == 0x8f50 || (two & 0xfff0) == 0x8f60);
+    return is_barrier || ((one & 0xf800) == 0xf000 && (two & 0xd000) == 0xd000);
 }
 
 static struct op decode(uint32_t one, uint32_t two) {

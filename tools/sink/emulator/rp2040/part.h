@@ -21,10 +21,11 @@
 #define RUNS_RAM true
 
 #define UNICORN_CORE UC_CPU_ARM_CORTEX_M0
+#define REGIONS {0, 0x4000}, {0x18000000, 0x1000}, {0x40000000, 0x10001000}, {0xd0000000, 0x1000}
 #define ALIAS_AT 0x10000000u /* the flash is there alone */
 
 enum { FLASH_AT = 0x10000000, FLASH_BYTES = 2 << 20, RAM_AT = 0x20000000, RAM_BYTES = 264 << 10 };
-enum { PORTS = 1 /* bank 0 of the pins, which is port A here */, PERIPHERALS_BYTES = 0x10001000 };
+enum { PORTS = 1 /* bank 0 of the pins, which is port A here */ };
 enum { IRQS = 26, IRQ_TIMER = 4 /* of the steps, which a slice of the PWM times */, PRIORITY_BITS = 0xc0,
        VECTORS_ALIGNED = 256 };
 
