@@ -87,6 +87,23 @@ class NoFiles(InFolder):
         self.assertNotIn("internal error", said, (tool.__name__, words))
         self.assertEqual({name: Path(name).read_bytes() for name in before}, before, (tool.__name__, words))
 
+    def test_ngc(self) -> None:
+        """`ngc` waits for no pipe that nobody writes, but for a program and for OUT, which may come and go by one."""
+        settings, machine = (f"refused {name}: no file, but a pipe\n" for name in ("SETTINGS", "MACHINE"))
+        for words, wanted in (("dry part.ngc --settings pipe", settings), ("run mill.dev pipe out", settings),
+                              ("pace pipe motion.toml", settings), ("pace first.toml pipe", machine),
+                              ("dry part.ngc --from pipe", "refused J1 DeviceFailed\n"),
+                              ("run pipe first.toml out", "refused J1 DeviceFailed\n"),
+                              ("format pipe", "refused J1 DeviceFailed\n"), ("grow pipe", "refused J1 DeviceFailed\n")):
+            with self.subTest(words):
+                done = subprocess.run([ngc(), *words.split()], input="", capture_output=True, text=True,
+                                      timeout=PATIENCE_S)
+                self.assertEqual((done.returncode, done.stdout), (2, wanted))
+        for program in ("part.ngc", "/dev/stdin"):
+            done = subprocess.run([ngc(), "dry", program], input=Path("part.ngc").read_text(), capture_output=True,
+                                  text=True, timeout=PATIENCE_S)
+            self.assertEqual((done.returncode, "STRAIGHT_FEED" in done.stdout), (0, True), program)
+
     def test_settings(self) -> None:
         """Settings and a machine's file have at most a mebibyte."""
         Path("long.toml").write_text(Path("first.toml").read_text() + "#" * 2**20)

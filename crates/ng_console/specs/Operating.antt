@@ -19,6 +19,7 @@ use Rattle.ng_console.specs.SettingsFile.{GivesChoice}
 use Rattle.ng_console.specs.Settling.{SettlesTheRest}
 use Rattle.ng_console.specs.Devices.{IsOver}
 use Rattle.ng_console.specs.Refusals.{IsSilent, RefusesDevice, RefusesSettings, RefusesStorage}
+use Rattle.ng_console.specs.declared.settings_file.NoFile.{NoFile}
 use Rattle.ng_console.specs.declared.settings_file.NoSettings.{NoSettings}
 
 -- The device's file was settled. No byte has changed, and a loss of power leaves what a read returns. A file that does
@@ -86,5 +87,5 @@ module _ {F : Type 0} (contents : F → Option (List ℕ)) where
 -- the same with the settings of some file
 abbrev pub Operates : {F : Type 0} → (F → Option (List ℕ)) → (F → Option (List ℕ)) → Option (List ℕ) → Option (List ℕ) → Option (List ℕ) → ℕ → Type 0
 Operates {F} bytes_of contents text old new status =
-    (settings_file : Result F Error) × (chosen : Result Settings NoSettings) × GivesChoice bytes_of (Some settings_file) chosen
+    (settings_file : Result F NoFile) × (chosen : Result Settings NoSettings) × GivesChoice bytes_of (Some settings_file) chosen
     × OperatesChosen contents chosen text old new status

@@ -2,7 +2,6 @@
 -- on a machine with these settings and this motion.
 use Rattle.std.specs.Prelude.{ℕ, ◌≡◌, ◌≢◌, ◌<◌, ◌≤◌, Bool, true, false, List, ◌++◌, Option, Some, Result, Ok, Err, IfErr, IfSome}
 use Rattle.std.specs.Prelude.{⊤, codes, length}
-use Rattle.std.specs.declared.io.Error.{Error}
 use Rattle.std.specs.Io.KnownBytes.{Appends}
 use Rattle.ng_canon.specs.declared.geometry.Geometry.{Geometry}
 use Rattle.ng_pace.specs.declared.limits.Limits.{Limits}
@@ -20,7 +19,9 @@ use Rattle.ng_settings.specs.declared.standard.Settings.{Settings}
 use Rattle.ng_console.specs.SettingsFile.{GivesChoice, most_bytes}
 use Rattle.ng_console.specs.Refusals.{IsSilent, RefusesSettings}
 use Rattle.ng_console.specs.declared.pacing.NoLimits.{NoLimits}
-use Rattle.ng_console.specs.declared.pacing.NoLimits.TheVariants.{Unread, TooLong, Refused}
+use Rattle.ng_console.specs.declared.pacing.NoLimits.TheVariants.{Unread, Pipe, TooLong, Refused}
+use Rattle.ng_console.specs.declared.settings_file.NoFile.{NoFile}
+use Rattle.ng_console.specs.declared.settings_file.NoFile.TheVariants as no_file
 use Rattle.ng_console.specs.declared.settings_file.NoSettings.{NoSettings}
 
 -- what is shown of the lines
@@ -52,23 +53,26 @@ FindsLimits text machine (Ok limits) = (length text ≤ most_bytes) × AreLimits
 FindsLimits text machine (Err (Refused fault)) = (length text ≤ most_bytes) × IsRefused text machine fault
 FindsLimits text machine (Err TooLong) = most_bytes < length text
 FindsLimits text machine (Err Unread) = ⊤
+FindsLimits text machine (Err Pipe) = ⊥
 
 -- the times, with the limits that were found; if there are none, no line is read
 abbrev pub PacesFound : Result Limits NoLimits → Bool → Option (List ℕ) → Option (List ℕ) → Option (List ℕ) → ℕ → Type 0
 PacesFound (Ok limits) total text old new status = IsPaced limits total text old new status
 PacesFound (Err Unread) total text old new status = IsSilent old new status
+PacesFound (Err Pipe) total text old new status = (status ≡ 2) × Appends old new (codes "refused MACHINE: no file, but a pipe\n")
 PacesFound (Err TooLong) total text old new status =
     (status ≡ 2) × Appends old new (codes "refused MACHINE: it is longer than 1,048,576 bytes\n")
 PacesFound (Err (Refused fault)) total text old new status = (status ≡ 2) × Appends old new (refused_machine_text fault)
 
 module _ {F : Type 0} (bytes_of : F → Option (List ℕ)) where
   -- the limits in a file, as it was opened
-  abbrev pub FindsIn : Result F Error → Geometry → Result Limits NoLimits → Type 0
+  abbrev pub FindsIn : Result F NoFile → Geometry → Result Limits NoLimits → Type 0
   FindsIn (Ok file) machine found = IfSome (bytes_of file) (λ text. FindsLimits text machine found)
-  FindsIn (Err error) machine found = found ≡ Err Unread
+  FindsIn (Err no_file.Unopened) machine found = found ≡ Err Unread
+  FindsIn (Err no_file.Pipe) machine found = found ≡ Err Pipe
 
   -- the times, with the settings that were found; if there are none, the file of the machine isn't used
-  abbrev pub PacesChosen : Result Settings NoSettings → Result F Error → Bool → Option (List ℕ) → Option (List ℕ)
+  abbrev pub PacesChosen : Result Settings NoSettings → Result F NoFile → Bool → Option (List ℕ) → Option (List ℕ)
       → Option (List ℕ) → ℕ → Type 0
   PacesChosen (Err why) machine_file total text old new status = RefusesSettings why old new status
   PacesChosen (Ok settings) machine_file total text old new status =
@@ -78,5 +82,5 @@ module _ {F : Type 0} (bytes_of : F → Option (List ℕ)) where
   -- the same with the settings of some file, and some file of the machine
   abbrev pub Paces : Bool → Option (List ℕ) → Option (List ℕ) → Option (List ℕ) → ℕ → Type 0
   Paces total text old new status =
-      (settings_file : Result F Error) × (machine_file : Result F Error) × (chosen : Result Settings NoSettings)
+      (settings_file : Result F NoFile) × (machine_file : Result F NoFile) × (chosen : Result Settings NoSettings)
       × GivesChoice bytes_of (Some settings_file) chosen × PacesChosen chosen machine_file total text old new status

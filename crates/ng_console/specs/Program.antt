@@ -16,6 +16,7 @@ use Rattle.ng_console.specs.Pacing.{Paces}
 use Rattle.ng_console.specs.Refusals.{IsSilent, RefusesSettings}
 use Rattle.ng_console.specs.declared.command_line.Job.{Job}
 use Rattle.ng_console.specs.declared.command_line.Job.TheVariants.{Dry, Format, Grow, Run, Pace}
+use Rattle.ng_console.specs.declared.settings_file.NoFile.{NoFile}
 use Rattle.ng_console.specs.declared.settings_file.NoSettings.{NoSettings}
 
 module _ {F : Type 0} (bytes_of : F → Option (List ℕ)) where
@@ -37,7 +38,7 @@ module _ {F : Type 0} (bytes_of contents : F → Option (List ℕ)) where
   -- what the job asks for, of files that were opened or not, and of the text of an operator
   abbrev pub JobSpec : Job → Option (List ℕ) → Option (List ℕ) → Option (List ℕ) → ℕ → Type 0
   JobSpec (Dry program from settings block_delete) text old new status =
-      (settings_file : Option (Result F Error)) × (device : Option (Result (OpenedFile F) NoDevice)) × (program_file : Result F Error)
+      (settings_file : Option (Result F NoFile)) × (device : Option (Result (OpenedFile F) NoDevice)) × (program_file : Result F Error)
       × (is_some settings_file ≡ is_some settings) × (is_some device ≡ is_some from)
       × ((chosen : Result Settings NoSettings) × GivesChoice bytes_of settings_file chosen
       × RunsChosen bytes_of (λ (file : OpenedFile F). None) chosen block_delete device program_file old new status)

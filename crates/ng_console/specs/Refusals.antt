@@ -10,7 +10,7 @@ use Rattle.ng_num.specs.Fault.{text as fault_text}
 use Rattle.ng_file.specs.declared.device.NoDevice.{NoDevice}
 use Rattle.ng_file.specs.declared.device.NoDevice.TheVariants.{Unopened, Unusable}
 use Rattle.ng_console.specs.declared.settings_file.NoSettings.{NoSettings}
-use Rattle.ng_console.specs.declared.settings_file.NoSettings.TheVariants.{Unread, TooLong, Refused}
+use Rattle.ng_console.specs.declared.settings_file.NoSettings.TheVariants.{Unread, Pipe, TooLong, Refused}
 
 -- a file that can't be opened or read: nothing is written
 abbrev pub IsSilent : Option (List ℕ) → Option (List ℕ) → ℕ → Type 0
@@ -28,9 +28,10 @@ abbrev pub FaultStatus : {T : Type 0} → Result T Fault → Option (List ℕ) �
 FaultStatus (Ok _) old new status = (status ≡ 0) × (new ≡ old)
 FaultStatus (Err fault) old new status = IsRefusedWith fault old new status
 
--- settings that can't be read, that are too long, or that are refused
+-- settings that can't be read, that are no file or too long, or that are refused
 abbrev pub RefusesSettings : NoSettings → Option (List ℕ) → Option (List ℕ) → ℕ → Type 0
 RefusesSettings Unread old new status = IsSilent old new status
+RefusesSettings Pipe old new status = (status ≡ 2) × Appends old new (codes "refused SETTINGS: no file, but a pipe\n")
 RefusesSettings TooLong old new status =
     (status ≡ 2) × Appends old new (codes "refused SETTINGS: it is longer than 1,048,576 bytes\n")
 RefusesSettings (Refused fault) old new status = IsRefusedWith fault old new status

@@ -8,7 +8,7 @@ ghost use Rattle.ng_console.specs.Pacing.{pace_status, refused_machine_text, sho
 ghost use Rattle.ng_console.specs.SettingsFile.{most_bytes};
 
 use crate::program::refuse_settings;
-use crate::settings_file::{NoBytes, NoSettings, read_whole};
+use crate::settings_file::{NoBytes, NoFile, NoSettings, read_whole};
 use ng_canon::Geometry;
 use ng_motion::{MotionFault, limits};
 use ng_pace::Limits;
@@ -27,6 +27,8 @@ const REFUSED: u8 = 1;
 pub(crate) enum NoLimits {
     /// The file can't be opened or read, or there is no memory for its bytes.
     Unread,
+    /// The file is a pipe.
+    Pipe,
     /// The file is longer than 1,048,576 bytes.
     TooLong,
     /// The text is refused.
@@ -58,14 +60,14 @@ fn limits_of_file<R: Read + Drop>(
     match read_whole(alloc, &mut file) {
         Ok(bytes) => limits_of_text(alloc, bytes.as_slice(), machine),
         Err(NoBytes::TooLong) => Err(NoLimits::TooLong),
-        Err(NoBytes::Unread) => Err(NoLimits::Unread),
+        Err(NoBytes::Unread(_)) => Err(NoLimits::Unread),
     }
 }
 
 /// The limits of an opened file.
 fn limits_of_opened<R: Read + Drop>(
     alloc: Global,
-    opened: io::Result<R>,
+    opened: Result<R, NoFile>,
     machine: &Geometry,
 ) -> Result<Limits, NoLimits>
     ensures finds { FindsIn R.remaining opened machine.now result }
@@ -73,7 +75,8 @@ fn limits_of_opened<R: Read + Drop>(
 {
     match opened {
         Ok(file) => limits_of_file(alloc, file, machine),
-        Err(_) => Err(NoLimits::Unread),
+        Err(NoFile::Unopened) => Err(NoLimits::Unread),
+        Err(NoFile::Pipe) => Err(NoLimits::Pipe),
     }
 }
 
@@ -122,8 +125,8 @@ fn pace_lines<I: Read, W: Write>(
     pace_status(&ended)
 }
 
-/// The same with the limits that were found. If there are none, no line is read, and if the machine's file is too long
-/// or was refused, a line says so. The error is the writer's while it writes that.
+/// The same with the limits that were found. If there are none, no line is read, and if the machine's file is a pipe,
+/// too long or refused, a line says so. The error is the writer's while it writes that.
 fn pace_found<I: Read, W: Write>(
     alloc: Global,
     found: Result<Limits, NoLimits>,
@@ -139,6 +142,10 @@ fn pace_found<I: Read, W: Write>(
     match found {
         Ok(limits) => Ok(pace_lines(alloc, limits, total, reader, writer)),
         Err(NoLimits::Unread) => Ok(FAILED),
+        Err(NoLimits::Pipe) => {
+            writer.write_all(b"refused MACHINE: no file, but a pipe\n")?;
+            Ok(FAILED)
+        }
         Err(NoLimits::TooLong) => {
             writer.write_all(b"refused MACHINE: it is longer than 1,048,576 bytes\n")?;
             Ok(FAILED)
@@ -156,7 +163,7 @@ fn pace_found<I: Read, W: Write>(
 pub(crate) fn pace_chosen<R: Read + Drop, I: Read, W: Write>(
     alloc: Global,
     chosen: Result<Settings, NoSettings>,
-    machine: io::Result<R>,
+    machine: Result<R, NoFile>,
     total: bool,
     reader: &mut I,
     writer: &mut W,

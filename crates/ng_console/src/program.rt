@@ -12,7 +12,7 @@ use crate::from_device::run_from_opened;
 use crate::grow::grow_opened;
 use crate::operating::{are_three_files, operate_chosen};
 use crate::pacing::pace_chosen;
-use crate::settings_file::{NoSettings, chosen_settings};
+use crate::settings_file::{NoSettings, chosen_settings, open_file};
 use crate::size::wanted_size;
 use ng_dry::{DryFault, Ended, dry};
 use ng_file::{Hold, NoDevice, Storage, make_device, open_device, open_device_to_read};
@@ -88,8 +88,8 @@ fn given_words<R: Env + AllocGlobal>(rt: &R) -> io::Result<Vec<String>> {
 /// line written says where and why. It is 2 in these cases, of which the first that holds counts:
 /// - The words ask for nothing that `ngc` does, or for help: clap's text is written.
 /// - Two of the three files of `run` are the same: nothing is written or created.
-/// - The settings file can't be opened or read: nothing is written. It is longer than 1,048,576 bytes, of which one
-///   more is read at most, or it is refused: one line that says so is written.
+/// - The settings file can't be opened or read: nothing is written. It is a pipe, it is longer than 1,048,576 bytes, of
+///   which one more is read at most, or it is refused: one line that says so is written.
 /// - Another file can't be opened or read, or the file for hand-outs can't be held: nothing is written. A device can't
 ///   be used: one line with its fault is written. A machine's file is refused as settings are.
 /// - The device, the reader or the writer fails, or there is no memory.
@@ -140,7 +140,7 @@ where
             block_delete,
         } => {
             let settings = match settings {
-                Some(path) => Some(fs::open(rt, path)),
+                Some(path) => Some(open_file(rt, path)),
                 None => None,
             };
             let device = match from {
@@ -167,7 +167,7 @@ where
             if !are_three_files(rt, device, settings, out) {
                 return FAILED;
             }
-            let settings = Some(fs::open(rt, settings));
+            let settings = Some(open_file(rt, settings));
             let chosen = chosen_settings(rt.alloc(), settings);
             operate_chosen(rt, chosen, device, out, reader, writer).unwrap_or(FAILED)
         }
@@ -176,8 +176,8 @@ where
             machine,
             total,
         } => {
-            let settings = Some(fs::open(rt, settings));
-            let machine = fs::open(rt, machine);
+            let settings = Some(open_file(rt, settings));
+            let machine = open_file(rt, machine);
             let chosen = chosen_settings(rt.alloc(), settings);
             pace_chosen(rt.alloc(), chosen, machine, total, reader, writer).unwrap_or(FAILED)
         }
@@ -212,13 +212,17 @@ fn run_chosen<S: Storage + Drop, R: Read + Drop, W: Write, A: Allocator + Copy +
 }
 
 /// Reports why there are no settings, and returns the exit status. Nothing is written for a file that can't be read;
-/// a line for one that is too long, and for a text that is refused. The error is the writer's.
+/// a line for one that is a pipe or too long, and for a text that is refused. The error is the writer's.
 pub(crate) fn refuse_settings<W: Write>(writer: &mut W, why: NoSettings) -> io::Result<u8>
     ensures run { IfOk result (RefusesSettings why (W.contents writer.old) (W.contents writer.new)) }
     ensures range { IfOk result (λ status. status ≤ 2) }
 {
     match why {
         NoSettings::Unread => Ok(FAILED),
+        NoSettings::Pipe => {
+            writer.write_all(b"refused SETTINGS: no file, but a pipe\n")?;
+            Ok(FAILED)
+        }
         NoSettings::TooLong => {
             writer.write_all(b"refused SETTINGS: it is longer than 1,048,576 bytes\n")?;
             Ok(FAILED)

@@ -133,8 +133,9 @@ fn is_directory<R: Files>(rt: &R, path: &str) -> bool {
     }
 }
 
-/// Whether a path names a pipe. Opening one to read it would wait for its writer.
-fn is_pipe<R: Files>(rt: &R, path: &str) -> bool {
+/// Whether a path names a pipe (own). Opening one to read it would wait for its writer. False if there is nothing, or
+/// the system can't tell.
+pub fn is_pipe<R: Files>(rt: &R, path: &str) -> bool {
     match rt.metadata(path) {
         Ok(metadata) => metadata.file_type().is_fifo(),
         Err(_) => false,

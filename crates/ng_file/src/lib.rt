@@ -30,7 +30,7 @@ mod storage;
 mod writing;
 
 pub use copying::copied;
-pub use device::{NoDevice, make_device, open_device, open_device_to_read};
+pub use device::{NoDevice, is_pipe, make_device, open_device, open_device_to_read};
 pub use hold::{Hold, NotHeld};
 pub use lengthening::lengthen;
 pub use opened::OpenedFile;
