@@ -200,7 +200,7 @@ class Walk:
             return
         said = [says for _, says in seen.log[:max(0, seen.logs - truth.homes_at)]]
         if any(says.endswith("homed: X Y Z") for says in said):
-            truth.offset, truth.is_place_known = (0.0, 0.0, 0.0), True
+            truth.offset, truth.is_place_known, truth.late_mm = (0.0, 0.0, 0.0), True, 0.0
         truth.homes_at = None
 
     def press(self, button: int, text: str) -> bool:
@@ -262,6 +262,7 @@ class Walk:
                 told = [float(at[axis]) - at_mm["XYZ".index(axis)] if axis in at else were["XYZ".index(axis)]
                         for axis in "XYZ"]
                 truth.offset, truth.is_place_known, truth.is_zero_asked = (told[0], told[1], told[2]), True, True
+                truth.late_mm = 0.0
 
     def _answered(self, text: str, says: str, before: Seen) -> None:
         """Something has to come of a touch of an enabled button, and a refusal has to be seen."""
@@ -504,8 +505,7 @@ class Walk:
             self.bench.kill("ngc")
         self.bench.kill(*(name for name in names if name != "ngc"))
         if "player" in names:
-            self.truth.killed_at = time.monotonic()
-            self.truth.killed_late_s = self.judge.slack_s(self.truth.killed_at)
+            self.judge.killed()
             self._rests_now()
             if is_moving:
                 self.truth.is_place_known = False

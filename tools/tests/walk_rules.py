@@ -66,8 +66,7 @@ class Truth:
     is_zero_asked: bool = True
     without_lines: bool = False
     touched_at: float = 0.0
-    killed_at: float = 0.0  # the player, and how late it may have been with its record then
-    killed_late_s: float = 0.0
+    late_mm: float = 0.0  # how far it went as the player was killed, while that may have been late with its record
     is_change_done: bool = False  # the tool is in: the player goes on with what it has in hand, its switches too
     is_recovering: bool = False
     quiet_pulses: int = 0
@@ -173,7 +172,7 @@ class Judge:
             return
         wanted = _difference(shown, self.truth.offset)
         if seen.blind and seen.past and seen.risk.startswith("By the record"):
-            is_so = self._was_at(wanted, unit, since, told, float(seen.past)) or self._was_late(wanted, unit, seen.past)
+            is_so = self._was_at(wanted, unit, since, told, float(seen.past) + self.truth.late_mm)
         elif seen.blind and seen.risk.startswith("Last known"):
             ago_s = _seconds(seen.risk)
             is_so = ago_s is None or self._was_at(wanted, unit, since - ago_s, told - ago_s + ROUNDED_S)
@@ -207,11 +206,11 @@ class Judge:
     def _was_at(self, wanted: Point, unit: str, begin: float, end: float, off_mm: float = 0.0) -> bool:
         return any(_is_near(wanted, at, unit, off_mm) for at in self.bench.mill.places(begin, end + CLOCKS_S))
 
-    def _was_late(self, wanted: Point, unit: str, past_mm: str) -> bool:
-        """Whether the record is as far off as is said, and what this computer was late with it as the player was
-        killed. How old it ever got before is in it, and no more."""
-        killed_at, late_s = self.truth.killed_at, self.truth.killed_late_s
-        return late_s > 0 and self._was_at(wanted, unit, killed_at - late_s, killed_at, float(past_mm))
+    def killed(self) -> None:
+        """The player is killed now. How old its record ever got is in that, but not how late this computer was with the
+        next one. That stays until somebody tells where the machine is."""
+        now, mill = time.monotonic(), self.bench.mill
+        self.truth.late_mm = max(self.truth.late_mm, mill.steps_between(now - self.slack_s(now), now)[0])
 
     def zero(self, seen: Seen) -> None:
         """What lies between machine and work stays at rest, where nobody asked for another zero."""
