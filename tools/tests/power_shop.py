@@ -49,6 +49,7 @@ while True:
         signal.signal(signal.SIGCHLD, signal.SIG_DFL)
         sys.stdin, sys.stdout, sys.stderr = os.fdopen(0), os.fdopen(1, "w"), os.fdopen(2, "w")
         faulthandler.register(signal.SIGUSR1)
+        signal.signal(signal.SIGINT, signal.default_int_handler)  # which a job in the background ignores
         os.environ.update(given)
         os._exit(main(words))
     os.chdir("/")
@@ -374,7 +375,8 @@ class Shop:
         names = {"console": [self.console], "player": [self.player.pid]}
         others = [pid for pid in self.processes() if pid not in (self.console, self.player.pid)]
         for pid in names.get(which, others):
-            os.kill(pid, signal.SIGKILL)
+            with suppress(ProcessLookupError):
+                os.kill(pid, signal.SIGKILL)
         self.killed = True
 
     def close(self) -> None:
