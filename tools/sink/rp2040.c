@@ -1,5 +1,5 @@
-/* A port for an RP2040 at 128 MHz with a crystal of 12 MHz and a flash of 2 MB, as a Raspberry Pi Pico has them, without
- * a library: docs/SINK.md has its wires. The numbers of registers and bits are those of the RP2040's datasheet.
+/* A port for an RP2040 at 128 MHz with a crystal of 12 MHz and a flash of 2 MB, as a Raspberry Pi Pico has them: without
+ * a library. docs/SINK.md has its wires. The numbers of registers and bits are those of the RP2040's datasheet.
  *
  * The chip's TIMER counts microseconds, which are eight ticks. So two slices of the PWM count 128 MHz / 16, which are
  * ticks: one goes on for ever and says what time it is, the other is set so that it turns over, and interrupts, when
