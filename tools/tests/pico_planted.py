@@ -80,7 +80,6 @@ LINE: dict[str, list[Edit]] = {
     "DMA the wrong way": port("1u << 4 | 1; /* as", "1u << 5 | 1; /* as"),
     "DMA as the other asks": port("20u << 15", "21u << 15"),
     "DMA begins the other": port("(uint32_t)SENDS << 11 | ", ""),
-    "DMA set while on": port("    if (is_busy(SENDS)) {\n        return;\n    }\n", ""),
     "DMA not begun again": port("DMA_AGAIN(RECEIVES) = 0xffffffff;", ""),
 }
 TIMERS: dict[str, list[Edit]] = {
