@@ -46,7 +46,12 @@ BOARDS = {board.name: board for board in (
           {"lsi_hz": 32_000, "hse_hz": 25_000_000}, 9600, 17_000, 47_000, True),
     Board("nucleo_f411re", "stm32f411", F411,
           pins("PA10 PB3 PB5"), pins("PB4 PB10 PA8"), pins("PC1 PC0 PA5 PB0"),
-          {"lsi_hz": 32_000, "hse_hz": 0}, 9600, 17_000, 47_000, True))}
+          {"lsi_hz": 32_000, "hse_hz": 0}, 9600, 17_000, 47_000, True),
+    Board("pico", "rp2040",
+          {"sys_hz": 128_000_000, "ref_hz": 12_000_000, "us_hz": 1_000_000, "baud": 2_000_000, "tick_hz": 8_000_000,
+           "pwm_hz": 10_000},
+          pins("PA2 PA4 PA6"), pins("PA3 PA5 PA7"), pins("PA8 PA9 PA11 PA12"),
+          {"lsi_hz": 6_500_000, "hse_hz": 12_000_000, "branch_cycles": 1}, 12800, 1_800_000, 12_000_000, True))}
 
 
 def board_of(elf: Path | str) -> Board:

@@ -21,13 +21,18 @@
 
 enum { ACCESSES = 64, REGISTERS = 17, PC = 15, STATUS = 16, TOLD = 20 };
 enum { FLAGS = 0xff00fc00u, IN_IT = 0x0600fc00, EXCEPTION = 0x1ff };
-enum { AT_PERIPHERALS = 0x40000000, AT_CORE = 0xe0000000 };
+
+/* Where peripherals and the core's registers are. */
+#ifndef REGIONS
+#define REGIONS {0x40000000, PERIPHERALS_BYTES}
+#endif
+static const struct { uint32_t at, bytes; } regions[] = {REGIONS, {0xe0000000, 0x100000}};
 
 static struct { uint32_t address, width, value, before; bool is_store; } accesses[ACCESSES];
 static int count, used;
 static uint64_t wrong, checked, in_handlers;
 static uc_engine *uc;
-static uint8_t is_seen[FLASH_BYTES];
+static uint8_t is_seen[FLASH_BYTES + RAM_BYTES];
 static const int names[REGISTERS] = {
     UC_ARM_REG_R0, UC_ARM_REG_R1, UC_ARM_REG_R2, UC_ARM_REG_R3, UC_ARM_REG_R4, UC_ARM_REG_R5,
     UC_ARM_REG_R6, UC_ARM_REG_R7, UC_ARM_REG_R8, UC_ARM_REG_R9, UC_ARM_REG_R10, UC_ARM_REG_R11,
@@ -169,11 +174,17 @@ static void open_unicorn(void) {
     need(uc_open(UC_ARCH_ARM, UC_MODE_THUMB | UC_MODE_MCLASS, &uc), "Unicorn");
     need(uc_ctl_set_cpu_model(uc, UNICORN_CORE), "the core");
     need(uc_mem_map_ptr(uc, FLASH_AT, FLASH_BYTES, UC_PROT_READ | UC_PROT_EXEC, chip.flash), "the flash");
-    need(uc_mem_map_ptr(uc, RAM_AT, RAM_BYTES, UC_PROT_READ | UC_PROT_WRITE, chip.ram), "the RAM");
-    need(uc_mmio_map(uc, AT_PERIPHERALS, PERIPHERALS_BYTES, on_load, (void *)(uintptr_t)AT_PERIPHERALS, on_store,
-                     (void *)(uintptr_t)AT_PERIPHERALS), "the peripherals");
-    need(uc_mmio_map(uc, AT_CORE, 0x100000, on_load, (void *)(uintptr_t)AT_CORE, on_store,
-                     (void *)(uintptr_t)AT_CORE), "the core's registers");
+    need(uc_mem_map_ptr(uc, RAM_AT, RAM_BYTES, UC_PROT_ALL, chip.ram), "the RAM");
+    for (size_t each = 0; each < sizeof regions / sizeof regions[0]; each++) {
+        void *base = (void *)(uintptr_t)regions[each].at;
+        need(uc_mmio_map(uc, regions[each].at, regions[each].bytes, on_load, base, on_store, base), "peripherals");
+    }
+}
+
+/* A place of code that Unicorn has too, as a number; one beyond all where it hasn't, as in a ROM. */
+static uint32_t place_of(uint32_t address) {
+    return address - FLASH_AT < FLASH_BYTES ? address - FLASH_AT
+        : is_ram(address) ? FLASH_BYTES + (address - RAM_AT) : sizeof is_seen;
 }
 
 static void check(uint64_t instructions, const uint8_t *frames, size_t size) {
@@ -183,9 +194,9 @@ static void check(uint64_t instructions, const uint8_t *frames, size_t size) {
         if (size > 0 && chip.now >= from && serial_sending() == 0) {
             serial_send(frames, size);
         }
-        if (run_one(before)) {
+        if (run_one(before) && place_of(before[PC]) < sizeof is_seen) {
             in_handlers += (before[STATUS] & EXCEPTION) != 0;
-            is_seen[before[PC] - FLASH_AT] = 1;
+            is_seen[place_of(before[PC])] = 1;
             checked++;
             do_again(before);
         }
@@ -208,7 +219,7 @@ int main(int words, char **word) {
     open_unicorn();
     memory_watch = note;
     check(strtoull(word[2], NULL, 10), frames, size);
-    for (uint32_t at = 0; at < FLASH_BYTES; at++) {
+    for (uint32_t at = 0; at < sizeof is_seen; at++) {
         places += is_seen[at];
     }
     printf("%" PRIu64 " instructions at %" PRIu64 " places, %" PRIu64 " in handlers: %" PRIu64 " differ; %s\n", checked,

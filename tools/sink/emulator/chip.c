@@ -41,6 +41,15 @@ static uint64_t units_of(uint64_t ns) {
     return ns / 1000 * UNITS_A_US + (ns % 1000 * UNITS_A_US + 999) / 1000;
 }
 
+__attribute__((weak)) void part_vectors(uint32_t vectors[2]) {
+    memcpy(vectors, chip.flash + (chip.program_at - FLASH_AT), 8);
+}
+
+__attribute__((weak)) const struct op *part_code(uint32_t address) {
+    (void)address;
+    return NULL;
+}
+
 void chip_reset(enum why why) {
     clear_events();
     nvic_reset();

@@ -8,6 +8,14 @@
 
 #include "part.h"
 
+/* Of chips whose part.h doesn't say otherwise: their core is of ARMv7-M; code in RAM isn't run. */
+#ifndef CORE_V6M
+#define CORE_V6M false
+#endif
+#ifndef RUNS_RAM
+#define RUNS_RAM false
+#endif
+
 #define UNITS_A_SECOND (UNITS_A_US * 1000000)
 #define NEVER UINT64_MAX
 
@@ -73,5 +81,11 @@ uint16_t part_boots(void);
 void part_set_boots(uint16_t count);
 uint64_t part_figure(const char *name);
 void part_clear_figures(void);
+
+/* And what it may have, where the core begins elsewhere than at the flash's begin, or runs code of a ROM: the first two
+ * vectors; the instruction at an address that is neither flash nor RAM, NULL for none. */
+struct op;
+void part_vectors(uint32_t vectors[2]);
+const struct op *part_code(uint32_t address);
 
 #endif

@@ -3,7 +3,7 @@
 #include <string.h>
 
 #include "chip.h"
-#include "decode.h"
+#include "code.h"
 #include "flash.h"
 #include "memory.h"
 #include "nvic.h"
@@ -11,15 +11,7 @@
 
 struct core core;
 
-static struct op ops[FLASH_BYTES / 2];
-
-void core_load(void) {
-    for (uint32_t at = 0; at < FLASH_BYTES; at += 2) {
-        uint32_t one = chip.flash[at] | (uint32_t)chip.flash[at + 1] << 8;
-        uint32_t two = at + 2 < FLASH_BYTES ? chip.flash[at + 2] | (uint32_t)chip.flash[at + 3] << 8 : 0;
-        ops[at / 2] = one >> 11 >= 29 ? decode32(one, two) : decode16(one);
-    }
-}
+enum { ENTRY_CYCLES = CORE_V6M ? 15 : 12, RETURN_CYCLES = CORE_V6M ? 12 : 10 };
 
 void core_pass(uint32_t cycles) {
     chip.now += cycles * chip.cycle;
@@ -79,7 +71,7 @@ void core_enter(uint32_t number) {
     core.is_faulty = false;
     uint32_t vector = memory_load(nvic_vectors() + 4 * number, 4);
     chip.now = from;
-    core_pass(12);
+    core_pass(ENTRY_CYCLES);
     if ((vector & 1) == 0) {
         violation("the vector of exception %u is %08x, which isn't code of Thumb", (unsigned)number, (unsigned)vector);
     }
@@ -101,7 +93,7 @@ void core_leave(uint32_t how) {
         frame[at] = memory_load(core.r[13] + 4 * at, 4);
     }
     chip.now = from;
-    core_pass(10);
+    core_pass(RETURN_CYCLES);
     core_set_status(frame[7]);
     memcpy(core.r, frame, 16);
     core.r[12] = frame[4];
@@ -120,7 +112,7 @@ void core_reset(void) {
     uint32_t least_sp = core.least_sp;
     uint64_t count = core.count;
     uint32_t vectors[2];
-    memcpy(vectors, chip.flash + (chip.program_at - FLASH_AT), 8);
+    part_vectors(vectors);
     memset(&core, 0, sizeof core);
     core.branch_cycles = branch_cycles == 0 ? 2 : branch_cycles;
     core.least_sp = least_sp;
@@ -137,13 +129,12 @@ void core_reset(void) {
 
 static void run_one(void) {
     uint32_t at = core.r[15];
-    uint32_t offset = at - FLASH_AT;
-    if (offset >= FLASH_BYTES) {
-        violation("the program counter is %08x, which isn't flash", (unsigned)at);
+    const struct op *op = code_at(at);
+    if (op == NULL) {
+        violation("the program counter is %08x, where no code is run", (unsigned)at);
         core_enter(CORE_HARDFAULT);
         return;
     }
-    const struct op *op = &ops[offset / 2];
     flash_fetch(at, op->size);
     core.count++;
     core.at = at;

@@ -33,9 +33,6 @@ struct core {
 
 extern struct core core;
 
-/* Decodes the flash. */
-void core_load(void);
-
 /* Begins at the vectors. */
 void core_reset(void);
 

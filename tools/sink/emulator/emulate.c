@@ -7,7 +7,8 @@
  *     set NAME VALUE something of the surroundings (figures.c)
  *     figure NAME    prints `figure NAME VALUE`
  * The pins tell less than the sink knows: words without a step, the tool, and a change that changes no pin aren't
- * printed; a speed is that of the PWM's duty, and 0 while the spindle stands. A violation ends it with status 2. */
+ * printed; a speed is that of the PWM's duty, and 0 while the spindle stands. A violation ends it with status 2, and so
+ * does a direction that changes less than 5 us before its step. */
 #include <inttypes.h>
 #include <stdio.h>
 #include <stdlib.h>
@@ -24,7 +25,7 @@
 
 enum { TICK_NS = 125, MS_NS = 1000000, SLICE_TICKS = 400, READS_TICKS = 4000, STARTS_TICKS = 40000 };
 enum { EMPTY_FRAME = WIRE_HEAD + WIRE_CRC + 2 }; /* bytes of a frame of no words */
-enum { TOGETHER_NS = 1000 }; /* axes whose pins rise within this make one step */
+enum { SETUP_NS = 5000, TOGETHER_NS = 1000 }; /* axes whose pins rise within this make one step */
 
 static uint32_t sink_at;     /* where the firmware's RAM has the sink */
 static uint64_t came_at;     /* the tick at which a frame that says something was on its way last */
@@ -33,6 +34,7 @@ static uint64_t given_words; /* .. and up to the last frame that says something 
 static uint64_t uncounted;   /* ticks in which the chip started: the bench's clock stands meanwhile */
 static uint32_t levels[PORTS]; /* of port A and on */
 static uint32_t duty;
+static uint64_t turned[BOARD_AXES]; /* when a direction changed last */
 static struct { uint64_t ns; uint8_t steps; bool switches; } waits; /* what changed at a time, until that is over */
 
 static uint64_t tick_of(uint64_t ns) {
@@ -99,6 +101,18 @@ static void set_level(const struct edge *edge) {
     *port = edge->level != 0 ? *port | bit : *port & ~bit;
 }
 
+/* Drives need a direction some time before its step. */
+static void check_direction(const struct edge *edge, uint8_t axes) {
+    for (uint32_t axis = 0; axis < BOARD_AXES; axis++) {
+        bool is_direction = board_is(board->directions[axis], (char)edge->port, edge->pin);
+        bool is_step = (axes >> axis & 1) != 0;
+        turned[axis] = is_direction ? edge->ns : turned[axis];
+        if (is_step && turned[axis] != 0 && edge->ns - turned[axis] < SETUP_NS) {
+            bench_give_up("a direction changes less than 5 us before its step");
+        }
+    }
+}
+
 static void note_edge(const struct edge *edge) {
     uint8_t axis = edge->level != 0 ? axis_of(edge) : 0;
     bool is_together = axis != 0 && waits.steps != 0 && edge->ns - waits.ns < TOGETHER_NS;
@@ -106,6 +120,7 @@ static void note_edge(const struct edge *edge) {
         tell_changes();
         waits.ns = edge->ns;
     }
+    check_direction(edge, axis);
     waits.steps |= axis;
     waits.switches = waits.switches || is_switch(edge);
     if (edge->port == 'P') {

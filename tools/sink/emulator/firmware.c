@@ -5,6 +5,7 @@
 
 #include "board.h"
 #include "chip.h"
+#include "code.h"
 #include "core.h"
 #include "model.h"
 #include "serial.h"
@@ -99,6 +100,6 @@ bool model_load(const char *elf) {
     }
     fits = fits && chip.program_at < FLASH_AT + FLASH_BYTES;
     begin();
-    core_load();
+    code_clear();
     return fits;
 }

@@ -79,10 +79,8 @@ void deed_barrier(const struct op *op) {
 }
 
 void deed_unknown(const struct op *op) {
-    uint32_t at = core.at - FLASH_AT;
-    (void)op;
-    violation("an instruction at %08x that isn't one, or isn't modelled: %02x%02x", (unsigned)core.at,
-              chip.flash[at + 1], chip.flash[at]);
+    violation("an instruction at %08x that this core hasn't, or that isn't modelled: %04x", (unsigned)core.at,
+              (unsigned)op->imm);
     core_fail();
 }
 

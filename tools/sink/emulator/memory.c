@@ -4,6 +4,7 @@
 
 #include "bus.h"
 #include "chip.h"
+#include "code.h"
 #include "core.h"
 #include "flash.h"
 #include "told.h"
@@ -48,10 +49,23 @@ static bool is_on_bus(const char *what, uint32_t address, uint32_t width) {
     return true;
 }
 
+/* ARMv6-M has no unaligned accesses at all. */
+static bool bears(uint32_t address, uint32_t width) {
+    if (CORE_V6M && is_unaligned(address, width)) {
+        violation("an unaligned access of %u bytes at %08x", (unsigned)width, (unsigned)address);
+        core_fail();
+        return false;
+    }
+    return true;
+}
+
 uint32_t memory_load(uint32_t address, uint32_t width) {
     uint32_t value = 0;
     uint32_t in_ram = address - RAM_AT;
     uint32_t in_flash = address - ALIAS_AT < FLASH_BYTES ? address - ALIAS_AT : address - FLASH_AT;
+    if (!bears(address, width)) {
+        return 0;
+    }
     if (in_ram < RAM_BYTES && in_ram + width <= RAM_BYTES) {
         return load_ram(in_ram, width);
     }
@@ -68,10 +82,14 @@ uint32_t memory_load(uint32_t address, uint32_t width) {
 void memory_store(uint32_t address, uint32_t width, uint32_t value) {
     uint32_t in_ram = address - RAM_AT;
     watch(address, width, true, value);
+    if (!bears(address, width)) {
+        return;
+    }
     if (in_ram < RAM_BYTES && in_ram + width <= RAM_BYTES) {
         core_pass(is_unaligned(address, width) ? 2 : 1);
         memset(chip.known + in_ram, 1, width);
         memcpy(chip.ram + in_ram, &value, width);
+        code_change(in_ram, width);
     } else if (is_on_bus("store", address, width) && !bus_store(address, width, value)) {
         core_fail();
     }
