@@ -12,6 +12,7 @@ from pathlib import Path
 
 sys.path.insert(0, str(Path(__file__).resolve().parent))
 
+from player_support import SANITIZERS, has_sanitizers  # noqa: E402
 from session_support import TOOLS, InFolder, ngc  # noqa: E402
 
 PACKAGING = TOOLS.parent / "packaging"
@@ -145,6 +146,16 @@ class Files(InFolder):
         self.assertTrue(done.stderr.endswith("ngc-address: error: unrecognized arguments: --nothing\n"))
         said = subprocess.run([script, "--help"], capture_output=True, text=True, check=True).stdout
         self.assertRegex(said, r"(?s)^usage: .*\nexample:\n  ngc-address\n\nexit status:\n  0  ")
+
+    def test_runtime(self) -> None:
+        """What stands in for the kit's C parts on 64-bit ARM, at its edges: 0 bytes, refusals, words that fit exactly.
+        """
+        sources = [PACKAGING / "arm" / name for name in ("runtime.c", "try_runtime.c")]
+        flags = ["-std=c11", "-O1", "-Wall", "-Wextra", "-Wconversion", "-Werror"]
+        subprocess.run(["cc", *flags, *(SANITIZERS if has_sanitizers() else ()), *sources, "-o", "runtime"], check=True)
+        done = subprocess.run(["./runtime", "", "abc", "x"], capture_output=True, text=True,
+                              env={**os.environ, "ASAN_OPTIONS": "allocator_may_return_null=1"})
+        self.assertEqual((done.returncode, done.stdout), (0, "the runtime's functions: as they should be\n"))
 
     @unittest.skipUnless(shutil.which("dpkg-deb"), "no dpkg-deb here")
     def test_same_bytes(self) -> None:
