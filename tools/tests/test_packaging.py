@@ -181,7 +181,8 @@ class Files(InFolder):
             self.assertEqual(sorted(re.findall("  (.*)", sums)), [
                 "etc/words", "usr/bin/ngc", "usr/libexec/ngc/player", "usr/share/doc/ngc/BUILD",
                 "usr/share/doc/ngc/changelog.gz", "usr/share/doc/ngc/page"])
-            self.assertIn(b"commit " + b"c" * 40, gzip.decompress((root / "usr/share/doc/ngc/changelog.gz").read_bytes()))
+            changes = gzip.decompress((root / "usr/share/doc/ngc/changelog.gz").read_bytes())
+            self.assertIn(b"commit " + b"c" * 40, changes)
         self.assertEqual((packages[0] == packages[1], packages[0] == packages[2]), (True, False))
 
 
