@@ -12,6 +12,7 @@ from pathlib import Path
 
 sys.path.insert(0, str(Path(__file__).resolve().parent))
 
+from player_support import SANITIZERS, has_sanitizers  # noqa: E402
 from session_support import TOOLS, InFolder, ngc  # noqa: E402
 
 PACKAGING = TOOLS.parent / "packaging"
@@ -146,6 +147,16 @@ class Files(InFolder):
         said = subprocess.run([script, "--help"], capture_output=True, text=True, check=True).stdout
         self.assertRegex(said, r"(?s)^usage: .*\nexample:\n  ngc-address\n\nexit status:\n  0  ")
 
+    def test_runtime(self) -> None:
+        """What stands in for the kit's C parts on 64-bit ARM, at its edges: 0 bytes, refusals, words that fit exactly.
+        """
+        sources = [PACKAGING / "arm" / name for name in ("runtime.c", "try_runtime.c")]
+        flags = ["-std=c11", "-O1", "-Wall", "-Wextra", "-Wconversion", "-Werror"]
+        subprocess.run(["cc", *flags, *(SANITIZERS if has_sanitizers() else ()), *sources, "-o", "runtime"], check=True)
+        done = subprocess.run(["./runtime", "", "abc", "x"], capture_output=True, text=True,
+                              env={**os.environ, "ASAN_OPTIONS": "allocator_may_return_null=1"})
+        self.assertEqual((done.returncode, done.stdout), (0, "the runtime's functions: as they should be\n"))
+
     @unittest.skipUnless(shutil.which("dpkg-deb"), "no dpkg-deb here")
     def test_same_bytes(self) -> None:
         """A package of the same files, whose times and owners' modes differ, has the same bytes; one of others not."""
@@ -170,7 +181,8 @@ class Files(InFolder):
             self.assertEqual(sorted(re.findall("  (.*)", sums)), [
                 "etc/words", "usr/bin/ngc", "usr/libexec/ngc/player", "usr/share/doc/ngc/BUILD",
                 "usr/share/doc/ngc/changelog.gz", "usr/share/doc/ngc/page"])
-            self.assertIn(b"commit " + b"c" * 40, gzip.decompress((root / "usr/share/doc/ngc/changelog.gz").read_bytes()))
+            changes = gzip.decompress((root / "usr/share/doc/ngc/changelog.gz").read_bytes())
+            self.assertIn(b"commit " + b"c" * 40, changes)
         self.assertEqual((packages[0] == packages[1], packages[0] == packages[2]), (True, False))
 
 
