@@ -1,6 +1,7 @@
 """A job over losses of power, from its beginning to its end."""
 import os
 import random
+import re
 import subprocess
 import time
 import zlib
@@ -32,6 +33,8 @@ class Plan:
     sink_dies: bool = False
 
 
+LATE = r"the sink heard nothing for half a second|no answer from the sink for two seconds"
+"""A player ends with these words where it or the sink didn't get to work in time."""
 FAILS = ("ngc mill.dev write {} 28", "ngc mill.dev sync {} 5", "ngc out write {} 28", "ngc out write {} 5",
          "console out sync {} 5", "player position write {} 28", "player position sync {} 5", "player out read {} 5",
          "console out cut 1 5", "console out write 1 28", "console out read {} 5", "player position write {} 5+",
@@ -164,8 +167,8 @@ class Chain:
             person.leaves = True
         if self.sink and not person.ended and (self.folder / "said").read_text().endswith("--at X Y Z tells it\n"):
             person.leaves = person.measures = True
-        if self.sink and "the sink heard nothing for half a second" in last_line(self.folder / "said"):
-            person.leaves = True  # what was to send was late
+        if self.sink and re.search(LATE, last_line(self.folder / "said")):
+            person.leaves = True
         if not (is_lost or person.leaves or person.ended or how.fails):
             raise Wrong("the console ended by itself")
         is_over = person.ended and not is_lost and not (how.fails and shop.player.returncode)

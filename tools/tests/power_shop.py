@@ -317,8 +317,8 @@ class Shop:
                 self.hold_at = 0.0
             if "waits for tool" in said:
                 self._says_go()
-            if "Ctrl-C three times ends ngc" in said and self.player.poll() is not None:
-                self.hold_at = time.monotonic()  # again and again, since nobody reads OUT any more
+            if "Ctrl-C three times ends ngc" in said and not self.hold_at and self.player.poll() is not None:
+                self.hold_at = time.monotonic() + 0.3  # again and again, since nobody reads OUT any more
             if time.monotonic() > until:
                 self._says_where()
                 raise Wrong(f"no prompt for {PATIENCE_S} s")
