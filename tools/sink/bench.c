@@ -28,6 +28,7 @@
 #include "bench_line.h"
 
 enum { SLICE_TICKS = WIRE_TICKS_A_MS, SHORT_TICKS = WIRE_TICKS_A_MS / 10, HEARS_MS = 100, HAS_MS = 12, SWITCHES = 4 };
+enum { AHEAD_TICKS = 4 * SLICE_TICKS }; /* a slice, a frame on the line, and the main loop that reads it */
 
 static unsigned inputs;
 static struct { unsigned bit; int axis; long sign; long at; } switches[SWITCHES]; /* a bit of 0 is none */
@@ -68,8 +69,8 @@ void bench_outputs(uint64_t tick, const struct sink_outputs *outputs) {
            outputs->flood, outputs->selected, outputs->slot);
 }
 
-/* Whether the words of the next two milliseconds can be made in their times, if nothing comes before; and whether there
- * are words for HAS_MS, or the sender has just spoken and had no more. */
+/* Whether the words of the next AHEAD_TICKS can be made in their times, if nothing comes before; and whether there are
+ * words for HAS_MS, or the sender has just spoken and had no more. */
 static bool is_in_time(const struct sink *sink) {
     const volatile struct sink_taken *taken = &sink->taken[sink->newest & 1];
     uint32_t behind = taken->rises - sink->rises_made;
@@ -82,7 +83,7 @@ static bool is_in_time(const struct sink *sink) {
         lasts = wire_is_speed(sink->bits[at % WIRE_FIFO]) ? 0 : lasts;
         behind -= is_output ? 0 : wire_slope(value);
         bool has_rest = taken->rest - at - 1 < WIRE_FIFO;
-        is_right = has_rest || lasts == 0 || ticks > 2 * SLICE_TICKS
+        is_right = has_rest || lasts == 0 || ticks > AHEAD_TICKS
             || (double)lasts * (double)lasts * behind >= 4398046511104.0;
         ticks += lasts;
     }
@@ -108,7 +109,8 @@ static bool may_go_on(void) {
     return !is_early && (is_in_order || real_ms() - waited >= (runs ? serves_ms : 1));
 }
 
-/* Lets the clock go on by itself, until a line of the input comes. What is on its way comes in any case. */
+/* Lets the clock go on by itself, until a line of the input comes. What is on its way comes in any case, but for frames
+ * that say nothing: a sender that is late sends these all the time. */
 static void serve(void) {
     struct pollfd on = {STDIN_FILENO, POLLIN, 0};
     while (serves_ms > 0 && poll(&on, 1, 0) == 0) {

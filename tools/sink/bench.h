@@ -18,7 +18,7 @@ void device_see(uint16_t levels);     /* its inputs have these levels from now o
 void device_look(struct sink *to);    /* what the sink is: for the bench's clock alone */
 bool device_obey(const char *line);   /* does a line of its own; false where it has no such line */
 
-/* Bytes come over the line. Takes what has come; whether its clock has to go on for that. */
+/* Bytes come over the line: a frame, or several. Takes what has come; whether its clock has to go on for that. */
 void device_give(const uint8_t *bytes, size_t size);
 bool device_takes(void);
 

@@ -32,11 +32,22 @@ def pins(text: str) -> tuple[Pin, ...]:
     return tuple((name[1], int(name[2:])) for name in text.split())
 
 
+LINE = {"baud": 2_000_000, "tick_hz": 8_000_000, "pwm_hz": 10_000}
+F103 = {"hclk_hz": 72_000_000, "apb1_hz": 36_000_000, **LINE}
+F411 = {"hclk_hz": 96_000_000, "apb1_hz": 48_000_000, **LINE}
 BOARDS = {board.name: board for board in (
-    Board("stm32f103", "stm32f103",
-          {"hclk_hz": 72_000_000, "apb1_hz": 36_000_000, "baud": 2_000_000, "tick_hz": 8_000_000, "pwm_hz": 10_000},
+    Board("stm32f103", "stm32f103", F103,
           pins("PA0 PA2 PA4"), pins("PA1 PA3 PA5"), pins("PB0 PB1 PB5 PB7"),
           {"lsi_hz": 40_000, "hse_hz": 8_000_000}, 7200, 30_000, 60_000, True),
+    Board("stm32f103_boot", "stm32f103", F103,
+          pins("PA0 PA1 PA2"), pins("PA3 PA4 PA5"), pins("PB0 PB1 PB12 PB13"),
+          {"lsi_hz": 40_000, "hse_hz": 8_000_000}, 7200, 30_000, 60_000, True),
+    Board("stm32f411", "stm32f411", F411,
+          pins("PA1 PA2 PA3"), pins("PA4 PA5 PA6"), pins("PB0 PB1 PB5 PB7"),
+          {"lsi_hz": 32_000, "hse_hz": 25_000_000}, 9600, 17_000, 47_000, True),
+    Board("nucleo_f411re", "stm32f411", F411,
+          pins("PA10 PB3 PB5"), pins("PB4 PB10 PA8"), pins("PC1 PC0 PA5 PB0"),
+          {"lsi_hz": 32_000, "hse_hz": 0}, 9600, 17_000, 47_000, True),
     Board("pico", "rp2040",
           {"sys_hz": 128_000_000, "ref_hz": 12_000_000, "us_hz": 1_000_000, "baud": 2_000_000, "tick_hz": 8_000_000,
            "pwm_hz": 10_000},

@@ -567,6 +567,8 @@ def main(*words: str) -> int:
     """Runs what is named: boards, stm32f103 where there is none, and scenarios."""
     boards = [word for word in words if word in BOARDS] or ["stm32f103"]
     names = [word for word in words if word not in BOARDS]
+    if unknown := set(names) - {each.__name__ for each in (*QUICK, *SLOW)}:
+        sys.exit(f"neither a board nor a scenario: {' '.join(sorted(unknown))}")
     every = [(board, each) for board in boards for each in (*QUICK, *SLOW) if not names or each.__name__ in names]
     failed = 0
     for board, scenario in every:

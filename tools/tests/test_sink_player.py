@@ -121,7 +121,8 @@ class Whole(InC, OverSink, unittest.TestCase):
             self.assertEqual(len(ticks), sum(words[0] == "P" and words[1:4] != ["0"] * 3 for words in self.out()))
             self.check_switches(made)
             self.check_times(ticks, example.name)
-            self.assertLess(excess(self.timed(ticks), (10_000,) * 3), 4, example.name)
+            if not IS_CHIP:  # whose steps are up to a microsecond to and fro
+                self.assertLess(excess(self.timed(ticks), (10_000,) * 3), 4, example.name)
             self.assertEqual(record().splitlines()[0], f"lines {len(self.out())}")
 
     def test_fast(self) -> None:

@@ -1,4 +1,5 @@
 /* Data processing: each deed as ARMv7-M's manual has it. */
+#include "chip.h"
 #include "core.h"
 #include "decode.h"
 
@@ -134,7 +135,8 @@ void deed_adr(const struct op *op) {
 void deed_extend(const struct op *op) {
     uint32_t value = rotated(core.r[op->m], op->amount);
     uint32_t up = 32 - 8u * op->width;
-    core.r[op->d] = op->is_signed ? (uint32_t)((int32_t)(value << up) >> up) : value << up >> up;
+    uint32_t added_to = op->n == 15 ? 0 : core.r[op->n];
+    core.r[op->d] = added_to + (op->is_signed ? (uint32_t)((int32_t)(value << up) >> up) : value << up >> up);
 }
 
 void deed_extract(const struct op *op) {
@@ -194,7 +196,7 @@ void deed_multiply(const struct op *op) {
 void deed_multiply_add(const struct op *op) {
     uint32_t product = core.r[op->n] * core.r[op->m];
     core.r[op->d] = core.r[op->a] + (op->kind == MLS ? 0 - product : product);
-    core_pass(1);
+    core_pass(MULTIPLIES_ADDING_CYCLES);
 }
 
 void deed_multiply_long(const struct op *op) {
@@ -204,7 +206,7 @@ void deed_multiply_long(const struct op *op) {
     uint32_t two = core.r[op->m];
     uint64_t value = is_signed ? (uint64_t)((int64_t)(int32_t)one * (int32_t)two) : (uint64_t)one * two;
     value += adds ? (uint64_t)core.r[op->d] << 32 | core.r[op->a] : 0;
-    core_pass(adds ? 6 : 4);
+    core_pass(adds ? ADDS_LONG_CYCLES : MULTIPLIES_LONG_CYCLES);
     core.r[op->a] = (uint32_t)value;
     core.r[op->d] = (uint32_t)(value >> 32);
 }

@@ -159,13 +159,17 @@ void model_fault(void) {
     chip.is_stopped = was_stopped;
 }
 
-void model_go_astray(uint32_t address) {
+void model_leave_handler(void) {
     while (core.exception != 0 && !chip.is_stopped) {
         core_one();
         if (chip.now >= chip.next_event) {
             chip_events();
         }
     }
+}
+
+void model_go_astray(uint32_t address) {
+    model_leave_handler();
     core.r[15] = address & ~1u;
 }
 

@@ -115,9 +115,9 @@ void core_reset(void) {
     part_vectors(vectors);
     memset(&core, 0, sizeof core);
     core.branch_cycles = branch_cycles == 0 ? 2 : branch_cycles;
-    core.aligns_stack = CORE_V6M;
     core.least_sp = least_sp;
     core.count = count;
+    core.aligns_stack = STACK_IS_ALIGNED;
     core.r[13] = vectors[0] & ~3u;
     core.r[14] = 0xffffffff;
     core.r[15] = vectors[1] & ~1u;

@@ -135,7 +135,7 @@ static struct op decode_compare_branch(uint32_t half) {
 }
 
 static struct op decode_extension(uint32_t half) {
-    struct op op = decode_register(EXTEND, FLAGS_NO, half & 7, 0, half >> 3 & 7);
+    struct op op = decode_register(EXTEND, FLAGS_NO, half & 7, 15, half >> 3 & 7);
     op.width = (half & 0x40) != 0 ? 1 : 2;
     op.is_signed = (half & 0x80) == 0;
     return op;

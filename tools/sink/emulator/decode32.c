@@ -1,4 +1,5 @@
 /* Instructions of 32 bits. */
+#include "chip.h"
 #include "decode.h"
 
 static uint32_t rotated(uint32_t value, uint32_t by) {
@@ -168,7 +169,7 @@ static struct op decode_registers(uint32_t one, uint32_t two) {
         op.kind = SHIFT;
         op.shift = (uint8_t)(high >> 1);
         op.flags = (high & 1) != 0 ? FLAGS_YES : FLAGS_NO;
-    } else if (high < 6 && (high & 2) == 0 && low >= 8 && (one & 15) == 15) {
+    } else if (high < 6 && (high & 2) == 0 && low >= 8 && (HAS_DSP != 0 || (one & 15) == 15)) {
         op.kind = EXTEND;
         op.width = high < 4 ? 2 : 1;
         op.is_signed = (high & 1) == 0;

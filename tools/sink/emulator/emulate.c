@@ -24,13 +24,16 @@
 #include "told.h"
 
 enum { TICK_NS = 125, MS_NS = 1000000, SLICE_TICKS = 400, READS_TICKS = 4000 };
+enum { EMPTY_FRAME = WIRE_HEAD + WIRE_CRC + 2 }; /* bytes of a frame of no words */
 #ifndef STARTS_TICKS
 #define STARTS_TICKS 40000
 #endif
 enum { SETUP_NS = 5000, TOGETHER_NS = 1000 }; /* axes whose pins rise within this make one step */
 
 static uint32_t sink_at;     /* where the firmware's RAM has the sink */
-static uint64_t came_at;     /* the tick at which bytes were on their way last */
+static uint64_t came_at;     /* the tick at which a frame that says something was on its way last */
+static uint64_t given;       /* bytes for the line, all of them .. */
+static uint64_t given_words; /* .. and up to the last frame that says something */
 static uint64_t uncounted;   /* ticks in which the chip started: the bench's clock stands meanwhile */
 static uint32_t levels[PORTS]; /* of port A and on */
 static uint32_t duty;
@@ -147,13 +150,21 @@ void device_run(uint64_t ticks) {
     tell_changes();
 }
 
+/* A frame of no words is left out while the line isn't free: as the clock stands a late sender says many of them at the
+ * same moment. */
 void device_give(const uint8_t *bytes, size_t size) {
+    bool says_nothing = size == EMPTY_FRAME || size == 0;
+    if (says_nothing && serial_sending() > 0) {
+        return;
+    }
     serial_send(bytes, size);
+    given += size;
+    given_words = says_nothing ? given_words : given;
 }
 
 /* Bytes have to come over the line, and then the main loop has to read them. */
 bool device_takes(void) {
-    came_at = serial_sending() > 0 ? device_now() : came_at;
+    came_at = given - serial_sending() < given_words ? device_now() : came_at;
     return device_now() < came_at + READS_TICKS;
 }
 
@@ -162,6 +173,7 @@ void device_see(uint16_t inputs) {
 }
 
 void device_look(struct sink *to) {
+    model_leave_handler();
     model_read(sink_at, to, sizeof *to);
 }
 

@@ -26,6 +26,9 @@ void model_turn_inputs(uint32_t levels);
 void model_reset(void);
 void model_power_off(uint64_t ns);
 
+/* Runs it on until no interrupt's handler works: what that has half done isn't to be looked at. */
+void model_leave_handler(void);
+
 /* The core takes a fault that has no other cause; outside of interrupts the program goes on at an address, as by an
  * error. */
 void model_fault(void);

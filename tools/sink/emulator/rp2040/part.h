@@ -29,6 +29,8 @@ enum { FLASH_AT = 0x10000000, FLASH_BYTES = 2 << 20, RAM_AT = 0x20000000, RAM_BY
 enum { PORTS = 1 /* bank 0 of the pins, which is port A here */ };
 enum { IRQS = 26, IRQ_TIMER = 4 /* of the steps, which a slice of the PWM times */, PRIORITY_BITS = 0xc0,
        VECTORS_ALIGNED = 256 };
+enum { HAS_DSP = 0, STACK_IS_ALIGNED = 1 };
+enum { MULTIPLIES_LONG_CYCLES = 0, MULTIPLIES_ADDING_CYCLES = 0, ADDS_LONG_CYCLES = 0 }; /* it has none of these */
 
 /* What happens at a time. */
 enum { E_PWM, E_SENT, E_RECEIVED, E_DMA, E_WATCHDOG, E_CRYSTAL, E_PLL, E_CUT, E_HEARD, E_UNTIL, E_INPUTS, EVENTS };

@@ -1,9 +1,11 @@
 #include "bus.h"
 
 #include "addresses.h"
+#include "backup.h"
 #include "chip.h"
 #include "clocks.h"
 #include "dma.h"
+#include "dma_registers.h"
 #include "nvic.h"
 #include "pins.h"
 #include "timers.h"
@@ -54,7 +56,7 @@ bool bus_load(uint32_t address, uint32_t size, uint32_t *value) {
     case AT_AFIO: *value = pins_load_functions(offset); break;
     case AT_GPIOA: *value = pins_load(PORT_A, offset); break;
     case AT_GPIOB: *value = pins_load(PORT_B, offset); break;
-    case AT_USART1: *value = usart_load(offset); dma_look(5); break;
+    case AT_USART1: *value = usart_load(offset); dma_look(DMA_IN); break;
     case AT_DMA1: *value = dma_load(offset); break;
     case AT_RCC: *value = clocks_load(offset); break;
     case AT_FLASH: *value = clocks_load_flash(offset); break;

@@ -1,9 +1,11 @@
+/* Channels 4 and 5 of DMA1, which USART1 asks: 4 sends, 5 receives. */
 #include "dma.h"
 
 #include <string.h>
 
 #include "addresses.h"
 #include "chip.h"
+#include "dma_registers.h"
 #include "nvic.h"
 #include "told.h"
 #include "usart.h"
@@ -21,8 +23,12 @@ struct channel {
 static uint32_t isr;
 static struct channel channels[CHANNELS + 1];
 
-static int event_of(int channel) {
-    return channel == 4 ? E_DMA4 : E_DMA5;
+static int channel_of(int way) {
+    return way == DMA_OUT ? 4 : 5;
+}
+
+static int event_of(int way) {
+    return way == DMA_OUT ? E_DMA_OUT : E_DMA_IN;
 }
 
 static void tell_line(int channel) {
@@ -30,14 +36,14 @@ static void tell_line(int channel) {
     nvic_line(FIRST_IRQ + channel, (flags & channels[channel].ccr & 0xe) != 0);
 }
 
-static bool is_asked(int channel) {
-    const struct channel *of = &channels[channel];
-    return (of->ccr & CCR_ON) != 0 && of->cndtr > 0 && usart_requests(channel);
+static bool is_asked(int way) {
+    const struct channel *of = &channels[channel_of(way)];
+    return (of->ccr & CCR_ON) != 0 && of->cndtr > 0 && usart_requests(way);
 }
 
-void dma_look(int channel) {
-    int event = event_of(channel);
-    if (!is_asked(channel)) {
+void dma_look(int way) {
+    int event = event_of(way);
+    if (!is_asked(way)) {
         chip_arm(event, NEVER);
     } else if (chip.at[event] == NEVER) {
         chip_arm(event, chip.now + MOVES_CYCLES * chip.cycle);
@@ -74,10 +80,11 @@ static void move_byte(const struct channel *of) {
     usart_store(4, chip.ram[at]);
 }
 
-void dma_move(int channel) {
+void dma_move(int way) {
+    int channel = channel_of(way);
     struct channel *of = &channels[channel];
-    chip_arm(event_of(channel), NEVER);
-    if (!is_asked(channel) || !is_possible(channel)) {
+    chip_arm(event_of(way), NEVER);
+    if (!is_asked(way) || !is_possible(channel)) {
         return;
     }
     move_byte(of);
@@ -90,7 +97,7 @@ void dma_move(int channel) {
         of->cndtr = (of->ccr & CCR_ROUND) != 0 ? of->reload : 0;
     }
     tell_line(channel);
-    dma_look(channel);
+    dma_look(way);
 }
 
 void dma_reset(void) {
@@ -162,7 +169,6 @@ void dma_store(uint32_t offset, uint32_t value) {
     }
     store_channel(&channels[channel], (offset - 8) % 20, value);
     tell_line(channel);
-    if (channel == 4 || channel == 5) {
-        dma_look(channel);
-    }
+    dma_look(DMA_OUT);
+    dma_look(DMA_IN);
 }

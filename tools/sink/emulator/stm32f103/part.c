@@ -1,6 +1,7 @@
 /* What the model asks of this chip (chip.h). */
 #include <string.h>
 
+#include "backup.h"
 #include "board.h"
 #include "chip.h"
 #include "clocks.h"
@@ -44,8 +45,8 @@ void part_happen(int event) {
     case E_TIM2: case E_TIM3: case E_TIM4: timers_happen(event - E_TIM2); break;
     case E_SENT: usart_shift(); break;
     case E_RECEIVED: usart_receive(); break;
-    case E_DMA4: dma_move(4); break;
-    case E_DMA5: dma_move(5); break;
+    case E_DMA_OUT: dma_move(DMA_OUT); break;
+    case E_DMA_IN: dma_move(DMA_IN); break;
     case E_WATCHDOG: chip_restart(BY_WATCHDOG); break;
     case E_CRYSTAL: chip_arm(event, NEVER); clocks_crystal_starts(); break;
     case E_PLL: chip_arm(event, NEVER); clocks_pll_locks(); break;

@@ -57,14 +57,23 @@ void pins_turn(int port, int pin, bool is_open) {
     ports[port].open = (ports[port].open & ~(1u << pin)) | (uint32_t)is_open << pin;
 }
 
-bool pins_is_output_of_peripheral(int port, int pin) {
-    uint32_t mode = mode_of(&ports[port], pin);
+static bool is_output_of_peripheral(struct pin pin) {
+    uint32_t mode = mode_of(&ports[pin.port - 'A'], pin.number);
     return is_output(mode) && (mode & 0xc) == 8;
 }
 
-bool pins_is_input(int port, int pin) {
-    uint32_t mode = mode_of(&ports[port], pin);
-    return mode == MODE_FLOATS || (mode == MODE_PULLED && (ports[port].odr >> pin & 1) != 0);
+bool pins_is_output_of_line(struct pin pin) {
+    return is_output_of_peripheral(pin);
+}
+
+bool pins_is_output_of_timer(struct pin pin) {
+    return is_output_of_peripheral(pin);
+}
+
+bool pins_is_input_of_line(struct pin pin) {
+    const struct port *port = &ports[pin.port - 'A'];
+    uint32_t mode = mode_of(port, pin.number);
+    return mode == MODE_FLOATS || (mode == MODE_PULLED && (port->odr >> pin.number & 1) != 0);
 }
 
 void pins_reset(void) {

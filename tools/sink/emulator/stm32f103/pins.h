@@ -5,20 +5,16 @@
 #include <stdbool.h>
 #include <stdint.h>
 
+#include "line_pins.h"
+
 enum { PORT_A, PORT_B };
 
 /* What a contact at a pin does: 0 closed to ground, 1 open. */
 void pins_turn(int port, int pin, bool is_open);
 
-/* Whether a pin is a peripheral's push-pull output, or an input that isn't pulled down. */
-bool pins_is_output_of_peripheral(int port, int pin);
-bool pins_is_input(int port, int pin);
 
 /* All pins float; contacts stay. */
 void pins_reset(void);
-
-/* Notes the duty of the PWM at PB6, where it changed. */
-void pins_note_duty(uint32_t duty);
 
 uint32_t pins_load(int port, uint32_t offset);
 void pins_store(int port, uint32_t offset, uint32_t value);

@@ -1,4 +1,4 @@
-/* TIM2, TIM3 and TIM4, as counters with compares; channel 1 of TIM4 makes the PWM of PB6. */
+/* TIM2, TIM3 and TIM4, as counters with compares; a channel of one of them makes the PWM (line.h). */
 #ifndef TIMERS_H
 #define TIMERS_H
 
@@ -12,7 +12,7 @@ void timers_happen(int which);
 /* Lets all counters go on to now, before their clock changes. */
 void timers_go_on(void);
 
-/* Tells the duty of PB6, where it changed. */
+/* Tells the duty of the PWM, where it changed. */
 void timers_note_duty(void);
 
 void timers_reset(void);

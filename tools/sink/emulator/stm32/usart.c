@@ -2,10 +2,10 @@
 
 #include <string.h>
 
-#include "addresses.h"
 #include "chip.h"
 #include "clocks.h"
 #include "dma.h"
+#include "line.h"
 #include "nvic.h"
 #include "pins.h"
 #include "serial.h"
@@ -13,7 +13,7 @@
 
 enum { SR_FRAMING = 2, SR_OVERRUN = 8, SR_ERRORS = 0xe, SR_READY = 0x20, SR_COMPLETE = 0x40, SR_EMPTY = 0x80 };
 enum { CR1_RECEIVES = 4, CR1_SENDS = 8, CR1_ON = 0x2000, CR3_RECEIVES = 0x40, CR3_SENDS = 0x80 };
-enum { IRQ = 37, PIN_OUT = 9, PIN_IN = 10, LEAST_DIVISOR = 16 };
+enum { LEAST_DIVISOR = 16 };
 
 static struct {
     uint32_t sr, rdr, tdr, brr, cr1, cr2, cr3;
@@ -24,11 +24,11 @@ static struct {
 struct usart_figures usart_figures;
 
 uint64_t usart_baud(void) {
-    return usart.brr != 0 ? clocks_bus_hz(BUS_APB2) / usart.brr : 0;
+    return usart.brr != 0 ? clocks_bus_hz(line_of_board()->bus) / usart.brr : 0;
 }
 
 static uint64_t bit_units(void) {
-    return usart.brr >= LEAST_DIVISOR ? usart.brr * (UNITS_A_SECOND / clocks_bus_hz(BUS_APB2)) : 0;
+    return usart.brr >= LEAST_DIVISOR ? usart.brr * (UNITS_A_SECOND / clocks_bus_hz(line_of_board()->bus)) : 0;
 }
 
 static bool is_on(uint32_t way) {
@@ -38,15 +38,15 @@ static bool is_on(uint32_t way) {
 static void tell_line(void) {
     bool is_asked = (usart.sr & usart.cr1 & 0xf0) != 0 || ((usart.cr1 & 0x20) != 0 && (usart.sr & SR_OVERRUN) != 0);
     bool is_error = (usart.cr3 & 1) != 0 && (usart.cr3 & CR3_RECEIVES) != 0 && (usart.sr & SR_ERRORS) != 0;
-    nvic_line(IRQ, is_asked || is_error);
+    nvic_line(line_of_board()->irq, is_asked || is_error);
 }
 
-bool usart_requests(int channel) {
-    if (!clocks_has(AT_USART1)) {
+bool usart_requests(int way) {
+    if (!clocks_has(line_of_board()->usart)) {
         return false;
     }
-    return channel == 4 ? (usart.cr3 & CR3_SENDS) != 0 && (usart.sr & SR_EMPTY) != 0 && is_on(CR1_SENDS)
-                        : (usart.cr3 & CR3_RECEIVES) != 0 && (usart.sr & SR_READY) != 0;
+    return way == DMA_OUT ? (usart.cr3 & CR3_SENDS) != 0 && (usart.sr & SR_EMPTY) != 0 && is_on(CR1_SENDS)
+                          : (usart.cr3 & CR3_RECEIVES) != 0 && (usart.sr & SR_READY) != 0;
 }
 
 /* Sends the byte that waits. */
@@ -54,10 +54,10 @@ static void send_byte(void) {
     usart.has_byte = false;
     usart.sr |= SR_EMPTY;
     usart.free_at = chip.now + SERIAL_BITS * bit_units();
-    if (pins_is_output_of_peripheral(PORT_A, PIN_OUT)) {
+    if (pins_is_output_of_line(line_of_board()->out)) {
         serial_put(&serial_from_chip, (uint8_t)usart.tdr, chip.now, bit_units());
     } else {
-        violation("USART1 sends, and PA9 isn't its output");
+        violation("the USART sends, and its pin isn't its output");
     }
 }
 
@@ -73,7 +73,7 @@ void usart_shift(void) {
     if (usart.has_byte) {
         send_byte();
         chip_arm(E_SENT, usart.free_at);
-        dma_look(4);
+        dma_look(DMA_OUT);
     } else {
         usart.sr |= SR_COMPLETE;
     }
@@ -82,8 +82,8 @@ void usart_shift(void) {
 
 void usart_receives(void) {
     uint64_t bit = is_on(CR1_RECEIVES) ? bit_units() : 0;
-    if (bit != 0 && !pins_is_input(PORT_A, PIN_IN)) {
-        violation("USART1 receives, and PA10 isn't an input, or is pulled down");
+    if (bit != 0 && !pins_is_input_of_line(line_of_board()->in)) {
+        violation("the USART receives, and its pin isn't its input, or is pulled down");
     }
     if (bit != serial_to_chip.bit) {
         serial_to_chip.bit = bit;
@@ -105,7 +105,7 @@ void usart_receive(void) {
     }
     tell_line();
     serial_seek(&serial_to_chip);
-    dma_look(5);
+    dma_look(DMA_IN);
 }
 
 void usart_reset(void) {
@@ -129,13 +129,13 @@ uint32_t usart_load(uint32_t offset) {
     case 12: return usart.cr1;
     case 16: return usart.cr2;
     case 20: return usart.cr3;
-    default: violation("register %02x of USART1 isn't modelled", (unsigned)offset); return 0;
+    default: violation("register %02x of the USART isn't modelled", (unsigned)offset); return 0;
     }
 }
 
 static void store_data(uint32_t value) {
     if (usart.has_byte) {
-        violation("a byte for USART1 before it had room");
+        violation("a byte for the USART before it had room");
     }
     usart.tdr = value & 0xff;
     usart.has_byte = true;
@@ -157,7 +157,7 @@ static void store_cr1(uint32_t value) {
 void usart_store(uint32_t offset, uint32_t value) {
     static const uint32_t modelled[6] = {0x3ff, 0x1ff, 0xffff, 0x21fc, 0, 0xc1};
     if (offset > 20 || (value & ~modelled[offset / 4]) != 0) {
-        violation("register %02x of USART1: %x is reserved, or isn't modelled", (unsigned)offset, (unsigned)value);
+        violation("register %02x of the USART: %x is reserved, or isn't modelled", (unsigned)offset, (unsigned)value);
         return;
     }
     switch (offset) {
@@ -167,7 +167,7 @@ void usart_store(uint32_t offset, uint32_t value) {
         usart.brr = value;
         usart_receives();
         if (value < LEAST_DIVISOR) {
-            violation("USART1_BRR %x: a divisor below 1", (unsigned)value);
+            violation("USART_BRR %x: a divisor below 1", (unsigned)value);
         }
         break;
     case 12: store_cr1(value); break;
@@ -175,6 +175,6 @@ void usart_store(uint32_t offset, uint32_t value) {
     default: break;
     }
     tell_line();
-    dma_look(4);
-    dma_look(5);
+    dma_look(DMA_OUT);
+    dma_look(DMA_IN);
 }

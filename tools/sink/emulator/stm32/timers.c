@@ -5,11 +5,12 @@
 
 #include "chip.h"
 #include "clocks.h"
+#include "line.h"
 #include "nvic.h"
 #include "pins.h"
 #include "told.h"
 
-enum { CHANNELS = 4, FIRST_IRQ = 28, PIN_PWM = 6, PWM_MODE_1 = 6, TURN = 65536 };
+enum { CHANNELS = 4, FIRST_IRQ = 28, PWM_MODE_1 = 6 };
 enum { CR1_ON = 1, CR1_NO_UPDATES = 2, CR1_UPDATES_BY_OVERFLOW = 4, CR1_ARR_PRELOADED = 0x80 };
 
 struct timer {
@@ -19,7 +20,6 @@ struct timer {
     uint64_t since; /* when the counter came to `cnt` */
 };
 static struct timer timers[TIMERS];
-static struct timer *const pwm = &timers[2];
 
 static uint64_t tick_of(const struct timer *timer) {
     return (timer->psc_now + 1) * clocks_timer_units();
@@ -29,8 +29,16 @@ uint64_t timers_tick_hz(int which) {
     return clocks_timer_hz() / (timers[which].psc_now + 1);
 }
 
+static struct timer *pwm(void) {
+    return &timers[line_of_board()->pwm_timer];
+}
+
+static int pwm_channel(void) {
+    return line_of_board()->pwm_channel - 1;
+}
+
 uint64_t timers_pwm_hz(void) {
-    return timers_tick_hz(2) / (pwm->arr_now + 1);
+    return timers_tick_hz(line_of_board()->pwm_timer) / (UINT64_C(1) + pwm()->arr_now);
 }
 
 static uint32_t mode_of(const struct timer *timer, int channel) {
@@ -42,12 +50,14 @@ static bool is_preloaded(const struct timer *timer, int channel) {
 }
 
 void timers_note_duty(void) {
-    bool is_on = (pwm->ccer & 1) != 0 && (pwm->cr1 & CR1_ON) != 0 && pins_is_output_of_peripheral(PORT_B, PIN_PWM);
-    uint32_t mode = mode_of(pwm, 0);
-    if (is_on && ((mode >> 4 & 7) != PWM_MODE_1 || (mode & 3) != 0 || (pwm->ccer & 2) != 0)) {
-        violation("TIM4's channel 1 in mode %x isn't modelled", (unsigned)mode);
+    const struct timer *timer = pwm();
+    uint32_t mode = mode_of(timer, pwm_channel());
+    uint32_t enables = timer->ccer >> 4 * pwm_channel() & 15;
+    bool is_on = (enables & 1) != 0 && (timer->cr1 & CR1_ON) != 0 && pins_is_output_of_timer(line_of_board()->pwm);
+    if (is_on && ((mode >> 4 & 7) != PWM_MODE_1 || (mode & 3) != 0 || (enables & 2) != 0)) {
+        violation("the PWM's channel in mode %x isn't modelled", (unsigned)mode);
     }
-    pins_note_duty(is_on ? pwm->ccr_now[0] : 0);
+    pins_note_duty(is_on ? timer->ccr_now[pwm_channel()] : 0);
 }
 
 static void update(struct timer *timer) {
@@ -57,9 +67,14 @@ static void update(struct timer *timer) {
     timers_note_duty();
 }
 
+static uint32_t most_of(const struct timer *timer) {
+    return TIMER_MOST(timer - timers);
+}
+
 /* Ticks until the counter comes to a value next: at least 1; 0 for never. */
 static uint64_t ticks_to(const struct timer *timer, uint32_t value) {
-    uint32_t period = timer->cnt > timer->arr_now ? TURN : timer->arr_now + 1;
+    uint64_t most = timer->cnt > timer->arr_now ? most_of(timer) : timer->arr_now;
+    uint64_t period = most + 1;
     if (value >= period || (timer->arr_now == 0 && timer->cnt == 0)) {
         return 0;
     }
@@ -107,7 +122,7 @@ void timers_go_on(void) {
 /* When a flag is to come that is waited for. */
 static uint64_t time_of(const struct timer *timer, int flag) {
     bool is_wanted = (timer->dier >> flag & 1) != 0 && (timer->sr >> flag & 1) == 0;
-    bool is_duty = flag == 0 && timer == pwm && timer->ccr_now[0] != timer->ccr[0];
+    bool is_duty = flag == 0 && timer == pwm() && timer->ccr_now[pwm_channel()] != timer->ccr[pwm_channel()];
     uint64_t ticks = is_wanted || is_duty ? ticks_to(timer, flag == 0 ? 0 : timer->ccr_now[flag - 1]) : 0;
     return ticks == 0 ? NEVER : timer->since + ticks * tick_of(timer);
 }
@@ -173,15 +188,15 @@ static void store_compare(struct timer *timer, int channel, uint32_t value) {
 }
 
 /* The bits of each register that are modelled; 0 for none. */
-static uint32_t modelled_bits(uint32_t offset) {
-    static const uint32_t bits[] = {0x387, 0, 0, 0x1f, 0xffffffff, 0x5f, 0xffff, 0xffff, 0x3333,
-                                    0xffff, 0xffff, 0xffff, 0, 0xffff, 0xffff, 0xffff, 0xffff};
-    return offset <= 0x40 ? bits[offset / 4] : 0;
+static uint32_t modelled_bits(const struct timer *timer, uint32_t offset) {
+    static const uint32_t bits[] = {0x387, 0, 0, 0x1f, 0xffffffff, 0x5f, 0xffff, 0xffff, 0x3333, 0, 0xffff};
+    bool is_count = offset == 0x24 || offset == 0x2c || (offset >= 0x34 && offset <= 0x40);
+    return is_count ? most_of(timer) : offset <= 0x28 ? bits[offset / 4] : 0;
 }
 
 void timers_store(int which, uint32_t offset, uint32_t value) {
     struct timer *timer = &timers[which];
-    if ((value & ~modelled_bits(offset)) != 0) {
+    if ((value & ~modelled_bits(timer, offset)) != 0) {
         violation("register %02x of a timer: %x is reserved, or isn't modelled", (unsigned)offset, (unsigned)value);
         return;
     }

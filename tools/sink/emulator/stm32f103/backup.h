@@ -1,15 +1,8 @@
-/* The independent watchdog (IWDG), by its own oscillator; the backup registers (BKP), which PWR unlocks. */
-#ifndef WATCHDOG_H
-#define WATCHDOG_H
+/* The backup registers (BKP), which PWR unlocks. */
+#ifndef BACKUP_H
+#define BACKUP_H
 
 #include <stdint.h>
-
-uint32_t watchdog_load(uint32_t offset);
-void watchdog_store(uint32_t offset, uint32_t value);
-void watchdog_reset(void);
-
-/* The longest time between two that it was fed, in units. */
-extern uint64_t watchdog_hunger;
 
 uint32_t backup_load(uint32_t offset);
 void backup_store(uint32_t offset, uint32_t value);

@@ -1,12 +1,12 @@
-/* USART1 at PA9 and PA10. */
+/* The USART of the line (line.h). */
 #ifndef USART_H
 #define USART_H
 
 #include <stdbool.h>
 #include <stdint.h>
 
-/* Whether it asks a channel of the DMA. */
-bool usart_requests(int channel);
+/* Whether it asks a way of the DMA. */
+bool usart_requests(int way);
 
 /* The shift register is free; a byte has come. */
 void usart_shift(void);
