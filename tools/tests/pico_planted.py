@@ -87,7 +87,7 @@ TIMERS: dict[str, list[Edit]] = {
     "ticks of 15": port("TICK_DIVISOR = 16", "TICK_DIVISOR = 15"),
     "time stands": port("PWM_EN = 1u << TIME | ", "PWM_EN = "),
     "alarm stands": port("1u << ALARM | 1u << SPINDLE", "1u << SPINDLE"),
-    "alarm a tick early": port("(PWM_CTR(TIME) - due)", "(PWM_CTR(TIME) - due + 1)"),
+    "alarm a microsecond early": port("(PWM_CTR(TIME) - due)", "(PWM_CTR(TIME) - due + 8)"),
     "alarm 60 us late": port("(PWM_CTR(TIME) - due)", "(PWM_CTR(TIME) - due - 480)"),
     "flag never cleared": port("PWM_INTR = 1u << ALARM;", ""),
     "a turn taken for a due word": port("PWM_INTE != 0 && is_due()", "PWM_INTE != 0 && (is_due() || true)"),
