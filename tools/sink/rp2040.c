@@ -1,64 +1,17 @@
-/* A port for an RP2040 at 128 MHz with a crystal of 12 MHz and a flash of 2 MB, as a Raspberry Pi Pico has them, without
- * a library: docs/SINK.md has its wires. The numbers of registers and bits are those of the RP2040's datasheet.
+/* A port for an RP2040 at 128 MHz with a crystal of 12 MHz and a flash of 2 MB, as a Raspberry Pi Pico has them. It
+ * needs no library: docs/SINK.md has its wires. Registers and bits have the numbers of the RP2040's datasheet.
  *
  * The chip's TIMER counts microseconds, which are eight ticks. So two slices of the PWM count 128 MHz / 16, which are
  * ticks: one goes on for ever and says what time it is, the other is set so that it turns over, and interrupts, when
  * sink_make is due. All code runs in RAM, where each instruction takes the same time: the flash would have the timer
  * wait for microseconds. The second core sleeps, as the ROM leaves it. */
+#include "rp2040.h"
+
 #include <stdbool.h>
 
 #include "rp2040_boots.h"
 #include "sink.h"
 #include "sink_port.h"
-
-#define AT(address) (*(volatile uint32_t *)(address))
-#define PSM_WDSEL AT(0x40010008)
-#define RESETS_CLEAR AT(0x4000f000) /* RESETS_RESET, whose bits are cleared by ones here */
-#define RESETS_DONE AT(0x4000c008)
-#define XOSC_CTRL AT(0x40024000)
-#define XOSC_STATUS AT(0x40024004)
-#define XOSC_STARTUP AT(0x4002400c)
-#define CLK_REF_CTRL AT(0x40008030)
-#define CLK_REF_SELECTED AT(0x40008038)
-#define CLK_SYS_CTRL AT(0x4000803c)
-#define CLK_SYS_SELECTED AT(0x40008044)
-#define CLK_PERI_CTRL AT(0x40008048)
-#define PLL_CS AT(0x40028000)
-#define PLL_PWR AT(0x40028004)
-#define PLL_FBDIV_INT AT(0x40028008)
-#define PLL_PRIM AT(0x4002800c)
-#define IO_CTRL(pin) AT(0x40014004 + 8 * (pin))
-#define PADS(pin) AT(0x4001c004 + 4 * (pin))
-#define SIO_IN AT(0xd0000004)
-#define SIO_OUT AT(0xd0000010)
-#define SIO_OUT_SET AT(0xd0000014)
-#define SIO_OUT_CLEAR AT(0xd0000018)
-#define SIO_OE_SET AT(0xd0000024)
-#define PWM_CSR(slice) AT(0x40050000 + 0x14 * (slice))
-#define PWM_DIV(slice) AT(0x40050004 + 0x14 * (slice))
-#define PWM_CTR(slice) AT(0x40050008 + 0x14 * (slice))
-#define PWM_CC(slice) AT(0x4005000c + 0x14 * (slice))
-#define PWM_TOP(slice) AT(0x40050010 + 0x14 * (slice))
-#define PWM_EN AT(0x400500a0)
-#define PWM_INTR AT(0x400500a4)
-#define PWM_INTE AT(0x400500a8)
-#define TIMER_RAWL AT(0x40054028) /* microseconds */
-#define UART0_DR 0x40034000u
-#define UART0_IBRD AT(0x40034024)
-#define UART0_FBRD AT(0x40034028)
-#define UART0_LCR_H AT(0x4003402c)
-#define UART0_CR AT(0x40034030)
-#define UART0_DMACR AT(0x40034048)
-#define DMA_READ(channel) AT(0x50000000 + 0x40 * (channel))
-#define DMA_WRITE(channel) AT(0x50000004 + 0x40 * (channel))
-#define DMA_COUNT(channel) AT(0x50000008 + 0x40 * (channel))
-#define DMA_CTRL(channel) AT(0x5000000c + 0x40 * (channel))    /* a store begins */
-#define DMA_AGAIN(channel) AT(0x5000001c + 0x40 * (channel))   /* the count; a store begins */
-#define WATCHDOG_CTRL AT(0x40058000)
-#define WATCHDOG_LOAD AT(0x40058004)
-#define WATCHDOG_TICK AT(0x4005802c)
-#define NVIC_ISER AT(0xe000e100)
-#define VTOR AT(0xe000ed08)
 
 enum {
     PIN_OUT = 0, PIN_IN = 1,     /* the line */
@@ -216,7 +169,7 @@ void sink_port_write(const uint8_t *bytes, size_t size) {
     DMA_READ(SENDS) = (uint32_t)(uintptr_t)to_send;
     DMA_WRITE(SENDS) = UART0_DR;
     DMA_COUNT(SENDS) = size;
-    DMA_CTRL(SENDS) = 20u << 15 | (uint32_t)SENDS << 11 | 1u << 4 | 1; /* as UART0 asks, from memory, byte by byte, on */
+    DMA_CTRL(SENDS) = 20u << 15 | (uint32_t)SENDS << 11 | 1u << 4 | 1; /* as UART0 asks, from memory, by bytes, on */
 }
 
 void sink_port_watchdog(void) {

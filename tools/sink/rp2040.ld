@@ -1,5 +1,5 @@
-/* 2 MB of flash, of which the last two sectors count the boots; 264 KB of RAM. The boot block is first, then what copies
- * all else to RAM, where it runs: the flash is slow. The stack is at the RAM's end. */
+/* 2 MB of flash, of which the last two sectors count the boots; 264 KB of RAM. The boot block is first, then what
+ * copies all else to RAM, where it runs: the flash is slow. The stack is at the RAM's end. */
 MEMORY {
     FLASH (rx) : ORIGIN = 0x10000000, LENGTH = 2040K
     RAM (rwx) : ORIGIN = 0x20000000, LENGTH = 264K

@@ -1,15 +1,7 @@
 /* The boot block of an RP2040: 252 bytes at the flash's begin, and a checksum behind them (rp2040_image.py). The chip's
  * ROM copies it to RAM and calls it there. It lets the flash be read as memory, by the command that all chips of flash
  * have, and begins the program behind it. By the datasheet's chapters on the boot sequence and on the SSI. */
-#include <stdint.h>
-
-#define AT(address) (*(volatile uint32_t *)(address))
-#define SSI_CTRLR0 AT(0x18000000)
-#define SSI_CTRLR1 AT(0x18000004)
-#define SSI_SSIENR AT(0x18000008)
-#define SSI_BAUDR AT(0x18000014)
-#define SSI_SPI_CTRLR0 AT(0x180000f4)
-#define VTOR AT(0xe000ed08)
+#include "rp2040.h"
 
 enum {
     READ = 0x03,     /* the command: three bytes of address, then data */

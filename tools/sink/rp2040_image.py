@@ -3,7 +3,7 @@
 
 In the ELF it puts the checksum of the boot block, without which the chip's ROM doesn't start it (RP2040's datasheet,
 "Boot sequence"). UF2 is the file that is copied to the drive which a board shows with BOOTSEL held (Microsoft's "USB
-Flashing Format"). It ends with status 1 and a line where the ELF isn't such a firmware, and leaves both as they were."""
+Flashing Format"). Where the ELF isn't such a firmware it says so in a line, with status 1, and writes nothing."""
 import struct
 import sys
 from collections.abc import Iterator

@@ -19,6 +19,7 @@ class Board(NamedTuple):
     slow_hz: int                   # of the watchdog's oscillator, by the data sheet
     fast_hz: int
     keeps_boots: bool              # it counts its starts over a loss of power, with a battery
+    needs_battery: bool = True     # .. and without one it doesn't
 
     @property
     def driven(self) -> tuple[Pin, ...]:
@@ -51,7 +52,7 @@ BOARDS = {board.name: board for board in (
           {"sys_hz": 128_000_000, "ref_hz": 12_000_000, "us_hz": 1_000_000, "baud": 2_000_000, "tick_hz": 8_000_000,
            "pwm_hz": 10_000},
           pins("PA2 PA4 PA6"), pins("PA3 PA5 PA7"), pins("PA8 PA9 PA11 PA12"),
-          {"lsi_hz": 6_500_000, "hse_hz": 12_000_000, "branch_cycles": 1}, 12800, 1_800_000, 12_000_000, True))}
+          {"lsi_hz": 6_500_000, "hse_hz": 12_000_000, "branch_cycles": 1}, 12800, 1_800_000, 12_000_000, True, False))}
 
 
 def board_of(elf: Path | str) -> Board:

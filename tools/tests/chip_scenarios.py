@@ -372,7 +372,7 @@ def power(elf: str) -> Figures:
         driver.move(ms=50)
         driver.chip.model.model_power_off(50 * MS_NS)
         driver.pump(50 * MS_NS)
-        check_new(driver, (1 + battery) << 16)
+        check_new(driver, (1 + (battery or not driver.chip.board.needs_battery)) << 16)
     return {}
 
 

@@ -1,6 +1,6 @@
 """Faults planted in the Pico's firmware, one at a time: a scenario on the emulated chip has to fail for each.
 
-    python3 tests/pico_planted.py [NAME ..]     all of them, or these
+    python3 tests/pico_planted.py [NAME ..]     all scenarios on the firmware as it is, then all faults; or these faults
 
 It prints which scenario shows a fault, and ends with status 1 where one isn't shown."""
 import sys
@@ -15,8 +15,8 @@ import chip_scenarios as each_chip  # noqa: E402
 import pico_scenarios as of_pico  # noqa: E402
 from chip_planted import Edit, build  # noqa: E402
 
-PORT, BOOT, BOOTS, LINKER, IMAGE, MAKE = ("rp2040.c", "rp2040_boot.c", "rp2040_boots.c", "rp2040.ld",
-                                          "rp2040_image.py", "Makefile")
+PORT, REGISTERS, BOOT, BOOTS = "rp2040.c", "rp2040.h", "rp2040_boot.c", "rp2040_boots.c"
+LINKER, IMAGE, MAKE = "rp2040.ld", "rp2040_image.py", "Makefile"
 
 
 def port(old: str, new: str) -> list[Edit]:
@@ -59,8 +59,8 @@ START: dict[str, list[Edit]] = {
     "stack in .bss": [(LINKER, "stack_top = ORIGIN(RAM) + LENGTH(RAM);", "stack_top = bss_end + 64;")],
     "stack beyond the RAM": [(LINKER, "ORIGIN(RAM) + LENGTH(RAM);", "ORIGIN(RAM) + LENGTH(RAM) + 64;")],
     "instructions of a Cortex-M3": [(MAKE, "cortex-m0plus", "cortex-m3")],
-    "an unaligned word": port("directions = wanted;",
-                              "directions = wanted;\n        *(volatile uint32_t *)(to_send + 1) = 0;"),
+    "an unaligned word": port("directions = wanted;", "directions = wanted;\n"
+                              "        __asm volatile(\"str %0, [%0]\" : : \"r\"((uintptr_t)to_send | 1));"),
 }
 LINE: dict[str, list[Edit]] = {
     "baud divisor 5": port("BAUD_DIVISOR = 4", "BAUD_DIVISOR = 5"),
@@ -80,7 +80,6 @@ LINE: dict[str, list[Edit]] = {
     "DMA the wrong way": port("1u << 4 | 1; /* as", "1u << 5 | 1; /* as"),
     "DMA as the other asks": port("20u << 15", "21u << 15"),
     "DMA begins the other": port("(uint32_t)SENDS << 11 | ", ""),
-    "DMA set while on": port("    if (is_busy(SENDS)) {\n        return;\n    }\n", ""),
     "DMA not begun again": port("DMA_AGAIN(RECEIVES) = 0xffffffff;", ""),
 }
 TIMERS: dict[str, list[Edit]] = {
@@ -92,8 +91,8 @@ TIMERS: dict[str, list[Edit]] = {
     "flag never cleared": port("PWM_INTR = 1u << ALARM;", ""),
     "a turn taken for a due word": port("PWM_INTE != 0 && is_due()", "PWM_INTE != 0 && (is_due() || true)"),
     "alarm set after the look": port(
-        "        set_due(after);\n    }\n    PWM_INTE", "        bool is_past = (uint16_t)(due + after - ticks_now() - 1) >="
-        " 0x8000;\n        set_due(after);\n        if (!is_past) {\n            break;\n        }\n    }\n    PWM_INTE"),
+        "        set_due(after);\n    }\n", "        bool is_past = (uint16_t)(due + after - ticks_now() - 1) >= 0x8000;\n"
+        "        set_due(after);\n        if (!is_past) {\n            break;\n        }\n    }\n"),
     "all lateness made up for": port("late > MOST_LATE_TICKS &&", "false && late > MOST_LATE_TICKS &&"),
     "another slice's interrupt": port("PWM_INTE = 1u << ALARM", "PWM_INTE = 1u << TIME"),
     "interrupt 5": port("1u << PWM_INTERRUPT;", "1u << (PWM_INTERRUPT + 1);"),
@@ -106,12 +105,12 @@ TIMERS: dict[str, list[Edit]] = {
 }
 PINS: dict[str, list[Edit]] = {
     "outputs high while they begin": port("SIO_OUT = 0;", "SIO_OUT = STEP_PINS;"),
-    "outputs not enabled": port("SIO_OE_SET = STEP_PINS | DOWN_PINS | SWITCH_PINS", "SIO_OE_SET = STEP_PINS | DOWN_PINS"),
+    "outputs not enabled": port("STEP_PINS | DOWN_PINS | SWITCH_PINS", "STEP_PINS | DOWN_PINS"),
     "no pull-ups": port("        PADS(pin) = 0x5a;\n", ""),
     "inputs float": port("        PADS(pin) = 0x5a;\n", "        PADS(pin) = 0x52;\n"),
     "inputs one pin too far": port("SIO_IN >> INPUTS &", "SIO_IN >> (INPUTS + 1) &"),
-    "wrong register: the other bank": port("AT(0xd0000004)", "AT(0xd0000008)"),
-    "wrong register: turned, not cleared": port("AT(0xd0000018)", "AT(0xd000001c)"),
+    "wrong register: the other bank": [(REGISTERS, "AT(0xd0000004)", "AT(0xd0000008)")],
+    "wrong register: turned, not cleared": [(REGISTERS, "AT(0xd0000018)", "AT(0xd000001c)")],
     "PWM of 12801 steps": port("PWM_TOP(SPINDLE) = PWM_STEPS - 1", "PWM_TOP(SPINDLE) = PWM_STEPS"),
     "PWM at the other pin": port("PWM_CC(SPINDLE) = outputs->spindle == 0 ? 0 : duty < PWM_STEPS ? (uint32_t)duty :"
                                  " PWM_STEPS;", "PWM_CC(SPINDLE) = (outputs->spindle == 0 ? 0 : duty < PWM_STEPS ?"
@@ -144,21 +143,26 @@ LOG: dict[str, list[Edit]] = {
     "log amid the program": [(LINKER, "boot_log = ORIGIN(FLASH) + LENGTH(FLASH);", "boot_log = ORIGIN(FLASH);")],
 }
 FAULTS = CLOCK | START | LINE | TIMERS | PINS | LOG
-FIRST: tuple[Callable[[str], each_chip.Figures], ...] = (
-    each_chip.boot, each_chip.worked_frame, each_chip.switches, of_pico.long_line, of_pico.bites, each_chip.input_stops,
-    of_pico.kept, of_pico.cut, of_pico.boots)
-SHOW = (*FIRST, *[scenario for scenario in each_chip.QUICK if scenario not in FIRST], each_chip.short_words,
-        each_chip.all_axes)
-"""The short ones first."""
+Scenarios = tuple[Callable[[str], each_chip.Figures], ...]
+FIRST: tuple[tuple[dict[str, list[Edit]], Scenarios], ...] = (
+    (CLOCK | START, (each_chip.boot, each_chip.worked_frame)),
+    (LINE, (each_chip.boot, each_chip.worked_frame, of_pico.long_line)),
+    (TIMERS, (each_chip.boot, each_chip.worked_frame, of_pico.bites, each_chip.storm, each_chip.short_words)),
+    (PINS, (each_chip.boot, each_chip.worked_frame, each_chip.still_directions, each_chip.switches,
+            each_chip.input_stops, each_chip.all_axes)),
+    (LOG, (each_chip.boot, of_pico.kept, of_pico.cut, of_pico.boots)))
+"""What is tried first for which faults."""
+EVERY = (*each_chip.QUICK, each_chip.short_words, each_chip.all_axes, *of_pico.EVERY[:-1])
 
 
-def shown_by(edits: list[Edit]) -> str:
+def shown_by(name: str) -> str:
     """What shows a fault; empty where nothing does."""
+    first = next(scenarios for faults, scenarios in FIRST if name in faults)
     with tempfile.TemporaryDirectory() as folder:
-        elf = build(Path(folder), edits, "pico")
+        elf = build(Path(folder), FAULTS[name], "pico")
         if elf is None:
             return "the build refuses it"
-        for scenario in SHOW:
+        for scenario in (*first, *[each for each in EVERY if each not in first]):
             said, holds = each_chip.told(scenario, elf)
             if not holds:
                 return f"{scenario.__name__}: {said}"
@@ -167,9 +171,9 @@ def shown_by(edits: list[Edit]) -> str:
 
 def main(*names: str) -> int:
     """Plants each."""
-    begun, failed = time.process_time(), 0
+    begun, failed = time.process_time(), 0 if names else each_chip.main("pico") + of_pico.main()
     for name in names or FAULTS:
-        said = shown_by(FAULTS[name])
+        said = shown_by(name)
         failed += not said
         print(f"{name:36} {said[:120] or 'NOT SHOWN'}", flush=True)
     print(f"{len(names or FAULTS)} faults, {failed} not shown; {time.process_time() - begun:.0f} s of processor time, "

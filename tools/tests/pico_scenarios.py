@@ -37,8 +37,8 @@ def log_of(chip: Chip) -> list[int]:
 
 
 def session_of(elf: str, log: list[int], cut: int = 0) -> tuple[int, Chip]:
-    """The boot's number that a chip with this log begins with, and the chip; power goes off amid the change of the flash
-    that is the `cut`-th."""
+    """The boot's number that a chip with this log begins with, and the chip; power goes off amid the `cut`-th change of
+    the flash."""
     chip = Chip(elf)
     flash(chip)[FLASH_BYTES - 2 * SECTOR:] = list(struct.pack(f"<{SLOTS}I", *log, *[BLANK] * (SLOTS - len(log))))
     chip.model.rom_cut(cut)

@@ -64,7 +64,7 @@ class Image(unittest.TestCase):
     """The files of a Pico."""
 
     def test_checksum(self) -> None:
-        """The check value of this CRC in the catalogues; and the boot block's last four bytes are that of the others."""
+        """The CRC has the check value of the catalogues; the boot block's last four bytes are that of the others."""
         self.assertEqual(checksum(b"123456789"), 0x0376e6e7)
         block = loaded(chip_folder("pico") / "pico.elf")[:PAGE]
         self.assertEqual(struct.unpack("<I", block[252:])[0], checksum(block[:252]))

@@ -31,7 +31,7 @@ class OnPico(unittest.TestCase):
         """Faults that were planted are shown: of the boot block, of the program, and of the core's instructions."""
         for name in PLANTED:
             with self.subTest(name):
-                self.assertNotIn(pico_planted.shown_by(pico_planted.FAULTS[name]), ("", "the build refuses it"))
+                self.assertNotIn(pico_planted.shown_by(name), ("", "the build refuses it"))
 
 
 if __name__ == "__main__":

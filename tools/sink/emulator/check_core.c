@@ -181,7 +181,7 @@ static void open_unicorn(void) {
     }
 }
 
-/* A place of code that Unicorn has too, as a number; one beyond all where it hasn't, as in a ROM. */
+/* A place of code that Unicorn has too, as a number; one beyond all where it hasn't, as in a ROM. It can't go there. */
 static uint32_t place_of(uint32_t address) {
     return address - FLASH_AT < FLASH_BYTES ? address - FLASH_AT
         : is_ram(address) ? FLASH_BYTES + (address - RAM_AT) : sizeof is_seen;
@@ -194,7 +194,7 @@ static void check(uint64_t instructions, const uint8_t *frames, size_t size) {
         if (size > 0 && chip.now >= from && serial_sending() == 0) {
             serial_send(frames, size);
         }
-        if (run_one(before) && place_of(before[PC]) < sizeof is_seen) {
+        if (run_one(before) && place_of(before[PC]) < sizeof is_seen && place_of(core.r[PC]) < sizeof is_seen) {
             in_handlers += (before[STATUS] & EXCEPTION) != 0;
             is_seen[place_of(before[PC])] = 1;
             checked++;

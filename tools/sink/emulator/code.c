@@ -15,7 +15,7 @@ static bool is_of_v6m(const struct op *op, uint32_t one, uint32_t two) {
     if (op->size == 2) {
         return op->kind != CBZ && op->kind != IT;
     }
-    bool is_barrier = one == 0xf3bf && ((two & 0xfff0) == 0x8f40 || (two & 0xfff0) == 0x8f50 || (two & 0xfff0) == 0x8f60);
+    bool is_barrier = one == 0xf3bf && (two & 0xff00) == 0x8f00 && (two >> 4 & 15) >= 4 && (two >> 4 & 15) <= 6;
     return is_barrier || ((one & 0xf800) == 0xf000 && (two & 0xd000) == 0xd000);
 }
 

@@ -23,7 +23,10 @@
 #include "serial.h"
 #include "told.h"
 
-enum { TICK_NS = 125, MS_NS = 1000000, SLICE_TICKS = 400, READS_TICKS = 4000, STARTS_TICKS = 40000 };
+enum { TICK_NS = 125, MS_NS = 1000000, SLICE_TICKS = 400, READS_TICKS = 4000 };
+#ifndef STARTS_TICKS
+#define STARTS_TICKS 40000
+#endif
 enum { EMPTY_FRAME = WIRE_HEAD + WIRE_CRC + 2 }; /* bytes of a frame of no words */
 enum { SETUP_NS = 5000, TOGETHER_NS = 1000 }; /* axes whose pins rise within this make one step */
 

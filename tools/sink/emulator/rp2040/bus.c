@@ -40,7 +40,9 @@ static bool reaches(uint32_t address, uint32_t size, bool is_store) {
 /* The register's value; false where nothing is there. */
 static bool load(uint32_t base, uint32_t offset, uint32_t *value) {
     switch (base) {
-    case AT_CLOCKS: case AT_RESETS: case AT_PSM: case AT_XOSC: case AT_PLL_SYS: *value = clocks_load(base, offset); break;
+    case AT_CLOCKS: case AT_RESETS: case AT_PSM: case AT_XOSC: case AT_PLL_SYS:
+        *value = clocks_load(base, offset);
+        break;
     case AT_IO_BANK0: case AT_PADS_BANK0: case AT_SIO: *value = pins_load(base, offset); break;
     case AT_UART0: *value = uart_load(offset); dma_look(); break;
     case AT_PWM: *value = pwm_load(offset); break;
@@ -72,7 +74,9 @@ bool bus_load(uint32_t address, uint32_t size, uint32_t *value) {
 
 static bool store(uint32_t base, uint32_t offset, uint32_t value) {
     switch (base) {
-    case AT_CLOCKS: case AT_RESETS: case AT_PSM: case AT_XOSC: case AT_PLL_SYS: clocks_store(base, offset, value); break;
+    case AT_CLOCKS: case AT_RESETS: case AT_PSM: case AT_XOSC: case AT_PLL_SYS:
+        clocks_store(base, offset, value);
+        break;
     case AT_IO_BANK0: case AT_PADS_BANK0: case AT_SIO: pins_store(base, offset, value); break;
     case AT_UART0: uart_store(offset, value); break;
     case AT_PWM: pwm_store(offset, value); break;

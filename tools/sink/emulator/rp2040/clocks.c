@@ -21,7 +21,7 @@ static struct {
     uint32_t xosc_ctrl, xosc_startup;
     bool is_stable;
     uint32_t cs, pwr, fbdiv, prim;
-    bool is_locked;
+    bool is_locked, is_seen; /* and whether the program has seen that */
     uint32_t ref_ctrl, sys_ctrl, peri_ctrl;
     uint32_t held;         /* in reset: of RESETS */
     uint32_t was_held;     /* .. until a time */
@@ -138,7 +138,7 @@ static void store_resets(uint32_t value) {
         clocks.pwr = 0x2d;
         clocks.fbdiv = 0;
         clocks.prim = 0x77000;
-        clocks.is_locked = false;
+        clocks.is_locked = clocks.is_seen = false;
         chip_arm(E_PLL, NEVER);
     }
     if ((came >> IN_RESET_UART0 & 1) != 0) {
@@ -213,7 +213,7 @@ static void store_pll(uint32_t offset, uint32_t value) {
     if (!was_on && is_pll_on()) {
         start_pll();
     } else if (was_on && !is_pll_on()) {
-        clocks.is_locked = false;
+        clocks.is_locked = clocks.is_seen = false;
         chip_arm(E_PLL, NEVER);
     }
 }
@@ -236,6 +236,9 @@ static void store_clocks(uint32_t offset, uint32_t value) {
             violation("clk_sys's auxiliary clock is changed while it is used");
         }
         clocks.sys_ctrl = value;
+        if ((value & SYS_FROM_AUX) != 0 && (value >> 5 & 7) == 0 && !clocks.is_seen) {
+            violation("PLL_SYS is made a clock before anybody has seen that it is locked");
+        }
     } else if (offset == 0x48 && (value & ~0x8e0u) == 0) {
         clocks.peri_ctrl = value;
     } else {
@@ -252,7 +255,9 @@ uint32_t clocks_load(uint32_t base, uint32_t offset) {
     case AT_XOSC: return clocks.xosc_ctrl;
     case AT_XOSC | 0x04: return (clocks.is_stable ? 1u << 31 : 0) | (clocks.xosc_ctrl != 0 ? 1u << 12 : 0);
     case AT_XOSC | 0x0c: return clocks.xosc_startup;
-    case AT_PLL_SYS: return clocks.cs | (is_pll_on() && clocks.is_locked ? 1u << 31 : 0);
+    case AT_PLL_SYS:
+        clocks.is_seen = is_pll_on() && clocks.is_locked;
+        return clocks.cs | (clocks.is_seen ? 1u << 31 : 0);
     case AT_PLL_SYS | 0x04: return clocks.pwr;
     case AT_PLL_SYS | 0x08: return clocks.fbdiv;
     case AT_PLL_SYS | 0x0c: return clocks.prim;

@@ -19,6 +19,7 @@
 #define CORE_ID 0x410cc601u /* CPUID: r0p1 of a Cortex-M0+ */
 #define CORE_V6M true
 #define RUNS_RAM true
+#define STARTS_TICKS 320000 /* in which a firmware surely answers: 40 ms */
 
 #define UNICORN_CORE UC_CPU_ARM_CORTEX_M0
 #define REGIONS {0, 0x4000}, {0x18000000, 0x1000}, {0x40000000, 0x10001000}, {0xd0000000, 0x1000}
