@@ -24,10 +24,10 @@
 #include "told.h"
 
 enum { TICK_NS = 125, MS_NS = 1000000, SLICE_TICKS = 400, READS_TICKS = 4000 };
-enum { EMPTY_FRAME = WIRE_HEAD + WIRE_CRC + 2 }; /* bytes of a frame of no words */
 #ifndef STARTS_TICKS
 #define STARTS_TICKS 40000
 #endif
+enum { EMPTY_FRAME = WIRE_HEAD + WIRE_CRC + 2 }; /* bytes of a frame of no words */
 enum { SETUP_NS = 5000, TOGETHER_NS = 1000 }; /* axes whose pins rise within this make one step */
 
 static uint32_t sink_at;     /* where the firmware's RAM has the sink */
