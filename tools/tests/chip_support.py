@@ -9,6 +9,7 @@ from collections.abc import Iterable
 from dataclasses import dataclass, field
 from functools import cache
 from pathlib import Path
+from typing import ClassVar
 
 from chip_parts import BOARDS, Edge, Pulse, board_of, pulses
 from player_support import builds
@@ -164,6 +165,7 @@ class Driver:
     _lost: int = 0
     _line: bytes = b""
     _damaged: int = 0
+    waits_s: ClassVar[float] = 60  # of simulated time, until words are made
 
     def hear(self) -> None:
         """Takes what came; each answer has to be whole, but for two at which the line was pulled out."""
@@ -246,9 +248,9 @@ class Driver:
         """Whether all words are made."""
         return (self.last.made - self.base) & 0xffffffff == len(self.words)
 
-    def play(self, seconds: float = 60) -> Answer:
+    def play(self, seconds: float | None = None) -> Answer:
         """Sends all words, until they are made, or the sink stops."""
-        until = self.chip.now + int(seconds * S_NS)
+        until = self.chip.now + int((seconds or self.waits_s) * S_NS)
         while self.chip.now < until and not self.is_done and self.last.state in (STANDS, RUNS):
             self.push()
             self.pump()

@@ -14,6 +14,7 @@ sys.path.insert(0, str(Path(__file__).resolve().parent))
 import chip_scenarios as each_chip  # noqa: E402
 import pico_scenarios as of_pico  # noqa: E402
 from chip_planted import Edit, build  # noqa: E402
+from chip_support import Driver  # noqa: E402
 
 PORT, REGISTERS, BOOT, BOOTS = "rp2040.c", "rp2040.h", "rp2040_boot.c", "rp2040_boots.c"
 LINKER, IMAGE, MAKE = "rp2040.ld", "rp2040_image.py", "Makefile"
@@ -86,7 +87,7 @@ TIMERS: dict[str, list[Edit]] = {
     "ticks of 15": port("TICK_DIVISOR = 16", "TICK_DIVISOR = 15"),
     "time stands": port("PWM_EN = 1u << TIME | ", "PWM_EN = "),
     "alarm stands": port("1u << ALARM | 1u << SPINDLE", "1u << SPINDLE"),
-    "alarm a tick early": port("(PWM_CTR(TIME) - due)", "(PWM_CTR(TIME) - due + 1)"),
+    "alarm a microsecond early": port("(PWM_CTR(TIME) - due)", "(PWM_CTR(TIME) - due + 8)"),
     "alarm 60 us late": port("(PWM_CTR(TIME) - due)", "(PWM_CTR(TIME) - due - 480)"),
     "flag never cleared": port("PWM_INTR = 1u << ALARM;", ""),
     "a turn taken for a due word": port("PWM_INTE != 0 && is_due()", "PWM_INTE != 0 && (is_due() || true)"),
@@ -170,7 +171,8 @@ def shown_by(name: str) -> str:
 
 
 def main(*names: str) -> int:
-    """Plants each."""
+    """Plants each. Where a fault has no words made they aren't waited for long."""
+    Driver.waits_s = 3
     begun, failed = time.process_time(), 0 if names else each_chip.main("pico") + of_pico.main()
     for name in names or FAULTS:
         said = shown_by(name)

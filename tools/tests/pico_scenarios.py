@@ -108,7 +108,9 @@ def bites(elf: str) -> Figures:
     at = driver.move(ms=50)
     driver.chip.model.model_fault()
     driver.pump(200 * MS_NS)
-    after = next(edge.ns for edge in driver.chip.edges if edge.port == "R") - at
+    resets = [edge.ns for edge in driver.chip.edges if edge.port == "R"]
+    assert resets, "the watchdog doesn't bite"
+    after = resets[0] - at
     assert 99.5 * MS_NS < after < 100.5 * MS_NS, f"the watchdog bites after {after / MS_NS:.1f} ms"
     return {"after_ms": after / MS_NS}
 
