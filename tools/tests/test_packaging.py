@@ -120,6 +120,8 @@ class Files(InFolder):
         self.assertEqual([("dialout" in text, "AF_INET" in text) for text in texts.values()],
                          [(True, False), (False, True)])
         self.assertIn("After=ngc-player.service", texts["ngc-page"])
+        for text in texts.values():  # the page's socket has a name of its network namespace alone
+            self.assertNotRegex(text, "(?m)^PrivateNetwork=")
 
     def test_same_places(self) -> None:
         """The scripts of the services name the files that ngc-setup makes."""
