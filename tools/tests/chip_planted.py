@@ -73,7 +73,6 @@ SHARED: Faults = {
     "mist and flood swapped": shared("outputs->mist != 0 ? bit_of(port, MIST)",
                                      "outputs->mist != 0 ? bit_of(port, FLOOD)"),
     "first word late": shared("due = (timer_ticks)(TIM2_CNT + ticks);", "due = (timer_ticks)(TIM2_CNT - ticks);"),
-    "answers written over": shared("    if (SEND_LEFT != 0) {\n        return;\n    }\n", ""),
     "a byte too few read": shared("uint32_t end = RECEIVED - RECEIVED_LEFT;",
                                   "uint32_t end = RECEIVED - RECEIVED_LEFT - 1;"),
 }
@@ -162,7 +161,6 @@ STM32F411: Faults = {
     "outputs stay inputs": f411("set_bits(&MODER(outputs[each]), 2 * at, 3, OUTPUT);", ""),
     "tick of 8.7 MHz": f411_h("TICK_DIVISOR = 12,", "TICK_DIVISOR = 11,"),
     "a counter of 16 bits": f411_h("typedef uint32_t timer_ticks;", "typedef uint16_t timer_ticks;"),
-    "half a turn of 16 bits": f411_h("#define HALF_TURN 0x80000000u", "#define HALF_TURN 0x8000u"),
     "vector one too far": f411("void (*faults[14])(void);", "void (*faults[15])(void);"),
     "PWM the other way": f411("0x68u <<", "0x78u <<"),
     "PWM of 9601 steps": f411("PWM_ARR = PWM_STEPS - 1", "PWM_ARR = PWM_STEPS"),

@@ -19,6 +19,11 @@ from sink_frames import REST, begin_frame, steep, words_frame  # noqa: E402
 
 
 FLASH = 0x08000000
+EACH = (chip_scenarios.boot, chip_scenarios.worked_frame, chip_scenarios.still_directions, chip_scenarios.debounced,
+        chip_scenarios.reset_amid, chip_scenarios.power, chip_scenarios.crystal)
+QUICK = {"stm32f103": (*EACH, chip_scenarios.switches, chip_scenarios.pulled, chip_scenarios.input_stops,
+                       chip_scenarios.hung), "stm32f411": EACH}
+"""Some seven seconds of processor time."""
 
 
 def loaded(elf: bytes) -> dict[int, int]:
@@ -52,9 +57,10 @@ class OnChip(unittest.TestCase):
 
     def test_scenarios(self) -> None:
         """Each does what docs/SINK.md says, at its pins and in its answers."""
-        for scenario in chip_scenarios.QUICK:
-            with self.subTest(scenario.__name__):
-                scenario(elf_of("stm32f103"))
+        for board, scenarios in QUICK.items():
+            for scenario in scenarios:
+                with self.subTest(board, scenario=scenario.__name__):
+                    scenario(elf_of(board))
 
     def test_planted(self) -> None:
         """Faults that were planted are shown: of a register, of the linker script, and of the program."""

@@ -75,10 +75,12 @@ static bool is_switch(const struct edge *edge) {
     return is_one;
 }
 
+/* The duty follows with the PWM's next period: of a spindle that stands it says nothing. */
 static void tell_outputs(void) {
+    uint8_t spindle = (uint8_t)(level_of(board->clockwise) | level_of(board->counter) << 1);
     struct sink_outputs outputs = {
-        .speed = duty * UINT64_C(24000000000) / board->duty_steps,
-        .spindle = (uint8_t)(level_of(board->clockwise) | level_of(board->counter) << 1),
+        .speed = spindle != 0 ? duty * UINT64_C(24000000000) / board->duty_steps : 0,
+        .spindle = spindle,
         .mist = (uint8_t)level_of(board->mist),
         .flood = (uint8_t)level_of(board->flood)};
     bench_outputs(tick_of(waits.ns), &outputs);
