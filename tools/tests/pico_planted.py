@@ -130,7 +130,7 @@ PINS: dict[str, list[Edit]] = {
 }
 LOG: dict[str, list[Edit]] = {
     "number not written": [(BOOTS, "            write_slot(slot, word);\n", "")],
-    "number always 1": [(BOOTS, "(last + 1) & 0xffff) |", "1u) |"), (BOOTS, "~(last + 1) << 16", "~1u << 16")],
+    "number always 1": [(BOOTS, "? boot_log[slot] & 0xffff : 0", "? 0 : 0")],
     "words without a complement": [(BOOTS, "((word >> 16) ^ (word & 0xffff)) == 0xffff", "word != 0xffffffff")],
     "numbers compared as such": [(BOOTS, "(uint16_t)(boot_log[slot] - boot_log[newest]) < 0x8000",
                                   "(boot_log[slot] & 0xffff) > (boot_log[newest] & 0xffff)")],
