@@ -7,7 +7,7 @@ from pathlib import Path
 
 sys.path.insert(0, str(Path(__file__).resolve().parent))
 
-from sink_frames import LINE, OUTPUT, REST, SPEED, begin_frame, switches, words_frame  # noqa: E402
+from sink_frames import LINE, OUTPUT, REST, SPEED, begin_frame, switches, words_frame
 
 
 def words(chance: random.Random) -> Iterator[tuple[int, int]]:

@@ -13,8 +13,8 @@ from pathlib import Path
 
 sys.path.insert(0, str(Path(__file__).resolve().parent))
 
-import chip_scenarios  # noqa: E402
-from chip_support import SINK, make_chip  # noqa: E402
+import chip_scenarios
+from chip_support import SINK, make_chip
 
 Edit = tuple[str, str, str]  # file, what stands there, what is planted
 Faults = dict[str, list[Edit]]

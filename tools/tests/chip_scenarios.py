@@ -12,9 +12,9 @@ from pathlib import Path
 
 sys.path.insert(0, str(Path(__file__).resolve().parent))
 
-from chip_parts import BOARDS, Pin, Pulse, board_of, highs, setups  # noqa: E402
-from chip_support import MS_NS, S_NS, SLOPE, TICK_NS, US, Chip, Driver, Violation, elf_of, spindle  # noqa: E402
-from sink_frames import (ASKED, BROKEN, DEAD, INPUT, LEAST, NEW, NOTHING, OUTPUT, REST, RUNS, SILENT,  # noqa: E402
+from chip_parts import BOARDS, Pin, Pulse, board_of, highs, setups
+from chip_support import MS_NS, S_NS, SLOPE, TICK_NS, US, Chip, Driver, elf_of, spindle
+from sink_frames import (ASKED, BROKEN, DEAD, INPUT, LEAST, NEW, NOTHING, OUTPUT, REST, RUNS, SILENT,
                          SPEED, STANDS, STOPPED, TOUCHED, WORD, slope_of)
 
 Step = tuple[int, int, int]  # ticks, axes, which of them count down

@@ -2,8 +2,6 @@
 import os
 import socket
 
-from session_support import TOOLS  # noqa: F401  which puts the tools on the path
-
 from ngc_tools.link.progress import Report
 
 _LONGEST = 192  # bytes of a question

@@ -7,7 +7,6 @@ from dataclasses import replace
 from pathlib import Path
 
 from listener import Listener, said
-from session_support import TOOLS  # noqa: F401  which puts the tools on the path
 
 from ngc_tools.formats.out import OFF, Switch, read_line
 from ngc_tools.formats.position import Position, nanometres

@@ -13,11 +13,11 @@ from pathlib import Path
 
 sys.path.insert(0, str(Path(__file__).resolve().parent))
 
-from firefox_support import PATH, start  # noqa: E402
-from session_support import TOOLS  # noqa: E402
-from test_documents import blocks, chapters  # noqa: E402
-from test_moves import PROBE, World  # noqa: E402
-from test_page_day import Walk  # noqa: E402
+from firefox_support import PATH, start
+from session_support import TOOLS
+from test_documents import blocks, chapters
+from test_moves import PROBE, World
+from test_page_day import Walk
 
 PLATE = """(plate: a pocket, a groove round it)
 G17 G21 G90 G94 G54

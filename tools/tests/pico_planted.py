@@ -11,10 +11,10 @@ from pathlib import Path
 
 sys.path.insert(0, str(Path(__file__).resolve().parent))
 
-import chip_scenarios as each_chip  # noqa: E402
-import pico_scenarios as of_pico  # noqa: E402
-from chip_planted import Edit, build  # noqa: E402
-from chip_support import Driver  # noqa: E402
+import chip_scenarios as each_chip
+import pico_scenarios as of_pico
+from chip_planted import Edit, build
+from chip_support import Driver
 
 PORT, REGISTERS, BOOT, BOOTS = "rp2040.c", "rp2040.h", "rp2040_boot.c", "rp2040_boots.c"
 LINKER, IMAGE, MAKE = "rp2040.ld", "rp2040_image.py", "Makefile"

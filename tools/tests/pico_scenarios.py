@@ -11,9 +11,9 @@ from pathlib import Path
 
 sys.path.insert(0, str(Path(__file__).resolve().parent))
 
-from chip_scenarios import LATE_US, WAYS, Figures, begun, check_new, even, lateness, told, words_of  # noqa: E402
-from chip_support import MS_NS, US, Chip, Driver, Violation, elf_of  # noqa: E402
-from sink_frames import NEW  # noqa: E402
+from chip_scenarios import LATE_US, WAYS, Figures, begun, check_new, even, lateness, told, words_of
+from chip_support import MS_NS, US, Chip, Driver, Violation, elf_of
+from sink_frames import NEW
 
 FLASH_BYTES, SECTOR = 2 << 20, 4096
 SLOTS = 2 * SECTOR // 4

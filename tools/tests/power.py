@@ -23,12 +23,12 @@ from pathlib import Path
 
 sys.path.insert(0, str(Path(__file__).resolve().parent))
 
-from player_support import built, builds, made  # noqa: E402
-from power_chain import Chain, Options, Plan, plan  # noqa: E402
-from power_path import Unjudged, Wrong, memory, run_uncut  # noqa: E402
-from power_shop import HERE, Consoles, Job, Tools  # noqa: E402
-from session_support import FIRST  # noqa: E402
-from sink_support import PARTS, SINK  # noqa: E402
+from player_support import built, builds, made
+from power_chain import Chain, Options, Plan, plan
+from power_path import Unjudged, Wrong, memory, run_uncut
+from power_shop import HERE, Consoles, Job, Tools
+from session_support import FIRST
+from sink_support import PARTS, SINK
 
 
 @dataclass

@@ -24,21 +24,21 @@ from pathlib import Path
 
 sys.path.insert(0, str(Path(__file__).resolve().parent))
 
-from pulled_plug import STEP_NM, Uncut, Wrong, linked, run_uncut, steps_after, whole_lines  # noqa: E402
-from session_support import FIRST, PATIENCE_S, memory  # noqa: E402
+from pulled_plug import STEP_NM, Uncut, Wrong, linked, run_uncut, steps_after, whole_lines
+from session_support import FIRST, PATIENCE_S, memory
 
-from ngc_tools.failure import Failure  # noqa: E402
-from ngc_tools.formats.device import Device  # noqa: E402
-from ngc_tools.formats.record import Record  # noqa: E402
-from ngc_tools.ngc.console import Console, Ended  # noqa: E402
-from ngc_tools.operator.display import on_words  # noqa: E402
-from ngc_tools.operator.face import SAID, UnderWay  # noqa: E402
-from ngc_tools.operator.meter import Meter  # noqa: E402
-from ngc_tools.operator.operator import Operator  # noqa: E402
-from ngc_tools.operator.recovery import OutFound  # noqa: E402
-from ngc_tools.operator.synced import SyncedLink  # noqa: E402
-from ngc_tools.link.progress import NoAnswer, Report  # noqa: E402
-from ngc_tools.link.out_file import OutFile  # noqa: E402
+from ngc_tools.failure import Failure
+from ngc_tools.formats.device import Device
+from ngc_tools.formats.record import Record
+from ngc_tools.ngc.console import Console, Ended
+from ngc_tools.operator.display import on_words
+from ngc_tools.operator.face import SAID, UnderWay
+from ngc_tools.operator.meter import Meter
+from ngc_tools.operator.operator import Operator
+from ngc_tools.operator.recovery import OutFound
+from ngc_tools.operator.synced import SyncedLink
+from ngc_tools.link.progress import NoAnswer, Report
+from ngc_tools.link.out_file import OutFile
 
 
 def program(blocks: int) -> bytes:

@@ -30,14 +30,14 @@ from typing import TypeVar
 
 sys.path.insert(0, str(Path(__file__).resolve().parent))
 
-from session_support import FIRST, PATIENCE_S, memory  # noqa: E402
+from session_support import FIRST, PATIENCE_S, memory
 
-from ngc_tools.ngc.console import Console, Ended, Status  # noqa: E402
-from ngc_tools.operator.meter import LIMITS, Meter  # noqa: E402
-from ngc_tools.formats.out import read_line  # noqa: E402
-from ngc_tools.formats.position import Position, millimetres  # noqa: E402
-from ngc_tools.link.progress import Link, NoAnswer  # noqa: E402
-from ngc_tools.formats.record import Record  # noqa: E402
+from ngc_tools.ngc.console import Console, Ended, Status
+from ngc_tools.operator.meter import LIMITS, Meter
+from ngc_tools.formats.out import read_line
+from ngc_tools.formats.position import Position, millimetres
+from ngc_tools.link.progress import Link, NoAnswer
+from ngc_tools.formats.record import Record
 
 STEP_NM = (1000, 1000, 1000)
 

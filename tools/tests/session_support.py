@@ -20,7 +20,7 @@ from pathlib import Path
 TOOLS = Path(__file__).resolve().parents[1]
 sys.path.insert(0, str(TOOLS))
 
-from ngc_tools.link.out_file import born_ns  # noqa: E402
+from ngc_tools.link.out_file import born_ns
 
 FIRST = """step_nm = [1000, 1000, 1000]
 low_nm = [-1000000000, -1000000000, -1000000000]

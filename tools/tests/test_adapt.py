@@ -9,11 +9,11 @@ from unittest import mock
 
 sys.path.insert(0, str(Path(__file__).resolve().parent))
 
-from session_support import FIRST, TOOLS, InFolder, Terminal, ngc, told  # noqa: E402
+from session_support import FIRST, TOOLS, InFolder, Terminal, ngc, told
 
-from ngc_tools.cli.adapt import main  # noqa: E402
-from ngc_tools.cli.check import main as check  # noqa: E402
-from ngc_tools.job.radius_arcs import Ends, centre  # noqa: E402
+from ngc_tools.cli.adapt import main
+from ngc_tools.cli.check import main as check
+from ngc_tools.job.radius_arcs import Ends, centre
 
 CAM = Path(__file__).resolve().parent / "cam"
 CHANGED = {  # the numbers of the changed lines

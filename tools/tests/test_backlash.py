@@ -11,16 +11,16 @@ from pathlib import Path
 
 sys.path.insert(0, str(Path(__file__).resolve().parent))
 
-from pace_support import PROGRAMS, excess, stream  # noqa: E402
-from player_support import PlayerTest, Sanitized, record  # noqa: E402
-from session_support import FIRST, PATIENCE_S, ngc  # noqa: E402
-from sink_support import ServedSink  # noqa: E402
-from test_moves import MACHINE, Moving, program  # noqa: E402
-from test_moves_sink import OverSink as MovingOverSink  # noqa: E402
-from test_ramps import COARSE, EXAMPLES  # noqa: E402
-from test_sink_player import disturbed_out  # noqa: E402
+from pace_support import PROGRAMS, excess, stream
+from player_support import PlayerTest, Sanitized, record
+from session_support import FIRST, PATIENCE_S, ngc
+from sink_support import ServedSink
+from test_moves import MACHINE, Moving, program
+from test_moves_sink import OverSink as MovingOverSink
+from test_ramps import COARSE, EXAMPLES
+from test_sink_player import disturbed_out
 
-from ngc_tools.formats.record import Record  # noqa: E402
+from ngc_tools.formats.record import Record
 
 STEPS = (7, 1, 40)
 MOTION = "[motion]\naccel_mm_s2 = [500, 400, 300]\n[backlash]\nsteps = [7, 1, 40]\n"
@@ -273,8 +273,8 @@ class AsLines(PlayerTest):
         those that they have as lines of OUT."""
         Path("first.toml").write_text(FIRST.replace("[1000, 1000, 1000]", "[20000, 20000, 20000]"))
         motion = "[motion]\naccel_mm_s2 = [500, 400, 300]\n"
-        for name, program in PROGRAMS.items():
-            self.hand_out(f"G17 G21 G90 G94\nF3000\n{program()}M2\n")
+        for name, text in PROGRAMS.items():
+            self.hand_out(f"G17 G21 G90 G94\nF3000\n{text()}M2\n")
             Path("motion.toml").write_text(motion + "[backlash]\nsteps = [3, 2, 5]\n")
             self.check_times(name)
             self.check_path(name, (3, 2, 5))

@@ -5,16 +5,16 @@ from pathlib import Path
 
 sys.path.insert(0, str(Path(__file__).resolve().parent))
 
-from session_support import FIRST, InFolder, ngc  # noqa: E402
+from session_support import FIRST, InFolder, ngc
 
-from ngc_tools.formats.canonical import MOTIONS, read_commands  # noqa: E402
-from ngc_tools.formats.device import Device, NoDevice  # noqa: E402
-from ngc_tools.formats.out import Dwell, Pulse, Switch, read_line  # noqa: E402
-from ngc_tools.formats.settings import DEFAULT, Settings  # noqa: E402
-from ngc_tools.formats.in_force import InForce  # noqa: E402
-from ngc_tools.ngc.beginning import Beginning, CannotSetUp  # noqa: E402
-from ngc_tools.ngc.console import Console  # noqa: E402
-from ngc_tools.ngc.run import dry, refusal  # noqa: E402
+from ngc_tools.formats.canonical import MOTIONS, read_commands
+from ngc_tools.formats.device import Device, NoDevice
+from ngc_tools.formats.out import Dwell, Pulse, Switch, read_line
+from ngc_tools.formats.settings import DEFAULT, Settings
+from ngc_tools.formats.in_force import InForce
+from ngc_tools.ngc.beginning import Beginning, CannotSetUp
+from ngc_tools.ngc.console import Console
+from ngc_tools.ngc.run import dry, refusal
 
 COARSE = FIRST.replace("[1000, 1000, 1000]", "[10000, 10000, 10000]")  # fewer pulses
 PROGRAMS = (

@@ -5,7 +5,6 @@ import resource
 import signal
 import subprocess
 import sys
-import time
 import unittest
 from pathlib import Path
 from types import FrameType
@@ -13,11 +12,11 @@ from unittest import mock
 
 sys.path.insert(0, str(Path(__file__).resolve().parent))
 
-from session_support import PATIENCE_S, TOOLS, InFolder, ngc, told  # noqa: E402
+from session_support import PATIENCE_S, InFolder, ngc, told
 
-from ngc_tools.cli import adapt, check, device, operate, page, player, plot, rehearse, split  # noqa: E402
-from ngc_tools.ngc import run  # noqa: E402
-from ngc_tools.ngc.run import TooLong, dry  # noqa: E402
+from ngc_tools.cli import adapt, check, device, operate, page, player, plot, rehearse, split
+from ngc_tools.ngc import run
+from ngc_tools.ngc.run import TooLong, dry
 
 MOTION = "[motion]\naccel_mm_s2 = [500, 500, 500]\n"
 HEAD = "G21 G90 G17 G54 G94 G98 F100\n"

@@ -5,15 +5,15 @@ from pathlib import Path
 
 sys.path.insert(0, str(Path(__file__).resolve().parent))
 
-from session_support import InFolder, ngc, told  # noqa: E402
-from test_examples import COARSE  # noqa: E402
+from session_support import InFolder, ngc, told
+from test_examples import COARSE
 
-from ngc_tools.formats.canonical import MOTIONS, read_commands  # noqa: E402
-from ngc_tools.formats.position import millimetres  # noqa: E402
-from ngc_tools.ngc.run import dry  # noqa: E402
-from ngc_tools.cli.check import main as check  # noqa: E402
-from ngc_tools.cli.plot import main as plot  # noqa: E402
-from ngc_tools.cli.split import main as split  # noqa: E402
+from ngc_tools.formats.canonical import MOTIONS, read_commands
+from ngc_tools.formats.position import millimetres
+from ngc_tools.ngc.run import dry
+from ngc_tools.cli.check import main as check
+from ngc_tools.cli.plot import main as plot
+from ngc_tools.cli.split import main as split
 
 CAM = Path(__file__).resolve().parent / "cam"
 

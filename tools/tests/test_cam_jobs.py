@@ -9,13 +9,13 @@ from pathlib import Path
 
 sys.path.insert(0, str(Path(__file__).resolve().parent))
 
-import cam_programs  # noqa: E402
-from cam_simulation import Control, Deed, carried_out  # noqa: E402
-from session_support import InFolder, ngc, told  # noqa: E402
+import cam_programs
+from cam_simulation import Control, Deed, carried_out
+from session_support import InFolder, ngc, told
 
-from ngc_tools.cli.adapt import main as adapt  # noqa: E402
-from ngc_tools.formats.canonical import read_commands  # noqa: E402
-from ngc_tools.ngc.run import dry  # noqa: E402
+from ngc_tools.cli.adapt import main as adapt
+from ngc_tools.formats.canonical import read_commands
+from ngc_tools.ngc.run import dry
 
 CAM = Path(__file__).resolve().parent / "cam"
 HOMES = (Fraction(-10), Fraction("20.5"), Fraction(100))

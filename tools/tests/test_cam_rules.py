@@ -5,10 +5,10 @@ from pathlib import Path
 
 sys.path.insert(0, str(Path(__file__).resolve().parents[1]))
 
-from ngc_tools.formats.program_text import ProgramText  # noqa: E402
-from ngc_tools.job.cam import rewritten, whole_text  # noqa: E402
-from ngc_tools.job.cam_homes import HomeAnswers, Missing, length  # noqa: E402
-from ngc_tools.job.cam_line import CamLine  # noqa: E402
+from ngc_tools.formats.program_text import ProgramText
+from ngc_tools.job.cam import rewritten, whole_text
+from ngc_tools.job.cam_homes import HomeAnswers, Missing, length
+from ngc_tools.job.cam_line import CamLine
 
 LIFT = HomeAnswers(lift_nm=5_000_000)
 BOTH = HomeAnswers(lift_nm=5_000_000, park_nm=(1_000_000, -2_500_000))

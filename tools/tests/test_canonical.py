@@ -5,7 +5,7 @@ from pathlib import Path
 
 sys.path.insert(0, str(Path(__file__).resolve().parents[1]))
 
-from ngc_tools.formats.canonical import BadText, Command, read_commands  # noqa: E402
+from ngc_tools.formats.canonical import BadText, Command, read_commands
 
 EXAMPLES = Path(__file__).resolve().parents[2] / "examples"
 

@@ -7,17 +7,17 @@ from pathlib import Path
 
 sys.path.insert(0, str(Path(__file__).resolve().parent))
 
-from session_support import FIRST, TOOLS, InFolder, ngc, told  # noqa: E402
+from session_support import FIRST, TOOLS, InFolder, ngc, told
 
-from ngc_tools.cli.check import main as check_main  # noqa: E402
-from ngc_tools.formats.canonical import read_commands  # noqa: E402
-from ngc_tools.formats.settings import Settings  # noqa: E402
-from ngc_tools.job.dangers import Conditions, dangers  # noqa: E402
-from ngc_tools.formats.in_force import InForce  # noqa: E402
-from ngc_tools.job.printed import by_line  # noqa: E402
-from ngc_tools.job.refused import Lines, find_all  # noqa: E402
-from ngc_tools.ngc.beginning import Beginning  # noqa: E402
-from ngc_tools.ngc.run import Refusal, dry, refusal  # noqa: E402
+from ngc_tools.cli.check import main as check_main
+from ngc_tools.formats.canonical import read_commands
+from ngc_tools.formats.settings import Settings
+from ngc_tools.job.dangers import Conditions, dangers
+from ngc_tools.formats.in_force import InForce
+from ngc_tools.job.printed import by_line
+from ngc_tools.job.refused import Lines, find_all
+from ngc_tools.ngc.beginning import Beginning
+from ngc_tools.ngc.run import Refusal, dry, refusal
 
 HEAD = "G17 G21 G90 G98\nF600 M3\n"
 UNUSED = """    a word H, I, J, K, L, P, Q or R that nothing takes. H is taken by G43 alone; I, J and K as

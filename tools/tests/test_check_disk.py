@@ -12,12 +12,12 @@ from unittest.mock import patch
 
 sys.path.insert(0, str(Path(__file__).resolve().parent))
 
-from session_support import TOOLS, InFolder, told  # noqa: E402
+from session_support import TOOLS, InFolder, told
 
-from ngc_tools.cli.check_disk import main  # noqa: E402
-from ngc_tools.disk import mounted as mounting  # noqa: E402
-from ngc_tools.disk.mounted import Mounted, mounted  # noqa: E402
-from ngc_tools.disk.records import NAME, SECTORS, NoRecords, Records, look, record  # noqa: E402
+from ngc_tools.cli.check_disk import main
+from ngc_tools.disk import mounted as mounting
+from ngc_tools.disk.mounted import Mounted, mounted
+from ngc_tools.disk.records import NAME, SECTORS, NoRecords, Records, look, record
 
 
 class Kept(InFolder):

@@ -5,9 +5,9 @@ from pathlib import Path
 
 sys.path.insert(0, str(Path(__file__).resolve().parent))
 
-from session_support import InFolder  # noqa: E402
+from session_support import InFolder
 
-from ngc_tools.ngc.commands import FORMS, form_of, slot_to_give_first  # noqa: E402
+from ngc_tools.ngc.commands import FORMS, form_of, slot_to_give_first
 
 SESSION = Path(__file__).resolve().parents[2] / "docs" / "SESSION.md"
 

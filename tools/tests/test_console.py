@@ -6,11 +6,11 @@ from unittest.mock import patch
 
 sys.path.insert(0, str(Path(__file__).resolve().parent))
 
-from session_support import InFolder, ngc  # noqa: E402
+from session_support import InFolder, ngc
 
-from ngc_tools.ngc.console import Console, Ended, Status  # noqa: E402
-from ngc_tools.operator.meter import Meter  # noqa: E402
-from ngc_tools.link.progress import Report  # noqa: E402
+from ngc_tools.ngc.console import Console, Ended, Status
+from ngc_tools.operator.meter import Meter
+from ngc_tools.link.progress import Report
 
 
 RECEIVED = 10_000

@@ -8,12 +8,12 @@ from pathlib import Path
 
 sys.path.insert(0, str(Path(__file__).resolve().parent))
 
-from session_support import FIRST, InFolder, ngc  # noqa: E402
+from session_support import FIRST, InFolder, ngc
 
-from ngc_tools.formats.canonical import Command, read_commands  # noqa: E402
-from ngc_tools.job.refused import Finding, Lines, find_all  # noqa: E402
-from ngc_tools.ngc import cures, faults  # noqa: E402
-from ngc_tools.ngc.run import dry, refusal  # noqa: E402
+from ngc_tools.formats.canonical import Command, read_commands
+from ngc_tools.job.refused import Finding, Lines, find_all
+from ngc_tools.ngc import cures, faults
+from ngc_tools.ngc.run import dry, refusal
 
 HEAD = "G21 G17 G90 G94 F600\n"
 SETTINGS = FIRST.replace("tools_nm = [50000000]", "tools_nm = [50000000, 62500000]")

@@ -10,11 +10,11 @@ from pathlib import Path
 
 sys.path.insert(0, str(Path(__file__).resolve().parent))
 
-from player_support import PlayerTest, record  # noqa: E402
-from session_support import PATIENCE_S, TOOLS, Terminal, ngc  # noqa: E402
-from sink_support import ServedSink  # noqa: E402
-from test_documents import blocks, chapters  # noqa: E402
-from test_moves import Moving  # noqa: E402
+from player_support import PlayerTest, record
+from session_support import PATIENCE_S, TOOLS, Terminal, ngc
+from sink_support import ServedSink
+from test_documents import blocks, chapters
+from test_moves import Moving
 
 STOP, X_LOW, Y_LOW, Z_HIGH, DOOR, PROBE = 0, 1, 2, 3, 4, 6  # inputs
 PROMPT, ASKS = "ngc> ", ("ends: ", "off: ", "holds: ", "goes on: ", "doesn't: ", "back: ", "takes 600: ")

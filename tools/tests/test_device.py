@@ -10,9 +10,9 @@ from pathlib import Path
 
 sys.path.insert(0, str(Path(__file__).resolve().parent))
 
-from session_support import TOOLS, InFolder, ngc  # noqa: E402
+from session_support import TOOLS, InFolder, ngc
 
-from ngc_tools.formats.device import LARGE_SIZE, LOG_END, SECTOR, SIZE, Device, Held, NoDevice, copied  # noqa: E402
+from ngc_tools.formats.device import LARGE_SIZE, LOG_END, SECTOR, SIZE, Device, Held, NoDevice, copied
 
 ROOT = TOOLS.parent
 DATA = ROOT / "crates" / "ngc_cases" / "data"

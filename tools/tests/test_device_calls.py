@@ -8,9 +8,9 @@ from pathlib import Path
 
 sys.path.insert(0, str(Path(__file__).resolve().parent))
 
-from session_support import PATIENCE_S, InFolder, ngc  # noqa: E402
+from session_support import PATIENCE_S, InFolder, ngc
 
-from ngc_tools.formats.device import LARGE_SIZE, SECTOR, SIZE  # noqa: E402
+from ngc_tools.formats.device import LARGE_SIZE, SECTOR, SIZE
 
 SECTORS = SIZE // SECTOR
 UNITS_SECTOR, HOME_SECTOR = 88, 169

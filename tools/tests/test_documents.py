@@ -15,14 +15,14 @@ from types import ModuleType
 
 sys.path.insert(0, str(Path(__file__).resolve().parent))
 
-from player_support import builds, proved  # noqa: E402
-from session_support import PATIENCE_S, TOOLS, InFolder, Terminal, ngc, told  # noqa: E402
-from test_rehearse import HOLE, OUT  # noqa: E402
+from player_support import builds, proved
+from session_support import PATIENCE_S, TOOLS, InFolder, Terminal, ngc, told
+from test_rehearse import HOLE, OUT
 
-from ngc_tools.formats.out import Switch  # noqa: E402
-from ngc_tools.formats.record import Record  # noqa: E402
-from ngc_tools.ngc.commands import FORMS  # noqa: E402
-from ngc_tools.link.out_file import OutFile  # noqa: E402
+from ngc_tools.formats.out import Switch
+from ngc_tools.formats.record import Record
+from ngc_tools.ngc.commands import FORMS
+from ngc_tools.link.out_file import OutFile
 
 DOCS = TOOLS.parent / "docs"
 CAM = Path(__file__).resolve().parent / "cam"

@@ -7,14 +7,14 @@ from pathlib import Path
 
 sys.path.insert(0, str(Path(__file__).resolve().parent))
 
-from player_support import played  # noqa: E402
-from session_support import FIRST, TOOLS, InFolder, ngc, told  # noqa: E402
+from player_support import played
+from session_support import FIRST, TOOLS, InFolder, ngc, told
 
-from ngc_tools.cli.adapt import main as adapt  # noqa: E402
-from ngc_tools.formats.canonical import MOTIONS, Command, read_commands  # noqa: E402
-from ngc_tools.formats.position import Position, millimetres  # noqa: E402
-from ngc_tools.cli.rehearse import main as rehearse  # noqa: E402
-from ngc_tools.cli.split import main as split  # noqa: E402
+from ngc_tools.cli.adapt import main as adapt
+from ngc_tools.formats.canonical import MOTIONS, Command, read_commands
+from ngc_tools.formats.position import Position, millimetres
+from ngc_tools.cli.rehearse import main as rehearse
+from ngc_tools.cli.split import main as split
 
 EXAMPLES = TOOLS.parent / "examples"
 NAMES = sorted(path.stem for path in EXAMPLES.glob("*.ngc"))

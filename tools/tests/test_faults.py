@@ -6,7 +6,7 @@ from pathlib import Path
 
 sys.path.insert(0, str(Path(__file__).resolve().parents[1]))
 
-from ngc_tools.ngc import faults  # noqa: E402
+from ngc_tools.ngc import faults
 
 PAGE = Path(__file__).resolve().parents[2] / "docs" / "LANGUAGE.md"
 

@@ -11,14 +11,14 @@ from unittest import mock
 
 sys.path.insert(0, str(Path(__file__).resolve().parent))
 
-from session_support import FIRST, TOOLS, InFolder  # noqa: E402
+from session_support import FIRST, TOOLS, InFolder
 
-from ngc_tools import files  # noqa: E402
-from ngc_tools.files import NotWritten, kind, read, write_new  # noqa: E402
-from ngc_tools.formats.record import Record  # noqa: E402
-from ngc_tools.formats.settings import KEYS  # noqa: E402
-from ngc_tools import scratch  # noqa: E402
-from ngc_tools.scratch import Scratch, nothing_left, scratch_file  # noqa: E402
+from ngc_tools import files
+from ngc_tools.files import NotWritten, kind, read, write_new
+from ngc_tools.formats.record import Record
+from ngc_tools.formats.settings import KEYS
+from ngc_tools import scratch
+from ngc_tools.scratch import Scratch, nothing_left, scratch_file
 
 
 class Written(InFolder):

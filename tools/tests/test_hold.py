@@ -8,19 +8,19 @@ from types import SimpleNamespace
 
 sys.path.insert(0, str(Path(__file__).resolve().parent))
 
-from hold_model import MENDS, Model, explored  # noqa: E402
-from listener import Listener  # noqa: E402
-from session_support import InFolder  # noqa: E402
+from hold_model import MENDS, Model, explored
+from listener import Listener
+from session_support import InFolder
 
-from ngc_tools.hold_level import HoldLevel  # noqa: E402
-from ngc_tools.ngc.console import NO_TICK, Console  # noqa: E402
-from ngc_tools.page.deeds import DEEDS, BadWords, Given  # noqa: E402
-from ngc_tools.page.face import PageFace  # noqa: E402
-from ngc_tools.page.http import RequestRefused  # noqa: E402
-from ngc_tools.page.jog import HeldJog  # noqa: E402
-from ngc_tools.page.pages import LOST_S, MOST, OLDEST_S, Pages, Stamp  # noqa: E402
-from ngc_tools.page.session import PageSession  # noqa: E402
-from ngc_tools.link.progress import HeldBack, Link  # noqa: E402
+from ngc_tools.hold_level import HoldLevel
+from ngc_tools.ngc.console import NO_TICK, Console
+from ngc_tools.page.deeds import DEEDS, BadWords, Given
+from ngc_tools.page.face import PageFace
+from ngc_tools.page.http import RequestRefused
+from ngc_tools.page.jog import HeldJog
+from ngc_tools.page.pages import LOST_S, MOST, OLDEST_S, Pages, Stamp
+from ngc_tools.page.session import PageSession
+from ngc_tools.link.progress import HeldBack, Link
 
 ONE, OTHER = "page-number-1", "page-number-2"
 

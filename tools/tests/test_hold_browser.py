@@ -5,9 +5,9 @@ from pathlib import Path
 
 sys.path.insert(0, str(Path(__file__).resolve().parent))
 
-from firefox_support import MISSING, PATH  # noqa: E402
-from page_support import SLOW  # noqa: E402
-from test_page_browser import InBrowser  # noqa: E402
+from firefox_support import MISSING, PATH
+from page_support import SLOW
+from test_page_browser import InBrowser
 
 LATE = """void (() => {
     const fetches = window.fetch, late = (...words) => new Promise(done => setTimeout(done, 1500))

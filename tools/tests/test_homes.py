@@ -5,7 +5,7 @@ from pathlib import Path
 
 sys.path.insert(0, str(Path(__file__).resolve().parent))
 
-from test_operator import Core, FileLink  # noqa: E402
+from test_operator import Core, FileLink
 
 ALONE = " To move Z alone write G53 G0 Z with the machine coordinate.\nyes goes there: "
 

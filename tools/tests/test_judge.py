@@ -17,9 +17,9 @@ from pathlib import Path
 
 sys.path.insert(0, str(Path(__file__).resolve().parent))
 
-from pace_support import (PROGRAMS, PULSES, Limits, as_out_says, judgement, lost_steps, metered,  # noqa: E402
+from pace_support import (PROGRAMS, PULSES, Limits, as_out_says, judgement, lost_steps, metered,
                           paced_in_c, timed, with_pacer)
-from session_support import FIRST, TOOLS, InFolder, ngc  # noqa: E402
+from session_support import FIRST, TOOLS, InFolder, ngc
 
 STEPS_MM = 320  # 3,125 nm: an eighth of a full step over a screw of 5 mm
 SETTINGS = (FIRST.replace("[1000, 1000, 1000]", "[3125, 3125, 3125]").replace("6000000000", "3000000000")

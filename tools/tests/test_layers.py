@@ -7,7 +7,7 @@ from pathlib import Path
 
 sys.path.insert(0, str(Path(__file__).resolve().parent))
 
-from session_support import TOOLS  # noqa: E402
+from session_support import TOOLS
 
 TOP = TOOLS / "ngc_tools"
 

@@ -6,11 +6,11 @@ from pathlib import Path
 
 sys.path.insert(0, str(Path(__file__).resolve().parent))
 
-from session_support import TOOLS  # noqa: E402
+from session_support import TOOLS
 
-from ngc_tools.formats import device  # noqa: E402
-from ngc_tools.formats.settings import LIMITS  # noqa: E402
-from ngc_tools.ngc import faults  # noqa: E402
+from ngc_tools.formats import device
+from ngc_tools.formats.settings import LIMITS
+from ngc_tools.ngc import faults
 
 DOCS = TOOLS.parent / "docs"
 OF_LINES = {fault.code for fault in faults.FAULTS}

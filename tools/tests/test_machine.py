@@ -8,14 +8,14 @@ from unittest.mock import patch
 
 sys.path.insert(0, str(Path(__file__).resolve().parent))
 
-from session_support import InFolder, ngc, told  # noqa: E402
+from session_support import InFolder, ngc, told
 
-from ngc_tools import files  # noqa: E402
-from ngc_tools.cli import check, plot  # noqa: E402
-from ngc_tools.cli import machine as words  # noqa: E402
-from ngc_tools.ngc import timing  # noqa: E402
-from ngc_tools.ngc.machine_report import Motion  # noqa: E402
-from ngc_tools.ngc.pacing import NotTimed, Pacing  # noqa: E402
+from ngc_tools import files
+from ngc_tools.cli import check, plot
+from ngc_tools.cli import machine as words
+from ngc_tools.ngc import timing
+from ngc_tools.ngc.machine_report import Motion
+from ngc_tools.ngc.pacing import NotTimed, Pacing
 
 MOTION = "[motion]\naccel_mm_s2 = [500, 500, 500]\n"
 HEAD = "G17 G21 G40 G49 G54 G80 G90 G94 M3 S1000 F3000\n"

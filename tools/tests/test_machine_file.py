@@ -15,12 +15,12 @@ from pathlib import Path
 
 sys.path.insert(0, str(Path(__file__).resolve().parent))
 
-from player_support import SANITIZERS, PlayerTest, built, has_sanitizers  # noqa: E402
-from session_support import FIRST, TOOLS, InFolder  # noqa: E402
+from player_support import SANITIZERS, PlayerTest, built, has_sanitizers
+from session_support import FIRST, TOOLS, InFolder
 
-from ngc_tools.failure import Failure  # noqa: E402
-from ngc_tools.formats.machine import read_tables  # noqa: E402
-from ngc_tools.formats.settings import Settings  # noqa: E402
+from ngc_tools.failure import Failure
+from ngc_tools.formats.machine import read_tables
+from ngc_tools.formats.settings import Settings
 
 MUTATIONS = int(os.environ.get("NGC_MUTATIONS", "3000"))
 NAMES = ("cause", "machine_keys", "scan", "settings", "sink_serial", "toml", "utf8")

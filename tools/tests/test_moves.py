@@ -12,12 +12,12 @@ from pathlib import Path
 
 sys.path.insert(0, str(Path(__file__).resolve().parent))
 
-from player_support import SANITIZERS, SOURCES, PlayerTest, built, has_sanitizers, record, sector  # noqa: E402
-from session_support import PATIENCE_S, TOOLS  # noqa: E402
+from player_support import SANITIZERS, SOURCES, PlayerTest, built, has_sanitizers, record, sector
+from session_support import PATIENCE_S, TOOLS
 
-from ngc_tools.formats.out import Switch  # noqa: E402
-from ngc_tools.formats.record import BadRecord, FileMark, Record  # noqa: E402
-from ngc_tools.link.progress import MoveReport  # noqa: E402
+from ngc_tools.formats.out import Switch
+from ngc_tools.formats.record import BadRecord, FileMark, Record
+from ngc_tools.link.progress import MoveReport
 
 STOP, X_LOW, Y_LOW, Z_HIGH, DOOR, AT_SPEED, PROBE, X_HIGH = range(8)  # inputs
 UM = 1  # a step is 1 um

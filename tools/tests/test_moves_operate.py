@@ -8,16 +8,16 @@ from pathlib import Path
 
 sys.path.insert(0, str(Path(__file__).resolve().parent))
 
-from machine_support import STEP_NM, MachineLink, SocketMachine  # noqa: E402
-from session_support import TOOLS, InFolder, Terminal, ngc  # noqa: E402
-from test_operate import PROMPT, operate  # noqa: E402
-from test_operator import Core  # noqa: E402
+from machine_support import STEP_NM, MachineLink, SocketMachine
+from session_support import TOOLS, InFolder, Terminal, ngc
+from test_operate import PROMPT, operate
+from test_operator import Core
 
-from ngc_tools.cli.keys import TerminalKeys  # noqa: E402
-from ngc_tools.formats.position import Position  # noqa: E402
-from ngc_tools.ngc.carried import CannotTell  # noqa: E402
-from ngc_tools.ngc.handed_out import Finder, FileRecord  # noqa: E402
-from ngc_tools.operator import jog_keys  # noqa: E402
+from ngc_tools.cli.keys import TerminalKeys
+from ngc_tools.formats.position import Position
+from ngc_tools.ngc.carried import CannotTell
+from ngc_tools.ngc.handed_out import Finder, FileRecord
+from ngc_tools.operator import jog_keys
 
 HOMED = "-298.000000 -198.000000 -2.000000"
 MOTORS = "the motors are at X {} Y {} Z {}, 0 lines behind"

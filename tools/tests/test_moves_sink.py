@@ -6,12 +6,12 @@ from pathlib import Path
 
 sys.path.insert(0, str(Path(__file__).resolve().parent))
 
-from player_support import record  # noqa: E402
-from session_support import PATIENCE_S  # noqa: E402
-from sink_support import Made, ServedSink  # noqa: E402
-from test_moves import AT_SPEED, MACHINE, PROBE, STOP, X_HIGH, X_LOW, Y_LOW, Z_HIGH, Moving  # noqa: E402
+from player_support import record
+from session_support import PATIENCE_S
+from sink_support import Made, ServedSink
+from test_moves import AT_SPEED, MACHINE, PROBE, STOP, X_HIGH, X_LOW, Y_LOW, Z_HIGH, Moving
 
-from ngc_tools.formats.record import Record  # noqa: E402
+from ngc_tools.formats.record import Record
 
 WAITS_MS = 3_000  # as long as words may be late by the real clock
 

@@ -22,10 +22,10 @@ from pathlib import Path
 
 sys.path.insert(0, str(Path(__file__).resolve().parent))
 
-from session_support import FIRST, TOOLS, InFolder, ngc, told  # noqa: E402
+from session_support import FIRST, TOOLS, InFolder, ngc, told
 
-from ngc_tools.cli import adapt, check, device, operate, page, plot, rehearse, split  # noqa: E402
-from ngc_tools.formats.device import Device  # noqa: E402
+from ngc_tools.cli import adapt, check, device, operate, page, plot, rehearse, split
+from ngc_tools.formats.device import Device
 
 MAINS = {"ngc-adapt": adapt.main, "ngc-check": check.main, "ngc-device": device.main, "ngc-operate": operate.main,
          "ngc-page": page.main, "ngc-plot": plot.main, "ngc-rehearse": rehearse.main,

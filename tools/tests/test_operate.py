@@ -17,17 +17,17 @@ from unittest.mock import patch
 
 sys.path.insert(0, str(Path(__file__).resolve().parent))
 
-from listener import Listener, said  # noqa: E402
-from player_support import built  # noqa: E402
-from session_support import TOOLS, InFolder, Terminal, ngc, told  # noqa: E402
+from listener import Listener, said
+from player_support import built
+from session_support import TOOLS, InFolder, Terminal, ngc, told
 
-from ngc_tools.ngc import faults  # noqa: E402
-from ngc_tools.formats.lines import Program, percent_bytes  # noqa: E402
-from ngc_tools.formats.out import OFF, Switch, read_line  # noqa: E402
-from ngc_tools.formats.position import Position, nanometres  # noqa: E402
-from ngc_tools.operator.sentences import HELP, explained  # noqa: E402
-from ngc_tools.cli.operate import main  # noqa: E402
-from ngc_tools.link.progress import Link, Report  # noqa: E402
+from ngc_tools.ngc import faults
+from ngc_tools.formats.lines import Program, percent_bytes
+from ngc_tools.formats.out import OFF, Switch, read_line
+from ngc_tools.formats.position import Position, nanometres
+from ngc_tools.operator.sentences import HELP, explained
+from ngc_tools.cli.operate import main
+from ngc_tools.link.progress import Link, Report
 
 PROMPT = b"ngc> "
 PART = """G21 G90 G17
@@ -827,12 +827,12 @@ class TimesWithRamps(InFolder):
         Path("wrong.toml").write_text("[motion]\naccel_mm_s2 = [0, 20, 20]\n")
         Path("other.toml").write_text("[setter]\nheight_um = 1\n")
         Path("odd.toml").write_text("[Inputs]\n")
-        for name, status, said in (("wrong.toml", 2, "ngc-operate: wrong.toml: motion: accel_mm_s2 takes three whole"),
-                                   ("odd.toml", 2, "ngc-operate: odd.toml: Inputs isn't one of the nine tables"),
-                                   ("none.toml", 2, "ngc-operate: none.toml: No such file or directory\n"),
-                                   ("other.toml", 0, "")):
+        for name, status, why in (("wrong.toml", 2, "ngc-operate: wrong.toml: motion: accel_mm_s2 takes three whole"),
+                                  ("odd.toml", 2, "ngc-operate: odd.toml: Inputs isn't one of the nine tables"),
+                                  ("none.toml", 2, "ngc-operate: none.toml: No such file or directory\n"),
+                                  ("other.toml", 0, "")):
             done = self.tool("ngc-operate", *operate("mill.dev", "first.toml", "out", "--machine", name), text="quit\n")
-            self.assertEqual((done.returncode, said in done.stderr), (status, True), done.stderr)
+            self.assertEqual((done.returncode, why in done.stderr), (status, True), done.stderr)
 
 
 def stat_of(process: int) -> list[str]:

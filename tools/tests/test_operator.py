@@ -7,18 +7,18 @@ from unittest import mock
 
 sys.path.insert(0, str(Path(__file__).resolve().parent))
 
-from session_support import FIRST, TOOLS, InFolder, ngc  # noqa: E402
+from session_support import FIRST, TOOLS, InFolder, ngc
 
-from ngc_tools.cli.line_times import command  # noqa: E402
-from ngc_tools.formats.device import Device  # noqa: E402
-from ngc_tools.formats.out import OFF, Switch, read_line  # noqa: E402
-from ngc_tools.formats.position import Position, nanometres  # noqa: E402
-from ngc_tools.ngc.console import Console, Status  # noqa: E402
-from ngc_tools.operator.face import MESSAGE, REFUSED, SAID, WARNING, WHERE, UnderWay  # noqa: E402
-from ngc_tools.operator.meter import Meter  # noqa: E402
-from ngc_tools.operator.operator import Operator  # noqa: E402
-from ngc_tools.operator.ramp_times import RampTimes  # noqa: E402
-from ngc_tools.link.progress import MoveReport, NoAnswer, Report  # noqa: E402
+from ngc_tools.cli.line_times import command
+from ngc_tools.formats.device import Device
+from ngc_tools.formats.out import OFF, Switch, read_line
+from ngc_tools.formats.position import Position, nanometres
+from ngc_tools.ngc.console import Console, Status
+from ngc_tools.operator.face import MESSAGE, REFUSED, SAID, WARNING, WHERE, UnderWay
+from ngc_tools.operator.meter import Meter
+from ngc_tools.operator.operator import Operator
+from ngc_tools.operator.ramp_times import RampTimes
+from ngc_tools.link.progress import MoveReport, NoAnswer, Report
 
 MODAL = ("feed_nm_per_min", "speed", "g92_nm", "origin_nm", "tool_length_nm", "motion", "plane", "distance",
          "feed_mode", "unit", "retract", "system", "path_mode", "spindle", "mist", "flood", "selected", "point_nm")

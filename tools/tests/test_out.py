@@ -7,12 +7,12 @@ from pathlib import Path
 
 sys.path.insert(0, str(Path(__file__).resolve().parent))
 
-from player_support import proved  # noqa: E402
-from session_support import TOOLS, InFolder  # noqa: E402
+from player_support import proved
+from session_support import TOOLS, InFolder
 
-from ngc_tools.formats.out import BadLine, Dwell, Pulse, Switch, read_line  # noqa: E402
-from ngc_tools.formats.position import Position, millimetres, nanometres  # noqa: E402
-from ngc_tools.formats.record import BadRecord, FileMark, Record  # noqa: E402
+from ngc_tools.formats.out import BadLine, Dwell, Pulse, Switch, read_line
+from ngc_tools.formats.position import Position, millimetres, nanometres
+from ngc_tools.formats.record import BadRecord, FileMark, Record
 
 GREATEST = Record("/" + "x" * 235, 10**15 - 1, 10**15 - 1, Switch(2, 9_999_999_999_999, True, True, 128, 128),
                   (-(10**18 - 1),) * 3, FileMark(2**63 - 1, 2**63 - 1, 2**32 - 1), "emergency", 9999, "XYZ", True,

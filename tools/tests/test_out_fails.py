@@ -6,9 +6,9 @@ from pathlib import Path
 
 sys.path.insert(0, str(Path(__file__).resolve().parent))
 
-from player_support import PlayerTest, preloaded  # noqa: E402
+from player_support import PlayerTest, preloaded
 
-from ngc_tools.formats.record import Record  # noqa: E402
+from ngc_tools.formats.record import Record
 
 # A disk from which OUT can't be read any more: from byte NGC_BROKEN on, once the file `broken` is there.
 BROKEN = r"""#define _GNU_SOURCE

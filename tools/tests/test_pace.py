@@ -10,9 +10,9 @@ from pathlib import Path
 
 sys.path.insert(0, str(Path(__file__).resolve().parent))
 
-from pace_support import (GIVE, PROGRAMS, Limits, as_out_says, disturbed, excess, metered, paced_in_c,  # noqa: E402
+from pace_support import (GIVE, PROGRAMS, Limits, as_out_says, disturbed, excess, metered, paced_in_c,
                           some_limits, straight, stream, timed)
-from session_support import FIRST, InFolder  # noqa: E402
+from session_support import FIRST, InFolder
 
 FINE_LIMITS = Limits((200_000,) * 3)  # 500 mm/s2 at 400 steps/mm
 MOST_EXCESS = 2 * FINE_LIMITS.slack  # the slack on each side

@@ -12,20 +12,20 @@ from pathlib import Path
 
 sys.path.insert(0, str(Path(__file__).resolve().parent))
 
-from player_support import SANITIZERS, has_sanitizers  # noqa: E402
-from session_support import TOOLS, InFolder, ngc  # noqa: E402
+from player_support import SANITIZERS, has_sanitizers
+from session_support import TOOLS, InFolder, ngc
 
 PACKAGING = TOOLS.parent / "packaging"
 sys.path.insert(0, str(PACKAGING))
 
-import completion  # noqa: E402
-import deb  # noqa: E402
-import manual  # noqa: E402
-import tree  # noqa: E402
+import completion
+import deb
+import manual
+import tree
 
-from ngc_tools.cli import setup  # noqa: E402
-from ngc_tools.formats.machine import read_tables  # noqa: E402
-from ngc_tools.formats.settings import Settings  # noqa: E402
+from ngc_tools.cli import setup
+from ngc_tools.formats.machine import read_tables
+from ngc_tools.formats.settings import Settings
 
 SCRIPTS = ("files/start-player", "files/start-page", "files/ngc-address", "files/profile.sh", "files/default",
            "debian/postinst", "debian/prerm", "debian/postrm")

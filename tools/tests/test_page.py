@@ -17,27 +17,27 @@ from types import SimpleNamespace
 
 sys.path.insert(0, str(Path(__file__).resolve().parent))
 
-from machine_support import SocketMachine  # noqa: E402
-from page_support import CUT, OTHER, PAGE, SLOW, Page, Served, request  # noqa: E402
-from session_support import FIRST, PATIENCE_S, TOOLS, InFolder, is_alive, ngc, told  # noqa: E402
+from machine_support import SocketMachine
+from page_support import CUT, OTHER, PAGE, SLOW, Page, Served, request
+from session_support import FIRST, PATIENCE_S, TOOLS, InFolder, is_alive, ngc, told
 
-from ngc_tools.cli.page import main  # noqa: E402
-from ngc_tools.formats.lines import Program  # noqa: E402
-from ngc_tools.ngc.console import Console, Status  # noqa: E402
-from ngc_tools.operator.face import REFUSED, UnderWay  # noqa: E402
-from ngc_tools.operator.sentences import SWITCHED  # noqa: E402
-from ngc_tools.operator.way_back import TYPE_GO  # noqa: E402
-from ngc_tools.page import server as server_module  # noqa: E402
-from ngc_tools.page.aside import Aside, NotDone  # noqa: E402
-from ngc_tools.page.band import Standing  # noqa: E402
-from ngc_tools.page.drawing import SWITCH, DrawingRequest, draw, draw_exactly, job_of  # noqa: E402
-from ngc_tools.page.face import PageFace, Question  # noqa: E402
-from ngc_tools.page.jog import HeldJog  # noqa: E402
-from ngc_tools.page.pages import LOST_S  # noqa: E402
-from ngc_tools.page.rehearse import RehearsalRequest, rehearsed  # noqa: E402
-from ngc_tools.page.session import SessionCommand, PageSession  # noqa: E402
-from ngc_tools.page.state import Pictured  # noqa: E402
-from ngc_tools.link.progress import MoveReport, NoAnswer  # noqa: E402
+from ngc_tools.cli.page import main
+from ngc_tools.formats.lines import Program
+from ngc_tools.ngc.console import Console, Status
+from ngc_tools.operator.face import REFUSED, UnderWay
+from ngc_tools.operator.sentences import SWITCHED
+from ngc_tools.operator.way_back import TYPE_GO
+from ngc_tools.page import server as server_module
+from ngc_tools.page.aside import Aside, NotDone
+from ngc_tools.page.band import Standing
+from ngc_tools.page.drawing import SWITCH, DrawingRequest, draw, draw_exactly, job_of
+from ngc_tools.page.face import PageFace, Question
+from ngc_tools.page.jog import HeldJog
+from ngc_tools.page.pages import LOST_S
+from ngc_tools.page.rehearse import RehearsalRequest, rehearsed
+from ngc_tools.page.session import SessionCommand, PageSession
+from ngc_tools.page.state import Pictured
+from ngc_tools.link.progress import MoveReport, NoAnswer
 
 EXAMPLES = TOOLS.parent / "examples"
 COARSE = """step_nm = [100000, 100000, 100000]

@@ -16,23 +16,23 @@ from unittest import mock
 
 sys.path.insert(0, str(Path(__file__).resolve().parent))
 
-from page_support import OTHER, PAGE, Page  # noqa: E402
-from session_support import PATIENCE_S, TOOLS, InFolder, is_alive  # noqa: E402
-from tests.aside_work import take_memory, work_for_ever  # noqa: E402
+from page_support import OTHER, PAGE, Page
+from session_support import PATIENCE_S, TOOLS, InFolder, is_alive
+from tests.aside_work import take_memory, work_for_ever
 
-from ngc_tools import scratch  # noqa: E402
-from ngc_tools.cli import page as page_module  # noqa: E402
-from ngc_tools.cli.page import key_of, listening  # noqa: E402
-from ngc_tools.failure import WrongWords  # noqa: E402
-from ngc_tools.operator.face import MESSAGE  # noqa: E402
-from ngc_tools.page import aside as aside_module  # noqa: E402
-from ngc_tools.page import server as server_module  # noqa: E402
-from ngc_tools.page.aside import Aside, NotDone, Wanted  # noqa: E402
-from ngc_tools.page.deeds import Given  # noqa: E402
-from ngc_tools.page.face import PageFace  # noqa: E402
-from ngc_tools.page.jog import HeldJog  # noqa: E402
-from ngc_tools.page.pages import MOST  # noqa: E402
-from ngc_tools.page.server import MOST_CONNECTIONS, Server  # noqa: E402
+from ngc_tools import scratch
+from ngc_tools.cli import page as page_module
+from ngc_tools.cli.page import key_of, listening
+from ngc_tools.failure import WrongWords
+from ngc_tools.operator.face import MESSAGE
+from ngc_tools.page import aside as aside_module
+from ngc_tools.page import server as server_module
+from ngc_tools.page.aside import Aside, NotDone, Wanted
+from ngc_tools.page.deeds import Given
+from ngc_tools.page.face import PageFace
+from ngc_tools.page.jog import HeldJog
+from ngc_tools.page.pages import MOST
+from ngc_tools.page.server import MOST_CONNECTIONS, Server
 
 KEY = "MmJ0pTn-Qe7Y_h3sKx4v1A"
 

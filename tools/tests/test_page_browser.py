@@ -12,14 +12,14 @@ from statistics import median
 
 sys.path.insert(0, str(Path(__file__).resolve().parent))
 
-from browser_support import LONG, Browser  # noqa: E402
-from firefox_support import IS_FIREFOX, MISSING, PATH, start  # noqa: E402
-from machine_support import SocketMachine  # noqa: E402
-from page_support import OTHER, SHORT, SLOW, Page, Served, slow_by  # noqa: E402
-from session_support import PATIENCE_S, TOOLS, ngc  # noqa: E402
+from browser_support import LONG, Browser
+from firefox_support import IS_FIREFOX, MISSING, PATH, start
+from machine_support import SocketMachine
+from page_support import OTHER, SHORT, SLOW, Page, Served, slow_by
+from session_support import PATIENCE_S, TOOLS, ngc
 
-from ngc_tools.formats.device import Device  # noqa: E402
-from ngc_tools.formats.record import Record  # noqa: E402
+from ngc_tools.formats.device import Device
+from ngc_tools.formats.record import Record
 
 DOCS = TOOLS.parent / "docs"
 SIZES = ((1280, 800), (1024, 768), (1920, 1080))

@@ -9,15 +9,15 @@ from unittest import mock
 
 sys.path.insert(0, str(Path(__file__).resolve().parent))
 
-from page_support import Page, Served  # noqa: E402
-from session_support import PATIENCE_S, InFolder, ngc, told  # noqa: E402
+from page_support import Page, Served
+from session_support import PATIENCE_S, InFolder, ngc, told
 
-from ngc_tools.cli.check import main as check  # noqa: E402
-from ngc_tools.formats.device import Device  # noqa: E402
-from ngc_tools.formats.program_text import NotText, ProgramText  # noqa: E402
-from ngc_tools.ngc import beginning  # noqa: E402
-from ngc_tools.page.deeds import BadWords, cam_answers  # noqa: E402
-from ngc_tools.page.findings import Check  # noqa: E402
+from ngc_tools.cli.check import main as check
+from ngc_tools.formats.device import Device
+from ngc_tools.formats.program_text import NotText, ProgramText
+from ngc_tools.ngc import beginning
+from ngc_tools.page.deeds import BadWords, cam_answers
+from ngc_tools.page.findings import Check
 
 CAM = "%\n(<b>)\nG21 G90 G17 G94 G91.1\nG64 P0.01\nG0 X1 Y0 ; to the start\nG2 X2 Y1 R1 F60\nM30\n%\n"
 WRITTEN = "%\n(<b>)\nG21 G90 G17 G94\nG64\nG0 X1 Y0 (to the start)\nG2 X2 Y1 I1 J0 F60\nM30\n%\n"

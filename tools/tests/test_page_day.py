@@ -11,11 +11,11 @@ from pathlib import Path
 
 sys.path.insert(0, str(Path(__file__).resolve().parent))
 
-from browser_support import ANSWERS_S, LONG, Browser  # noqa: E402
-from firefox_support import MISSING, PATH, start  # noqa: E402
-from page_support import OTHER, Served  # noqa: E402
-from session_support import TOOLS, ngc  # noqa: E402
-from test_moves import MACHINE, PROBE, World, program  # noqa: E402
+from browser_support import ANSWERS_S, LONG, Browser
+from firefox_support import MISSING, PATH, start
+from page_support import OTHER, Served
+from session_support import TOOLS, ngc
+from test_moves import MACHINE, PROBE, World, program
 
 TEXT = (TOOLS.parent / "docs/PAGE.md").read_text()
 CHANGES = (("door = 4\nspindle_at_speed = 5\n", ""), ("at_speed_s = 1\n", ""), ("[60, 60, 60]", "[600, 600, 600]"),

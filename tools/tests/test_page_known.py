@@ -11,11 +11,11 @@ from pathlib import Path
 
 sys.path.insert(0, str(Path(__file__).resolve().parent))
 
-from page_support import OTHER, Page, Served  # noqa: E402
-from session_support import PATIENCE_S, ngc  # noqa: E402
-from test_moves import AT_SPEED, DOOR, MACHINE, X_LOW, World, program  # noqa: E402
+from page_support import OTHER, Page, Served
+from session_support import PATIENCE_S, ngc
+from test_moves import AT_SPEED, DOOR, MACHINE, X_LOW, World, program
 
-from ngc_tools.link.progress import Link  # noqa: E402
+from ngc_tools.link.progress import Link
 
 QUICK = MACHINE.replace("[60, 60, 60]", "[600, 600, 600]").replace("agree_um = 20", "agree_um = 1000")
 CUT = "G17 G21 G90 G94\nG0 X0 Y0 Z0\nG1 X9 F60\nM2\n"

@@ -10,24 +10,24 @@ from unittest.mock import patch
 
 sys.path.insert(0, str(Path(__file__).resolve().parent))
 
-from page_support import SHORT, Page, Served  # noqa: E402
-from player_support import built, preloaded  # noqa: E402
-from session_support import InFolder, ngc  # noqa: E402
+from page_support import SHORT, Page, Served
+from player_support import built, preloaded
+from session_support import InFolder, ngc
 
-from ngc_tools.cli.page import Opener, make_parser  # noqa: E402
-from ngc_tools.failure import Failure  # noqa: E402
-from ngc_tools.files import NotWritten  # noqa: E402
-from ngc_tools.job.moves import CUT, TRAVERSE, Move  # noqa: E402
-from ngc_tools.ngc.carried import CannotTell  # noqa: E402
-from ngc_tools.ngc.console import Console  # noqa: E402
-from ngc_tools.ngc.handed_out import Finder  # noqa: E402
-from ngc_tools.page.aside import Aside, NotDone  # noqa: E402
-from ngc_tools.page.face import LOOKS, PageFace  # noqa: E402
-from ngc_tools.page.losses import Loss, Losses  # noqa: E402
-from ngc_tools.page.never_cut import LossRequest, found  # noqa: E402
-from ngc_tools.page.rehearse import finished, rehearse  # noqa: E402
-from ngc_tools.page.session import PageSession  # noqa: E402
-from ngc_tools.link.progress import Report  # noqa: E402
+from ngc_tools.cli.page import Opener, make_parser
+from ngc_tools.failure import Failure
+from ngc_tools.files import NotWritten
+from ngc_tools.job.moves import CUT, TRAVERSE, Move
+from ngc_tools.ngc.carried import CannotTell
+from ngc_tools.ngc.console import Console
+from ngc_tools.ngc.handed_out import Finder
+from ngc_tools.page.aside import Aside, NotDone
+from ngc_tools.page.face import LOOKS, PageFace
+from ngc_tools.page.losses import Loss, Losses
+from ngc_tools.page.never_cut import LossRequest, found
+from ngc_tools.page.rehearse import finished, rehearse
+from ngc_tools.page.session import PageSession
+from ngc_tools.link.progress import Report
 
 BACK = "G21 G90 G94\nG1 X0.01 F60\nX0\nX0.02\nM2\n"
 """Ten pulses on, ten back, and twenty on."""

@@ -7,8 +7,8 @@ from pathlib import Path
 
 sys.path.insert(0, str(Path(__file__).resolve().parent))
 
-import test_page_browser  # noqa: E402
-from test_page_browser import InBrowser  # noqa: E402
+import test_page_browser
+from test_page_browser import InBrowser
 
 CHANGE = "G17 G21 G90 G94\nT1 M6\nG1 X5 F60\nM2\n"
 FINGER = """void (window.finger = (kind, down) => {

@@ -14,13 +14,13 @@ from pathlib import Path
 
 sys.path.insert(0, str(Path(__file__).resolve().parent))
 
-from player_support import (NO_RAMPS, SOURCES, PlayerTest, Sanitized, built, preloaded,  # noqa: E402
+from player_support import (NO_RAMPS, SOURCES, PlayerTest, Sanitized, built, preloaded,
                             record)
-from session_support import PATIENCE_S  # noqa: E402
+from session_support import PATIENCE_S
 
-from ngc_tools.formats.out import BadLine, read_line  # noqa: E402
-from ngc_tools.formats.record import Record  # noqa: E402
-from ngc_tools.link.progress import NoAnswer, Report  # noqa: E402
+from ngc_tools.formats.out import BadLine, read_line
+from ngc_tools.formats.record import Record
+from ngc_tools.link.progress import NoAnswer, Report
 
 LINES = """S 0 1000.000000 0 0 2 0
 S 0 1000.000000 0 0 2 2

@@ -7,8 +7,8 @@ from pathlib import Path
 
 sys.path.insert(0, str(Path(__file__).resolve().parent))
 
-from player_support import PlayerTest, Sanitized, sector  # noqa: E402
-from session_support import FIRST, ngc  # noqa: E402
+from player_support import PlayerTest, Sanitized, sector
+from session_support import FIRST, ngc
 
 NO_LINE = "not a line of OUT: "
 ZEROS = ("; zeros stand where the disk lost what was written, or its room was given back: recover in ngc-operate says"

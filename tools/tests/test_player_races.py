@@ -9,8 +9,8 @@ from pathlib import Path
 
 sys.path.insert(0, str(Path(__file__).resolve().parent))
 
-from player_support import PlayerTest, Sanitized, built  # noqa: E402
-from session_support import PATIENCE_S  # noqa: E402
+from player_support import PlayerTest, Sanitized, built
+from session_support import PATIENCE_S
 
 THREADS = ("-O1", "-g", "-fsanitize=thread")
 MOTION = "[motion]\naccel_mm_s2 = [500, 500, 500]\n"

@@ -8,13 +8,13 @@ from pathlib import Path
 
 sys.path.insert(0, str(Path(__file__).resolve().parent))
 
-from player_support import PlayerTest, Sanitized, preloaded, record  # noqa: E402
-from session_support import PATIENCE_S  # noqa: E402
-from test_sink_player import OverSink  # noqa: E402
+from player_support import PlayerTest, Sanitized, preloaded, record
+from session_support import PATIENCE_S
+from test_sink_player import OverSink
 
-from ngc_tools.formats.out import OFF, Switch  # noqa: E402
-from ngc_tools.formats.record import Record  # noqa: E402
-from ngc_tools.link.progress import Link  # noqa: E402
+from ngc_tools.formats.out import OFF, Switch
+from ngc_tools.formats.record import Record
+from ngc_tools.link.progress import Link
 
 ON = "S 1 5.000000 0 1 0 0\n"
 WAS = Switch(1, 5_000_000, False, True, 0, 0)

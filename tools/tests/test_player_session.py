@@ -12,11 +12,11 @@ from pathlib import Path
 
 sys.path.insert(0, str(Path(__file__).resolve().parent))
 
-from player_support import NO_RAMPS, PlayerTest, Sanitized, preloaded, record, sector  # noqa: E402
-from session_support import PATIENCE_S, ngc  # noqa: E402
+from player_support import NO_RAMPS, PlayerTest, Sanitized, preloaded, record, sector
+from session_support import PATIENCE_S, ngc
 
-from ngc_tools.formats.out import OFF, Switch  # noqa: E402
-from ngc_tools.link.progress import Report  # noqa: E402
+from ngc_tools.formats.out import OFF, Switch
+from ngc_tools.link.progress import Report
 
 ON = b"S 1 5.000000 0 1 0 0\n"
 LEFT = ("out: lines that no motor carried out stand behind line 0: nothing moves before a console says so; recover in"

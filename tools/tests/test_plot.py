@@ -14,14 +14,14 @@ from unittest import mock
 
 sys.path.insert(0, str(Path(__file__).resolve().parent))
 
-from session_support import FIRST, TOOLS, InFolder, ngc  # noqa: E402
+from session_support import FIRST, TOOLS, InFolder, ngc
 
-from ngc_tools.cli.plot import main  # noqa: E402
-from ngc_tools.ngc import timing  # noqa: E402
-from ngc_tools.formats.canonical import read_commands  # noqa: E402
-from ngc_tools.job.figures import duration, micrometres  # noqa: E402
-from ngc_tools.job.moves import Arc, arc_points, of_canonical  # noqa: E402
-from ngc_tools.job.timing import timed  # noqa: E402
+from ngc_tools.cli.plot import main
+from ngc_tools.ngc import timing
+from ngc_tools.formats.canonical import read_commands
+from ngc_tools.job.figures import duration, micrometres
+from ngc_tools.job.moves import Arc, arc_points, of_canonical
+from ngc_tools.job.timing import timed
 
 EXAMPLES = TOOLS.parent / "examples"
 NAMES = ("bolts", "bores", "face", "first", "mill", "parameters", "percent", "pocket", "ring")

@@ -7,13 +7,13 @@ from types import SimpleNamespace
 
 sys.path.insert(0, str(Path(__file__).resolve().parent))
 
-from session_support import TOOLS, InFolder, ngc  # noqa: E402
+from session_support import TOOLS, InFolder, ngc
 
-from ngc_tools.ngc.run import dry  # noqa: E402
+from ngc_tools.ngc.run import dry
 
 sys.path.insert(0, str(TOOLS / "posts"))
 
-import ngc_post  # noqa: E402
+import ngc_post
 
 
 @dataclass

@@ -9,11 +9,11 @@ from pathlib import Path
 
 sys.path.insert(0, str(Path(__file__).resolve().parent))
 
-import power  # noqa: E402
-from power_axes import Screws  # noqa: E402
-from power_disk import CUT, SYNC, WRITE, Call, left_of, mark_lasting  # noqa: E402
-from power_path import Ledger, Legs, Uncut, Wrong  # noqa: E402
-from session_support import ngc  # noqa: E402
+import power
+from power_axes import Screws
+from power_disk import CUT, SYNC, WRITE, Call, left_of, mark_lasting
+from power_path import Ledger, Legs, Uncut, Wrong
+from session_support import ngc
 
 SECONDS = float(os.environ.get("NGC_POWER_S", "30"))
 

@@ -6,10 +6,10 @@ from pathlib import Path
 
 sys.path.insert(0, str(Path(__file__).resolve().parent))
 
-from player_support import PlayerTest, preloaded  # noqa: E402
-from power_axes import HOME_TOML, SWITCH_STEPS, SWITCHES  # noqa: E402
-from session_support import PATIENCE_S  # noqa: E402
-from sink_support import ServedSink  # noqa: E402
+from player_support import PlayerTest, preloaded
+from power_axes import HOME_TOML, SWITCH_STEPS, SWITCHES
+from session_support import PATIENCE_S
+from sink_support import ServedSink
 
 # A disk that keeps nothing of the record while the file `full` is there.
 FULL = r"""#define _GNU_SOURCE

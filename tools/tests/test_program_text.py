@@ -5,7 +5,7 @@ from pathlib import Path
 
 sys.path.insert(0, str(Path(__file__).resolve().parents[1]))
 
-from ngc_tools.formats.program_text import NotText, ProgramText  # noqa: E402
+from ngc_tools.formats.program_text import NotText, ProgramText
 
 UTF_16 = "it is UTF-16, and is written in UTF-8"
 MARK = "the byte order mark before line 1 is left out"

@@ -8,11 +8,11 @@ from unittest import mock
 
 sys.path.insert(0, str(Path(__file__).resolve().parent))
 
-from session_support import InFolder  # noqa: E402
+from session_support import InFolder
 
-from ngc_tools.formats.out import Switch  # noqa: E402
-from ngc_tools.link import progress  # noqa: E402
-from ngc_tools.link.progress import Link, NoAnswer, Report  # noqa: E402
+from ngc_tools.formats.out import Switch
+from ngc_tools.link import progress
+from ngc_tools.link.progress import Link, NoAnswer, Report
 
 REPORT = Report(3, 203, True, "0.002000 0.000000 -1.000000", "/a b/axis",
                 Switch(1, 1_000_000_000, False, True, 3, 2), 3, False, 40, 1960, spindle=80)

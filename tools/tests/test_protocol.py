@@ -7,12 +7,12 @@ from pathlib import Path
 
 sys.path.insert(0, str(Path(__file__).resolve().parent))
 
-from listener import Listener  # noqa: E402
-from player_support import PlayerTest  # noqa: E402
-from session_support import PATIENCE_S, TOOLS, InFolder  # noqa: E402
+from listener import Listener
+from player_support import PlayerTest
+from session_support import PATIENCE_S, TOOLS, InFolder
 
-from ngc_tools.formats.out import OFF  # noqa: E402
-from ngc_tools.link.progress import Link, NoAnswer  # noqa: E402
+from ngc_tools.formats.out import OFF
+from ngc_tools.link.progress import Link, NoAnswer
 
 PAGE = (TOOLS.parent / "docs" / "PROTOCOL.md").read_text()
 NUMBER = r"-?\d+(?:\.\d+)?"

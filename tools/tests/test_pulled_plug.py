@@ -10,9 +10,9 @@ from pathlib import Path
 
 sys.path.insert(0, str(Path(__file__).resolve().parent))
 
-from player_support import built  # noqa: E402
-from pulled_plug import Options, pull  # noqa: E402
-from session_support import FIRST, ngc  # noqa: E402
+from player_support import built
+from pulled_plug import Options, pull
+from session_support import FIRST, ngc
 
 MOMENTS = int(os.environ.get("NGC_MOMENTS", "200"))
 

@@ -10,9 +10,9 @@ from pathlib import Path
 
 sys.path.insert(0, str(Path(__file__).resolve().parent))
 
-from pace_support import PROGRAMS, excess, stream  # noqa: E402
-from player_support import NO_RAMPS, PlayerTest, Sanitized  # noqa: E402
-from session_support import FIRST, TOOLS, ngc  # noqa: E402
+from pace_support import PROGRAMS, excess, stream
+from player_support import NO_RAMPS, PlayerTest, Sanitized
+from session_support import FIRST, TOOLS, ngc
 
 EXAMPLES = sorted((TOOLS.parent / "examples").glob("*.ngc"))
 COARSE = (FIRST.replace("[1000, 1000, 1000]", "[50000, 50000, 50000]").replace("[50000000]", "[50000000, 62500000, 0]")

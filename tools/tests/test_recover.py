@@ -17,29 +17,29 @@ from unittest.mock import patch
 
 sys.path.insert(0, str(Path(__file__).resolve().parent))
 
-from player_support import PlayerTest, built, record  # noqa: E402
-from pulled_file import Options, Yes, program, pull  # noqa: E402
-from pulled_plug import program as stairs  # noqa: E402
-from pulled_plug import run_uncut  # noqa: E402
-from session_support import FIRST, InFolder, ngc, told  # noqa: E402
+from player_support import PlayerTest, built, record
+from pulled_file import Options, Yes, program, pull
+from pulled_plug import program as stairs
+from pulled_plug import run_uncut
+from session_support import FIRST, InFolder, ngc, told
 
-from ngc_tools.cli.rehearse import main as rehearse  # noqa: E402
-from ngc_tools.formats.device import Device  # noqa: E402
-from ngc_tools.formats.out import OFF, read_line  # noqa: E402
-from ngc_tools.formats.out_note import OutNote  # noqa: E402
-from ngc_tools.formats.position import Position  # noqa: E402
-from ngc_tools.formats.record import Record  # noqa: E402
-from ngc_tools.formats.settings import Settings  # noqa: E402
-from ngc_tools.ngc.carried import CannotTell  # noqa: E402
-from ngc_tools.ngc.console import Console, Status  # noqa: E402
-from ngc_tools.ngc.handed_out import Finder, FileRecord, _only  # noqa: E402
-from ngc_tools.operator.meter import Meter  # noqa: E402
-from ngc_tools.operator.operator import Operator  # noqa: E402
-from ngc_tools.operator.past import along_out, by_rate  # noqa: E402
-from ngc_tools.operator.recovery import Looking, OutFound, Recovery  # noqa: E402
-from ngc_tools.operator.sentences import GO_ON, LOOK, LOOK_AGAIN, LOOK_SWITCHED, SWITCHED_THERE  # noqa: E402
-from ngc_tools.operator.synced import SyncedLink  # noqa: E402
-from ngc_tools.link.out_file import OutFile  # noqa: E402
+from ngc_tools.cli.rehearse import main as rehearse
+from ngc_tools.formats.device import Device
+from ngc_tools.formats.out import OFF, read_line
+from ngc_tools.formats.out_note import OutNote
+from ngc_tools.formats.position import Position
+from ngc_tools.formats.record import Record
+from ngc_tools.formats.settings import Settings
+from ngc_tools.ngc.carried import CannotTell
+from ngc_tools.ngc.console import Console, Status
+from ngc_tools.ngc.handed_out import Finder, FileRecord, _only
+from ngc_tools.operator.meter import Meter
+from ngc_tools.operator.operator import Operator
+from ngc_tools.operator.past import along_out, by_rate
+from ngc_tools.operator.recovery import Looking, OutFound, Recovery
+from ngc_tools.operator.sentences import GO_ON, LOOK, LOOK_AGAIN, LOOK_SWITCHED, SWITCHED_THERE
+from ngc_tools.operator.synced import SyncedLink
+from ngc_tools.link.out_file import OutFile
 
 # A path by hand: spindle on, +X +X at 50 us, a wait, +Y at 200 us, +X -Z at 70 us. It leads to 3 1 -1.
 PATH = b"S 1 900.000000 0 0 0 0\nP 1 0 0 50\nP 1 0 0 50\nD 9\nP 0 1 0 200\nP 1 0 -1 70\n"

@@ -10,13 +10,13 @@ from unittest.mock import patch
 
 sys.path.insert(0, str(Path(__file__).resolve().parent))
 
-from session_support import FIRST, InFolder, ngc, told  # noqa: E402
-from test_device import DATA, stored  # noqa: E402
+from session_support import FIRST, InFolder, ngc, told
+from test_device import DATA, stored
 
-from ngc_tools.ngc.console import Console  # noqa: E402
-from ngc_tools.formats.out import read_line  # noqa: E402
-from ngc_tools.formats.position import Position  # noqa: E402
-from ngc_tools.cli.rehearse import main  # noqa: E402
+from ngc_tools.ngc.console import Console
+from ngc_tools.formats.out import read_line
+from ngc_tools.formats.position import Position
+from ngc_tools.cli.rehearse import main
 
 HOLE = """G21 G90 G17 G94
 T1 M6

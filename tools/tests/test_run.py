@@ -11,11 +11,11 @@ from pathlib import Path
 
 sys.path.insert(0, str(Path(__file__).resolve().parent))
 
-from session_support import TOOLS, told  # noqa: E402
+from session_support import TOOLS, told
 
-from ngc_tools.cli.run import new_parser, run  # noqa: E402
-from ngc_tools.failure import BadNumber, Failure, WrongWords, speaking_of  # noqa: E402
-from ngc_tools.formats.text import shown, shown_line  # noqa: E402
+from ngc_tools.cli.run import new_parser, run
+from ngc_tools.failure import BadNumber, Failure, WrongWords, speaking_of
+from ngc_tools.formats.text import shown, shown_line
 
 ABOUT = "Try things out, and say in a paragraph of some length what comes of it, as a help does.\n\nAnother paragraph."
 EXAMPLE = """example:

@@ -5,13 +5,13 @@ from pathlib import Path
 
 sys.path.insert(0, str(Path(__file__).resolve().parent))
 
-from session_support import FIRST, InFolder, ngc  # noqa: E402
+from session_support import FIRST, InFolder, ngc
 
-from ngc_tools import files  # noqa: E402
-from ngc_tools.ngc import settings_report  # noqa: E402
-from ngc_tools.formats.settings import LIMITS, BadSettings, Settings, toml_line  # noqa: E402
-from ngc_tools.ngc.run import settings_refusal  # noqa: E402
-from ngc_tools.ngc.usable_settings import look_at_settings  # noqa: E402
+from ngc_tools import files
+from ngc_tools.ngc import settings_report
+from ngc_tools.formats.settings import LIMITS, BadSettings, Settings, toml_line
+from ngc_tools.ngc.run import settings_refusal
+from ngc_tools.ngc.usable_settings import look_at_settings
 
 MILL = Path(__file__).resolve().parents[2] / "examples" / "mill.toml"
 

@@ -11,16 +11,16 @@ from unittest.mock import patch
 
 sys.path.insert(0, str(Path(__file__).resolve().parent))
 
-from session_support import InFolder, ngc, told  # noqa: E402
+from session_support import InFolder, ngc, told
 
-from ngc_tools.cli import setup  # noqa: E402
-from ngc_tools.cli.page import key_of  # noqa: E402
-from ngc_tools.failure import BadNumber, Failure  # noqa: E402
-from ngc_tools.formats import machine  # noqa: E402
-from ngc_tools.formats.settings import Settings  # noqa: E402
-from ngc_tools.ngc.machine_report import Motion  # noqa: E402
-from ngc_tools.setup.axes import Axis, settings_of, step_of, travel  # noqa: E402
-from ngc_tools.setup.texts import machine_text, settings_text  # noqa: E402
+from ngc_tools.cli import setup
+from ngc_tools.cli.page import key_of
+from ngc_tools.failure import BadNumber, Failure
+from ngc_tools.formats import machine
+from ngc_tools.formats.settings import Settings
+from ngc_tools.ngc.machine_report import Motion
+from ngc_tools.setup.axes import Axis, settings_of, step_of, travel
+from ngc_tools.setup.texts import machine_text, settings_text
 
 MADE = ["machine.toml", "mill.dev", "out", "settings.toml"]
 KEY = re.compile(r"^(?:# )?(\w+) = ", re.MULTILINE)

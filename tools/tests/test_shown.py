@@ -10,10 +10,10 @@ from types import ModuleType
 
 sys.path.insert(0, str(Path(__file__).resolve().parent))
 
-from player_support import built, played  # noqa: E402
-from session_support import FIRST, PATIENCE_S, TOOLS, InFolder, ngc, told  # noqa: E402
+from player_support import built, played
+from session_support import FIRST, PATIENCE_S, TOOLS, InFolder, ngc, told
 
-from ngc_tools.cli import adapt, check, device, operate, plot, rehearse, split  # noqa: E402
+from ngc_tools.cli import adapt, check, device, operate, plot, rehearse, split
 
 ODD = "\x1b[2J\x07\x9b31m\u061c\u202e\u2066\u2028\ufeff"
 """ESC, a bell, a control character of one byte, what turns the direction of writing, a line's end, a mark."""

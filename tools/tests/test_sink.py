@@ -13,13 +13,13 @@ from pathlib import Path
 
 sys.path.insert(0, str(Path(__file__).resolve().parent))
 
-from player_support import SANITIZERS, built, has_sanitizers  # noqa: E402
-from session_support import TOOLS  # noqa: E402
-from sink_frames import (ANSWER, ASKED, BROKEN, DEAD, HUNG, INPUT, LEAST, LINE, LINE_SWITCH, MARK, MS,  # noqa: E402
+from player_support import SANITIZERS, built, has_sanitizers
+from session_support import TOOLS
+from sink_frames import (ANSWER, ASKED, BROKEN, DEAD, HUNG, INPUT, LEAST, LINE, LINE_SWITCH, MARK, MS,
                          NEW, NOTHING, OUTPUT, REST, RUNS, SILENT, STANDS, STEEP, STOPPED, SWITCH, TOKEN, TOUCHED, WORD,
                          Answer, answers, begin_frame, framed, slope_of, steep, stop_frame, switches, unstuffed, word,
                          words_frame)
-from sink_support import IS_CHIP, bench, seen  # noqa: E402
+from sink_support import IS_CHIP, bench, seen
 
 SINK = TOOLS / "sink"
 NO_MARK = 2**64 - 1

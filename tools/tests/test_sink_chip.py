@@ -12,10 +12,10 @@ from pathlib import Path
 
 sys.path.insert(0, str(Path(__file__).resolve().parent))
 
-import chip_planted  # noqa: E402
-import chip_scenarios  # noqa: E402
-from chip_support import COMPILER, SINK, chip_folder, elf_of, has_compiler, make_chip  # noqa: E402
-from sink_frames import REST, begin_frame, steep, words_frame  # noqa: E402
+import chip_planted
+import chip_scenarios
+from chip_support import COMPILER, SINK, chip_folder, elf_of, has_compiler, make_chip
+from sink_frames import REST, begin_frame, steep, words_frame
 
 
 FLASH = 0x08000000

@@ -10,7 +10,7 @@ from pathlib import Path
 
 sys.path.insert(0, str(Path(__file__).resolve().parent))
 
-from chip_support import COMPILER, SINK, chip_folder, has_compiler  # noqa: E402
+from chip_support import COMPILER, SINK, chip_folder, has_compiler
 
 FLASH, PAGE = 0x10000000, 256
 RP2040 = 0xe48bff56

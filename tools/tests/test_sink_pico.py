@@ -7,10 +7,10 @@ from pathlib import Path
 
 sys.path.insert(0, str(Path(__file__).resolve().parent))
 
-import chip_scenarios as each_chip  # noqa: E402
-import pico_planted  # noqa: E402
-import pico_scenarios as of_pico  # noqa: E402
-from chip_support import COMPILER, elf_of, has_compiler  # noqa: E402
+import chip_scenarios as each_chip
+import pico_planted
+import pico_scenarios as of_pico
+from chip_support import COMPILER, elf_of, has_compiler
 
 QUICK = (each_chip.boot, each_chip.worked_frame, each_chip.still_directions, each_chip.switches, each_chip.pulled,
          each_chip.input_stops, of_pico.kept, of_pico.long_line, of_pico.bites, of_pico.instructions)

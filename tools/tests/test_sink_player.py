@@ -9,10 +9,10 @@ from pathlib import Path
 
 sys.path.insert(0, str(Path(__file__).resolve().parent))
 
-from pace_support import excess, straight  # noqa: E402
-from player_support import PlayerTest, Sanitized, played, record  # noqa: E402
-from session_support import FIRST, PATIENCE_S, TOOLS  # noqa: E402
-from sink_support import IS_CHIP, LATE_TICKS, TICK_NS, Made, ServedSink, changes, seen  # noqa: E402
+from pace_support import excess, straight
+from player_support import PlayerTest, Sanitized, played, record
+from session_support import FIRST, PATIENCE_S, TOOLS
+from sink_support import IS_CHIP, LATE_TICKS, TICK_NS, Made, ServedSink, changes, seen
 
 EXAMPLES = sorted((TOOLS.parent / "examples").glob("*.ngc"))
 COARSE = (FIRST.replace("[1000, 1000, 1000]", "[50000, 50000, 50000]").replace("[50000000]", "[50000000, 62500000, 0]")

@@ -6,9 +6,9 @@ from pathlib import Path
 
 sys.path.insert(0, str(Path(__file__).resolve().parent))
 
-from player_support import PlayerTest, Sanitized, record  # noqa: E402
-from session_support import PATIENCE_S  # noqa: E402
-from sink_support import ServedSink  # noqa: E402
+from player_support import PlayerTest, Sanitized, record
+from session_support import PATIENCE_S
+from sink_support import ServedSink
 
 MOTION = "[motion]\naccel_mm_s2 = [500, 500, 500]\n"
 MOST = MOTION + "[spindle]\nmax_rpm = 1500\n"

@@ -8,10 +8,10 @@ from unittest.mock import patch
 
 sys.path.insert(0, str(Path(__file__).resolve().parent))
 
-from session_support import TOOLS, InFolder, ngc, told  # noqa: E402
+from session_support import TOOLS, InFolder, ngc, told
 
-from ngc_tools.ngc.console import Console  # noqa: E402
-from ngc_tools.cli.split import main  # noqa: E402
+from ngc_tools.ngc.console import Console
+from ngc_tools.cli.split import main
 
 MODES = "G17 G21 G54 G90 G94\n"
 EXAMPLES = TOOLS.parent / "examples"

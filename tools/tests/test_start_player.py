@@ -9,11 +9,11 @@ from pathlib import Path
 
 sys.path.insert(0, str(Path(__file__).resolve().parent))
 
-from page_support import Page  # noqa: E402
-from player_support import built  # noqa: E402
-from session_support import PATIENCE_S, InFolder, ngc, told  # noqa: E402
+from page_support import Page
+from player_support import built
+from session_support import PATIENCE_S, InFolder, ngc, told
 
-from ngc_tools.cli import page  # noqa: E402
+from ngc_tools.cli import page
 
 WORDS = ("mill.dev", "first.toml", "out", "--player", "progress")
 

@@ -9,10 +9,10 @@ from pathlib import Path
 
 sys.path.insert(0, str(Path(__file__).resolve().parent))
 
-from page_support import Served, slow_by  # noqa: E402
-from session_support import PATIENCE_S, TOOLS, Terminal, ngc  # noqa: E402
-from test_documents import blocks, chapters  # noqa: E402
-from test_moves import AT_SPEED, MACHINE, PROBE, STOP, X_HIGH, Moving, World, program  # noqa: E402
+from page_support import Served, slow_by
+from session_support import PATIENCE_S, TOOLS, Terminal, ngc
+from test_documents import blocks, chapters
+from test_moves import AT_SPEED, MACHINE, PROBE, STOP, X_HIGH, Moving, World, program
 
 CHANGES = (("door = 4\nspindle_at_speed = 5\n", ""), ("at_speed_s = 1\n", ""), ("[60, 60, 60]", "[600, 600, 600]"),
            ("agree_um = 20", "agree_um = 1000"))

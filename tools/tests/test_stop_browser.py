@@ -6,9 +6,9 @@ from pathlib import Path
 
 sys.path.insert(0, str(Path(__file__).resolve().parent))
 
-from firefox_support import MISSING, PATH, start  # noqa: E402
-from test_moves import STOP  # noqa: E402
-from test_page_day import Walk  # noqa: E402
+from firefox_support import MISSING, PATH, start
+from test_moves import STOP
+from test_page_day import Walk
 
 JOB = "G17 G21 G90 G94\nM3 S1000\nG0 X1\nG1 X4 F60\nM5\nM2\n"
 """Its line 4 is a cut of three seconds."""

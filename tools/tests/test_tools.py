@@ -13,7 +13,7 @@ from unittest.mock import patch
 
 sys.path.insert(0, str(Path(__file__).resolve().parent))
 
-from session_support import TOOLS, InFolder, ngc, told  # noqa: E402
+from session_support import TOOLS, InFolder, ngc, told
 
 NAMES = sorted(path.name for path in TOOLS.glob("ngc-*"))
 NOT_FOUND = "ngc: neither beside this tool nor on PATH; name it with --ngc PATH\n"

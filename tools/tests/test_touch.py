@@ -8,14 +8,14 @@ from pathlib import Path
 
 sys.path.insert(0, str(Path(__file__).resolve().parent))
 
-from machine_support import MachineLink  # noqa: E402
-from session_support import InFolder, told  # noqa: E402
-from test_operate import operate  # noqa: E402
-from test_operator import Core, FileLink  # noqa: E402
+from machine_support import MachineLink
+from session_support import InFolder, told
+from test_operate import operate
+from test_operator import Core, FileLink
 
-from ngc_tools.cli.operate import main  # noqa: E402
-from ngc_tools.operator.numbers import length_of, nanometres_of  # noqa: E402
-from ngc_tools.operator.setter import Setter as TouchingOff  # noqa: E402
+from ngc_tools.cli.operate import main
+from ngc_tools.operator.numbers import length_of, nanometres_of
+from ngc_tools.operator.setter import Setter as TouchingOff
 
 WHICH = "zero X Y Z: which axes are 0 here? zero Z 10 for another coordinate than 0"
 LENGTH_0 = "Z is that of a tool of length 0: no tool length is in force"

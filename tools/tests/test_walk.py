@@ -10,12 +10,12 @@ from pathlib import Path
 
 sys.path.insert(0, str(Path(__file__).resolve().parent))
 
-from browser_support import chromium  # noqa: E402
-from session_support import PATIENCE_S, InFolder  # noqa: E402
-from walk import Covered, Step, Walk, shortened, told, walked  # noqa: E402
-from walk_late import Lateness  # noqa: E402
-from walk_page import Tabs  # noqa: E402
-from walk_rules import Wrong  # noqa: E402
+from browser_support import chromium
+from session_support import PATIENCE_S, InFolder
+from walk import Covered, Step, Walk, shortened, told, walked
+from walk_late import Lateness
+from walk_page import Tabs
+from walk_rules import Wrong
 
 WALK_S = float(os.environ.get("NGC_WALK_S", "90"))
 SHORTEN_S = 60.0

@@ -26,12 +26,12 @@ from pathlib import Path
 
 sys.path.insert(0, str(Path(__file__).resolve().parent))
 
-from browser_support import ANSWERS_S, Failed, chromium  # noqa: E402
-from session_support import PATIENCE_S, memory  # noqa: E402
-from walk_late import Lateness  # noqa: E402
-from walk_machine import Bench  # noqa: E402
-from walk_page import Seen, Tabs  # noqa: E402
-from walk_rules import Judge, Truth, Wrong, changes, number  # noqa: E402
+from browser_support import ANSWERS_S, Failed, chromium
+from session_support import PATIENCE_S, memory
+from walk_late import Lateness
+from walk_machine import Bench
+from walk_page import Seen, Tabs
+from walk_rules import Judge, Truth, Wrong, changes, number
 
 STEPS = 50
 BEGINS_S = 1.0

@@ -7,10 +7,10 @@ from pathlib import Path
 
 sys.path.insert(0, str(Path(__file__).resolve().parents[1]))
 
-from ngc_tools.cli.page import main  # noqa: E402
-from ngc_tools.operator.face import REFUSED  # noqa: E402
-from ngc_tools.page import deeds, server  # noqa: E402
-from ngc_tools.page.session import PageSession  # noqa: E402
+from ngc_tools.cli.page import main
+from ngc_tools.operator.face import REFUSED
+from ngc_tools.page import deeds, server
+from ngc_tools.page.session import PageSession
 
 STATE_OF, HOLD = server.state_of, PageSession.hold
 

@@ -18,10 +18,8 @@ from ngc_tools.job.cam_line import CamLine
 from ngc_tools.job.cam_program import SharedSlot
 from ngc_tools.job.refused import Ask, Lines, find_all
 from ngc_tools.ngc import cures
-from ngc_tools.ngc.beginning import Beginning
 from ngc_tools.ngc.run import Refusal, TooLong, find_ngc, refusal
 from ngc_tools.ngc.usable_settings import look_at_settings
-from ngc_tools.scratch import scratch_file
 
 ABOUT = """Write a CAM system's text as `ngc` accepts it, and list each line that is changed.
 

@@ -14,8 +14,8 @@ from pathlib import Path
 if __name__ == "__main__":
     sys.path[0] = str(Path(__file__).resolve().parents[2])
 
-from ngc_tools.cli.run import new_parser, run  # noqa: E402
-from ngc_tools.ngc.line_times import line_times  # noqa: E402
+from ngc_tools.cli.run import new_parser, run
+from ngc_tools.ngc.line_times import line_times
 
 
 def command(ngc: str, settings: str, machine: str) -> list[str]:

@@ -4,12 +4,8 @@ import fcntl
 import os
 import stat
 import sys
-from contextlib import ExitStack, closing
-
-try:
-    import readline  # noqa: F401  history and editing for input()
-except ImportError:
-    pass
+from contextlib import ExitStack, closing, suppress
+from importlib import import_module
 
 from ngc_tools.cli import line_times
 from ngc_tools.cli.run import new_parser, run
@@ -72,6 +68,8 @@ def make_parser() -> argparse.ArgumentParser:
 
 def main(arguments: list[str] | None = None) -> int:
     """Runs it, and returns the exit status."""
+    with suppress(ImportError):
+        import_module("readline")  # history and editing for input()
     return run(make_parser(), work, arguments)
 
 

@@ -48,7 +48,7 @@ class Screen:
         for number, handler in self._before.items():
             signal.signal(number, handler)
 
-    def say(self, text: str, kind: str = SAID) -> None:  # noqa: ARG002  of each kind alike
+    def say(self, text: str, kind: str = SAID) -> None:  # of each kind alike
         """Shows lines; at a terminal none is longer than it is wide."""
         self._clear()
         width = _width() if self.is_terminal else 0

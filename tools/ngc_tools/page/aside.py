@@ -85,7 +85,7 @@ class Child:
             (size,) = _HEAD.unpack(head)
             if len(text := stream.read(size)) < size:
                 return None
-            kind, said = pickle.loads(text)  # noqa: S301  of a child of this process
+            kind, said = pickle.loads(text)  # of a child of this process
             if kind != _TOLD:
                 return said
             self.told = said
@@ -173,7 +173,7 @@ def main(folder: str, most_memory: str, most_cpu_s: str) -> None:
     threading.Thread(target=_watch, args=[given, folder], daemon=True).start()
     threading.Thread(target=_watch_time, args=[said, float(most_cpu_s)], daemon=True).start()
     try:
-        function, arguments = pickle.loads(work)  # noqa: S301  of its parent
+        function, arguments = pickle.loads(work)  # of its parent
         text = _packed(_DONE, (True, function(*arguments)))
     except MemoryError:
         text = _packed(_DONE, (False, _TOO_MUCH_MEMORY.format(mib=int(most_memory) >> 20)))

@@ -135,7 +135,7 @@ class Standing:
 
     def _at_rest(self) -> Band:
         """While nothing runs."""
-        session, status, here = self.session, self.status, self.here
+        status, here = self.status, self.here
         has_left = self.report is not None and self.report.is_held and self.report.behind > 0
         if status.does == "held" or has_left:
             return "Held", "hold", self._held(has_left)

@@ -7,7 +7,6 @@ that has just come, that before one of a page that is there, the oldest first. W
 path. No request names a file: what is served was read before, and a program comes by upload."""
 import asyncio
 import hmac
-import json
 import socket
 import threading
 import time

@@ -18,7 +18,7 @@ def head_of(request: Request) -> bytes:
     key, version = headers.get("sec-websocket-key", ""), headers.get("sec-websocket-version", "")
     if headers.get("upgrade", "").lower() != "websocket" or version != "13" or not key or "origin" not in headers:
         raise RequestRefused(HTTPStatus.BAD_REQUEST, "no WebSocket")
-    name = base64.b64encode(hashlib.sha1(key.encode() + _NAME).digest()).decode()  # noqa: S324  no secret
+    name = base64.b64encode(hashlib.sha1(key.encode() + _NAME).digest()).decode()  # no secret
     return (f"HTTP/1.1 101 {HTTPStatus.SWITCHING_PROTOCOLS.phrase}\r\nUpgrade: websocket\r\nConnection: Upgrade\r\n"
             f"Sec-WebSocket-Accept: {name}\r\n\r\n").encode()
 
