@@ -46,10 +46,6 @@ void rattle_set_errno(int32_t error) {
     errno = error;
 }
 
-size_t rattle_arg_count(void) {
-    return word_count;
-}
-
 ssize_t rattle_arg(size_t number, uint8_t *bytes, size_t room) {
     if (number >= word_count) {
         return -1;

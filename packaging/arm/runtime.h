@@ -31,12 +31,9 @@ void rattle_dealloc(void *block);
 int32_t rattle_errno(void);
 void rattle_set_errno(int32_t error);
 
-/* How many words the program was started with, its own name among them. */
-size_t rattle_arg_count(void);
-
-/* Puts word `number`, from 0, at the start of `bytes`, without an end, and answers its length; -1 where there is no
- * such word; -2 where it has more than `room` bytes: then all `room` bytes are its first ones. Nothing else is
- * written. */
+/* Puts word `number`, from 0, of those that the program was started with, its own name among them, at the start of
+ * `bytes`, without an end, and answers its length; -1 where there is no such word; -2 where it has more than `room`
+ * bytes: then all `room` bytes are its first ones. Nothing else is written. */
 ssize_t rattle_arg(size_t number, uint8_t *bytes, size_t room);
 
 #endif
