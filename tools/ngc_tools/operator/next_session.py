@@ -16,7 +16,7 @@ from ngc_tools.link.progress import NoAnswer
 _HAS_LINES = "the player doesn't let go of its lines"
 _NO_RECORD = """\
 the player can't keep its record yet, and so begins no other session. Once there is room, again; else end it there, and
-start one with a new record, and --at with what the last one said"""
+start one with a copy of its record, and --at with what the last one said"""
 _PATIENCE_S = 5.0  # how long motors may take to come to rest, and a player to let go of its lines
 
 
