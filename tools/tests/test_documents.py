@@ -248,8 +248,8 @@ class Tools(Documents):
         """Their words, and a moment of each."""
         _, tried = self.chapter("TOOLS.md", "The plug")
         moment = "--moments 1 --blocks 10"
-        own = ((f"{moment} --player bin/player", "1 moments in "), (f"{moment} --cut --player bin/player", "1 moments in "),
-               ("--chains 1", " 1 chains, "))
+        moments = f"{moment} --player bin/player"
+        own = ((moments, "1 moments in "), (f"{moments} --cut", "1 moments in "), ("--chains 1", " 1 chains, "))
         for (synopsis, more), (words, said) in zip(tried, own, strict=True):
             program, wanted = synopsis.split()[0], set(re.findall(r"--[a-z-]+", synopsis + more))
             self.assertEqual(wanted - set(re.findall(r"--[a-z-]+", self.shell(f"{program} --help"))), set())

@@ -39,7 +39,8 @@ class Started(InFolder):
 
     def test_started(self) -> None:
         """It begins with the server; killed, `Start ngc again` begins it once more, and lines are carried out."""
-        command = shlex.join([built("-O2"), "out", "first.toml", "position", "--follow", "--untimed", "--progress", "progress"])
+        command = shlex.join([built("-O2"), "out", "first.toml", "position", "--follow", "--untimed", "--progress",
+                              "progress"])
         server = self.served(command)
         seen = Page(server.stdout.readline().strip())
         self.addCleanup(seen.close)
