@@ -814,6 +814,39 @@ class Power(InBrowser):
         self.assertFalse(browser.js("document.querySelector('#over .foot .go').disabled"))
 
 
+class Held(InBrowser):
+    """The page's server is lost while the motors are held in a cut, and comes back."""
+
+    OUT = "out"
+    MACHINE = "[motion]\naccel_mm_s2 = [500, 500, 500]\n"
+
+    def begin_player(self) -> None:
+        """There is one as long as it isn't killed."""
+        if not os.path.exists("progress"):
+            super().begin_player()
+
+    def test_stop(self) -> None:
+        """What Stop asks is seen, though the steps after a loss of power are on the screen, and can be answered."""
+        browser = self.browser
+        self.load(SLOW, 4)
+        browser.press("Run", "#run")
+        browser.wait("ngc.state.motors[0] > 0.02")
+        browser.press("Hold", "#hold")
+        browser.wait("ngc.state.held_motors && ngc.state.behind > 0")
+        before = browser.js("ngc.state.session")
+        for pid in (*self.children(), self.server.pid):
+            os.kill(pid, signal.SIGKILL)
+        self.server.wait()
+        self.begin_again()
+        browser.wait(f"ngc.state?.session && ngc.state.session !== '{before}'")
+        browser.wait("document.querySelector('#over .facts') && !document.getElementById('stop').disabled")
+        browser.press("Stop", "#stop")
+        browser.wait("ngc.state.question")
+        browser.wait("document.querySelector('#over h1')?.textContent === 'A question'")
+        browser.press("Yes", "#over .foot button")
+        browser.wait("!ngc.state.question")
+
+
 class PowerOverPipe(InBrowser):
     """Power is lost with a pipe as OUT: what no motor carried out is never cut."""
 

@@ -76,6 +76,10 @@ export class Recovery {
       this.close();
       return;
     }
+    if (s.question && this.step < 3) { // it isn't of these steps, as that of a stop: it has a sheet of its own
+      this.later();
+      return;
+    }
     this.mark();
     const key = this.shownOf(s);
     if (key !== this.key) this.go(this.step);
