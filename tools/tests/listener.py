@@ -1,6 +1,7 @@
 """A player's end of its socket, for players that tests make up."""
 import os
 import socket
+from contextlib import suppress
 
 from ngc_tools.link.progress import Report
 
@@ -34,7 +35,8 @@ class Listener:
     def close(self) -> None:
         """Closes the socket and removes its name."""
         self.socket.close()
-        os.unlink(self.path)
+        with suppress(FileNotFoundError):
+            os.unlink(self.path)
 
 
 def said(report: Report) -> bytes:

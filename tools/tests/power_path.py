@@ -262,6 +262,7 @@ class Ledger:
 
     def goes(self, lines: list[bytes], to: int) -> None:
         """A way to move `to`: on or back along the path, after legs if they were asked for. Raises Wrong."""
+        self.waits_again(next((line for line in lines if line[:1] in b"PD"), b""))
         for line in lines:
             if self.legs:
                 self.by_leg(line)
@@ -273,6 +274,12 @@ class Ledger:
                 self.cut(line)
             elif not self.switches(line):
                 raise Wrong(f"{line!r} after the way to move {to} is at its end")
+
+    def waits_again(self, line: bytes) -> None:
+        """A way begins where the record stands: a wait that it doesn't count yet comes once more."""
+        moves = self.uncut.moves
+        if line[:1] == b"D" and self.on and moves[self.on - 1] == line and moves[self.on:self.on + 1] != [line]:
+            self.on -= 1
 
     def by_leg(self, line: bytes) -> None:
         """A pulse of legs. Raises Wrong."""

@@ -12,9 +12,10 @@ from unittest import mock
 
 sys.path.insert(0, str(Path(__file__).resolve().parent))
 
+from player_support import played
 from session_support import PATIENCE_S, InFolder, ngc, told
 
-from ngc_tools.cli import adapt, check, device, operate, page, player, plot, rehearse, split
+from ngc_tools.cli import adapt, check, device, operate, page, plot, rehearse, split
 from ngc_tools.ngc import run
 from ngc_tools.ngc.run import TooLong, dry
 
@@ -34,9 +35,8 @@ WORDS = {
     device: ("DEVICE",),
     operate: ("DEVICE SETTINGS OUT", "DEVICE SETTINGS OUT --machine MACHINE"),
     page: ("DEVICE SETTINGS OUT", "DEVICE SETTINGS OUT --machine MACHINE"),
-    player: ("OUT SETTINGS POSITION --untimed --machine MACHINE",),
 }
-MAY_BE_PIPES = {operate, page, player}
+MAY_BE_PIPES = {operate, page}
 """These take a pipe as OUT."""
 
 
@@ -56,7 +56,7 @@ class NoFiles(InFolder):
         Path("part.ngc").write_text("G21 G90 G17 G54 G94 G98\nG1 X1 F100\nM2\n")
         Path("motion.toml").write_text(MOTION)
         Path("good").write_text("P 1 0 0 50\n")
-        told(player.main, "--untimed", "good", "first.toml", "position")
+        played("--untimed", "good", "first.toml", "position")
         os.mkfifo("pipe")
         os.mkdir("folder")
         before = signal.signal(signal.SIGALRM, waits)
@@ -76,7 +76,7 @@ class NoFiles(InFolder):
     def named(self, tool: object, form: str, word: str, given: str) -> None:
         """Looks at one argument."""
         words = [given if one == word else FILES.get(one, one) for one in form.split()]
-        ask = [] if tool in (device, player) else ["--ngc", ngc()]
+        ask = [] if tool is device else ["--ngc", ngc()]
         before = {name: Path(name).read_bytes() for name in FILES.values() if Path(name).exists()}
         signal.alarm(PATIENCE_S)
         status, _, said = told(tool.main, *words, *ask)
@@ -109,14 +109,18 @@ class NoFiles(InFolder):
         Path("long-motion.toml").write_text(MOTION + "#" * 2**20)
         for tool, words in ((check, ("part.ngc", "--settings", "long.toml")),
                             (operate, ("mill.dev", "long.toml", "out")),
-                            (player, ("good", "long.toml", "position", "--untimed")),
-                            (check, ("part.ngc", "--settings", "first.toml", "--machine", "long-motion.toml")),
-                            (player, ("good", "first.toml", "position", "--untimed", "--machine", "long-motion.toml"))):
-            ask = [] if tool is player else ["--ngc", ngc()]
-            name = next(word for word in words if word.startswith("long"))
-            status, _, said = told(tool.main, *words, *ask)
-            self.assertEqual(status, 2, words)
-            self.assertEqual(said.partition(": ")[2], f"{name}: it has more than 1,048,576 bytes\n", words)
+                            (check, ("part.ngc", "--settings", "first.toml", "--machine", "long-motion.toml"))):
+            self.too_long(words, told(tool.main, *words, "--ngc", ngc()))
+        for words in (("good", "long.toml", "position", "--untimed"),
+                      ("good", "first.toml", "position", "--untimed", "--machine", "long-motion.toml")):
+            self.too_long(words, played(*words))
+
+    def too_long(self, words: tuple[str, ...], done: tuple[int, str, str]) -> None:
+        """A tool names the file of these words that is too long."""
+        name = next(word for word in words if word.startswith("long"))
+        status, _, said = done
+        self.assertEqual(status, 2, words)
+        self.assertEqual(said.partition(": ")[2], f"{name}: it has more than 1,048,576 bytes\n", words)
 
 
 class Bounds(InFolder):

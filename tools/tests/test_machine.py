@@ -13,7 +13,7 @@ from session_support import InFolder, ngc, told
 from ngc_tools import files
 from ngc_tools.cli import check, plot
 from ngc_tools.cli import machine as words
-from ngc_tools.ngc import timing
+from ngc_tools.job import timing
 from ngc_tools.ngc.machine_report import Motion
 from ngc_tools.ngc.pacing import NotTimed, Pacing
 

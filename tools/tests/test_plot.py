@@ -17,7 +17,7 @@ sys.path.insert(0, str(Path(__file__).resolve().parent))
 from session_support import FIRST, TOOLS, InFolder, ngc
 
 from ngc_tools.cli.plot import main
-from ngc_tools.ngc import timing
+from ngc_tools.job import timing
 from ngc_tools.formats.canonical import read_commands
 from ngc_tools.job.figures import duration, micrometres
 from ngc_tools.job.moves import Arc, arc_points, of_canonical
