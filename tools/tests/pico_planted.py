@@ -92,7 +92,8 @@ TIMERS: dict[str, list[Edit]] = {
     "flag never cleared": port("PWM_INTR = 1u << ALARM;", ""),
     "a turn taken for a due word": port("PWM_INTE != 0 && is_due()", "PWM_INTE != 0 && (is_due() || true)"),
     "alarm set after the look": port(
-        "        set_due(after);\n    }\n", "        bool is_past = (uint16_t)(due + after - ticks_now() - 1) >= 0x8000;\n"
+        "        set_due(after);\n    }\n",
+        "        bool is_past = (uint16_t)(due + after - ticks_now() - 1) >= 0x8000;\n"
         "        set_due(after);\n        if (!is_past) {\n            break;\n        }\n    }\n"),
     "all lateness made up for": port("late > MOST_LATE_TICKS &&", "false && late > MOST_LATE_TICKS &&"),
     "another slice's interrupt": port("PWM_INTE = 1u << ALARM", "PWM_INTE = 1u << TIME"),
