@@ -25,7 +25,8 @@ from ngc_tools.ngc import faults
 from ngc_tools.formats.lines import Program, percent_bytes
 from ngc_tools.formats.out import OFF, Switch, read_line
 from ngc_tools.formats.position import Position, nanometres
-from ngc_tools.operator.sentences import HELP, explained
+from ngc_tools.operator.commands import help_text
+from ngc_tools.operator.sentences import explained
 from ngc_tools.cli.operate import main
 from ngc_tools.link.progress import Link, Report
 
@@ -313,7 +314,7 @@ class Scripted(InFolder):
         self.assertEqual(done.stdout, f"""\
 not metered: out is a file, which takes any number of lines ahead of the motors
 idle; X 0.000000 Y 0.000000 Z 0.000000
-ngc> {HELP}
+ngc> {help_text()}
 ngc> ticks are given by run, continue, resume and a line of G-code, in small counts
 ngc> where does the machine stand? reference X Y Z
 ngc> no player is known: --player SOCKET

@@ -14,6 +14,7 @@ from ngc_tools.formats.device import Device
 from ngc_tools.formats.out import OFF, Switch, read_line
 from ngc_tools.formats.position import Position, nanometres
 from ngc_tools.ngc.console import Console, Status
+from ngc_tools.operator.commands import BY_WORD
 from ngc_tools.operator.face import MESSAGE, REFUSED, SAID, WARNING, WHERE, UnderWay
 from ngc_tools.operator.meter import Meter
 from ngc_tools.operator.operator import Operator
@@ -234,7 +235,7 @@ class Faces(Core):
     def test_help(self) -> None:
         """Each command stands in the help but those that people don't type, and other names."""
         said = self.begin() and self.do("help")[0]
-        for word in self.operator._doings.keys() - {"mdi", "tick", "?", "exit"}:
+        for word in BY_WORD.keys() - {"mdi", "tick", "?", "exit"}:
             self.assertRegex(said, rf"(?m)^(\w+, )?{word}\b", word)
 
     def test_kinds(self) -> None:
