@@ -4,13 +4,14 @@ from collections.abc import Iterator
 
 from ngc_tools.formats.device import Device, State
 from ngc_tools.formats.lines import Program
+from ngc_tools.formats.out import SLOTS
 from ngc_tools.formats.position import Position, millimetres, nanometres
 from ngc_tools.formats.text import shown_line
 from ngc_tools.formats.in_force import in_force_on
 from ngc_tools.ngc.console import Status
 from ngc_tools.operator.alarm import left_of
 from ngc_tools.operator.commands import Brings, words_that_bring
-from ngc_tools.operator.display import on_words, outputs_on
+from ngc_tools.operator.display import on_words
 from ngc_tools.operator.motors import way_nm
 from ngc_tools.operator.sentences import SWITCHED
 from ngc_tools.operator.session import ALARM
@@ -133,7 +134,7 @@ class Pictured:
 
     def _looks(self) -> tuple[str, str, str]:
         """What has to be looked at, by what the player has on, or what was handed out where there is none."""
-        out = self.report.outputs if self.report else outputs_on(self.device.state)
+        out = self.report.outputs if self.report else self.device.state.outputs
         on = on_words(out)
         tool = f"Tool {out.slot} is in the spindle, and it is sound" if out.slot else "The right tool is in, and sound"
         is_own = self.face.question is not None and self.face.question.text == SWITCHED.strip()
@@ -144,7 +145,7 @@ class Pictured:
     def _motors(self) -> dict:
         """Where the motors are, with the outputs as they have them: `ngc` may be ahead of them."""
         report, meter = self.report, self.operator.session.meter
-        out = report.outputs if report else outputs_on(self.device.state)
+        out = report.outputs if report else self.device.state.outputs
         can = able(self.session, self.status, report, self._machine_said, out, any(self._apart))
         said = {"player": meter is not None, "player_gone": self.stand.gone, "motors": report and report.at.split(),
                 "speed": out.speed / 10**6, "spindle": out.spindle, "mist": out.mist, "flood": out.flood,
@@ -239,7 +240,7 @@ class Pictured:
         work = list(map(millimetres, in_force.to_program((x, y, z)))) if is_known else None
         return {"work": work, "stale": self._stale(), "feed": state.feed_nm_per_min / 10**6,
                 "tool_length": millimetres(state.tool_length_nm), "origin": list(map(millimetres, in_force.origin)),
-                "tools": list(map(millimetres, self.device.tools_nm)),
+                "tools": list(map(millimetres, self.device.tools_nm)), "most_slots": SLOTS,
                 **{name: getattr(state, name) for name in _IN_MODES}}
 
     def _stale(self) -> dict | None:
