@@ -19,6 +19,7 @@ from player_support import SANITIZERS, PlayerTest, built, has_sanitizers
 from session_support import FIRST, TOOLS, InFolder
 
 from ngc_tools.failure import Failure
+from ngc_tools.formats import machine, settings
 from ngc_tools.formats.machine import read_tables
 from ngc_tools.formats.settings import Settings
 
@@ -105,6 +106,15 @@ def changed(chance: random.Random, text: bytes, least: int = 1) -> bytes:
             case _:
                 text = text[:at] + text[at:at + 1].swapcase() + text[at + 1:]
     return text
+
+
+def with_number(text: str, key: str, number: int) -> bytes:
+    """The text with all numbers of a key changed to this one."""
+    changed, count = re.subn(rf"(?m)(?<=^{key} = )[^#\n]*",
+                             lambda value: re.sub(r"[-+]?[\d_]+", str(number), value[0]), text)
+    if count != 1:
+        raise AssertionError(f"{key} stands {count} times")
+    return changed.encode()
 
 
 def found_in_machine(path: str) -> str:
@@ -237,6 +247,15 @@ class ByChance(InFolder):
         for _ in range(2 * MUTATIONS // 3000):
             texts = [changed(chance, MACHINE.encode()) for _ in range(1000)]
             self.assertGreater(self.compare("machine", [MACHINE.encode(), *texts]), 100)
+
+    def test_ranges(self) -> None:
+        """The numbers at both ends of each key's range, and those beyond them: both take the same ones."""
+        for kind, text, ranges in (("machine", MACHINE, {name: key.numbers for keys in machine._TABLES.values()
+                                                         for name, key in keys.items() if key.numbers}),
+                                   ("settings", FIRST, settings._RANGES)):
+            texts = [with_number(text, name, number) for name, numbers in ranges.items()
+                     for number in (numbers[0] - 1, numbers[0], numbers[-1], numbers[-1] + 1)]
+            self.assertGreater(self.compare(kind, texts), len(texts) // 3)
 
     def test_settings(self) -> None:
         """Settings."""

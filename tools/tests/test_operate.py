@@ -25,7 +25,8 @@ from ngc_tools.ngc import faults
 from ngc_tools.formats.lines import Program, percent_bytes
 from ngc_tools.formats.out import OFF, Switch, read_line
 from ngc_tools.formats.position import Position, nanometres
-from ngc_tools.operator.sentences import HELP, explained
+from ngc_tools.operator.commands import help_text
+from ngc_tools.operator.sentences import explained
 from ngc_tools.cli.operate import main
 from ngc_tools.link.progress import Link, Report
 
@@ -72,7 +73,7 @@ nor is halp a command; did you mean help? help lists them
 ngc> ngc> status entries 10 place 0 at 1.000000 1.000000 0.000000 known half none idle
 idle; X 1.000000 Y 1.000000 Z 0.000000; next line 1 of 7: G21 G90 G17
 work X1.000 Y1.000 Z0.000; G54
-G1 G17 G21 G90 G94; F100 mm/min; spindle stands; no coolant; no tool
+G1 G17 G21 G90 G94; F100 mm/min; spindle stands; no coolant; no tool in the spindle
 about 0:00 in all
 ngc> refused U1 BadCommand: {U1}
 ngc> done 11
@@ -313,7 +314,7 @@ class Scripted(InFolder):
         self.assertEqual(done.stdout, f"""\
 not metered: out is a file, which takes any number of lines ahead of the motors
 idle; X 0.000000 Y 0.000000 Z 0.000000
-ngc> {HELP}
+ngc> {help_text()}
 ngc> ticks are given by run, continue, resume and a line of G-code, in small counts
 ngc> where does the machine stand? reference X Y Z
 ngc> no player is known: --player SOCKET
@@ -329,7 +330,7 @@ ngc> stopped; the tool in the spindle is none. run goes on
 stopped; X 0.000000 Y 0.000000 Z 0.000000; next line 3 of 5: (MSG, kept)
 ngc> stopped; X 0.000000 Y 0.000000 Z 0.000000; next line 3 of 5: (MSG, kept)
 work X0.000 Y0.000 Z0.000; G54
-G80 G17 G21 G90 G94; F0 mm/min; spindle stands; no coolant; no tool
+G80 G17 G21 G90 G94; F0 mm/min; spindle stands; no coolant; no tool in the spindle
 it stops at M1; lines with a slash are left out
 about 0:00 done, 0:00 left
 ngc> message, line 3: kept
@@ -662,7 +663,7 @@ class AtTerminal(InFolder):
         terminal = Terminal(str(TOOLS / "ngc-operate"), *operate("mill.dev", "first.toml", "out"))
         terminal.read_to(PROMPT)
         where = (b"where\r\nidle; X 0.000000 Y 0.000000 Z 0.000000\r\nwork X0.000 Y0.000 Z0.000; G54\r\n"
-                 b"G80 G17 G21 G90 G94; F0 mm/min; spindle stands; no coolant; no tool\r\n" + PROMPT)
+                 b"G80 G17 G21 G90 G94; F0 mm/min; spindle stands; no coolant; no tool in the spindle\r\n" + PROMPT)
         for typed in (b"where\n", b"\x10\n"):  # Ctrl-P takes the line before
             terminal.send(typed)
             self.assertEqual(terminal.read_to(PROMPT), where)

@@ -14,6 +14,7 @@ from ngc_tools.formats.device import Device
 from ngc_tools.formats.out import OFF, Switch, read_line
 from ngc_tools.formats.position import Position, nanometres
 from ngc_tools.ngc.console import Console, Status
+from ngc_tools.operator.commands import BY_WORD
 from ngc_tools.operator.face import MESSAGE, REFUSED, SAID, WARNING, WHERE, UnderWay
 from ngc_tools.operator.meter import Meter
 from ngc_tools.operator.operator import Operator
@@ -234,7 +235,7 @@ class Faces(Core):
     def test_help(self) -> None:
         """Each command stands in the help but those that people don't type, and other names."""
         said = self.begin() and self.do("help")[0]
-        for word in self.operator._doings.keys() - {"mdi", "tick", "?", "exit"}:
+        for word in BY_WORD.keys() - {"mdi", "tick", "?", "exit"}:
             self.assertRegex(said, rf"(?m)^(\w+, )?{word}\b", word)
 
     def test_kinds(self) -> None:
@@ -818,10 +819,10 @@ class Shown(Core):
         self.assertEqual(self.do("where"), [
             "stopped; X 13.000000 Y 0.000000 Z -2.500000; next line 6 of 7: G1 X1",
             "work X3.000 Y0.000 Z0.000; G55 at X10 Y0 Z-5, tool length 2.5",
-            "G1 G17 G21 G90 G94; F60 mm/min; spindle clockwise at 1000; no coolant; tool 1",
+            "G1 G17 G21 G90 G94; F60 mm/min; spindle clockwise at 1000; no coolant; tool 1 in the spindle",
             "about 0:03 done, 0:02 left",
             "the motors are at X 13.000000 Y 0.000000 Z -2.500000, 0 lines behind",
-            "the player has spindle clockwise at 1000; no coolant; tool 1"])
+            "the player has spindle clockwise at 1000; no coolant; tool 1 in the spindle"])
         view = next(view for view in self.face.views if view and view.line.startswith("line 4"))
         self.assertEqual(view.line, "line 4: G1 X3 F60")
         self.assertEqual(view.more[1:], ("F60 S1000 T1", "about 0:05 left", "0:00 done"))

@@ -7,13 +7,13 @@ from typing import Any
 
 from ngc_tools.failure import Failure
 from ngc_tools.files import naming, opened
+from ngc_tools.formats.out import SLOTS, Switch
 
 SECTOR = 512
 SIZE = SECTOR * 1710  # bytes of the sectors that a device needs
 LARGE_SIZE = SECTOR * 5806  # bytes from which on it is large
 LOG_FIRST = 686
 LOG_END = {1: 1710, 2: 1706}  # the sector after the log, by the format
-SLOTS = 128
 MOST_PROGRAM = 131_072  # bytes; of more `ngc run` says J5
 MOST_LARGE_PROGRAM = 1_048_576  # the same on a large device
 AREAS = ((174, MOST_PROGRAM), (430, MOST_PROGRAM), (1710, MOST_LARGE_PROGRAM), (3758, MOST_LARGE_PROGRAM))
@@ -106,6 +106,11 @@ class State:
     segment: int = _stored(168, "Q", range(2**64), "its segment")
     half_point_nm: tuple[int, int, int] = _stored(176, "3q", _SIGNED, "its point, nm")
     half_text: bytes
+
+    @property
+    def outputs(self) -> Switch:
+        """The outputs as `ngc` handed them out last."""
+        return Switch(self.spindle, self.speed, bool(self.mist), bool(self.flood), self.selected, self.slot)
 
     @staticmethod
     def read(image: bytes, byte: int) -> "State":

@@ -4,11 +4,12 @@ import re
 from dataclasses import dataclass
 
 from ngc_tools.failure import Failure
-from ngc_tools.formats.device import SLOTS
 from ngc_tools.formats.text import shown
 
 GREATEST_US = 2**64 - 1
 LONGEST_LINE = 200  # bytes; no line of OUT is as long
+SLOTS = 128
+"""The slots of a tool table, which lines of OUT name."""
 
 
 class BadLine(Failure, ValueError):

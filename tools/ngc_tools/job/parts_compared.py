@@ -7,7 +7,6 @@ from pathlib import Path
 
 from ngc_tools.formats.canonical import MOTIONS, Command
 from ngc_tools.formats.device import LARGE_SIZE, MOST_PROGRAM, Device
-from ngc_tools.formats.out import Switch
 from ngc_tools.formats.in_force import InForce
 from ngc_tools.job.split import CannotPart, Part, Place
 from ngc_tools.ngc.copies import CommandRefused, Copy
@@ -115,9 +114,7 @@ def compare_run(ngc: str, settings: str | Path, image: bytes, whole: bytes, part
 
 def _made(ngc: str, settings: str | Path, image: bytes, programs: list[bytes], what: str) -> Made:
     """What `ngc run` hands out for programs, one after the other. Raises CannotPart, Ended, OSError, BadSettings."""
-    state = Device(image).state
-    outputs = Switch(state.spindle, state.speed, bool(state.mist), bool(state.flood), state.selected, state.slot)
-    made = Made(f"{outputs}\n".encode())
+    made = Made(f"{Device(image).state.outputs}\n".encode())
     try:
         with Copy(ngc, settings, image, []) as copy:
             copy.tally = made

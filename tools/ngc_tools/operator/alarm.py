@@ -1,11 +1,10 @@
 """An alarm, by the emergency stop or a limit: the motors stood at once, and where they are isn't known until `home`."""
+from ngc_tools.operator.commands import Taken, is_taken
 from ngc_tools.operator.face import REFUSED, WARNING, axes
 from ngc_tools.operator.numbers import nanometres_of
 from ngc_tools.operator.session import ALARM, BROKEN, Session
 from ngc_tools.link.progress import MoveReport, NoAnswer
 
-_TAKEN = ("home", "where", "status", "help", "?", "quit", "exit", "reference")
-_TAKEN_BROKEN = ("jog", "seek", "reference", "hold", "stop", "off")
 _CAUSES = {"emergency_stop": "emergency stop", "limits": "limit", "sink": "step sink lost"}
 _CAME = "{cause}: the motors stand, spindle and coolant are off, and where the machine is isn't known. home comes first"
 _FORBIDS = "nothing is done: {cause}. home comes first; until then where and quit alone are taken"
@@ -28,12 +27,12 @@ class Alarm:
 
     def forbids(self, word: str) -> bool:
         """Whether a command isn't taken, since an alarm stands, or stood with lines in hand; says it."""
-        if not self.session.meter or word in _TAKEN:
+        if not self.session.meter or is_taken(word, Taken.IN_ALARM):
             return False
         self._look()
         if self.session.is_in(ALARM):
             self._say_forbidden()
-        elif self.session.is_in(BROKEN) and word not in _TAKEN_BROKEN:
+        elif self.session.is_in(BROKEN) and not is_taken(word, Taken.BROKEN_OFF):
             self.session.face.say(_BROKEN, REFUSED)
         else:
             return False

@@ -11,11 +11,6 @@ from ngc_tools.operator.modes import SYSTEMS, point_words, trimmed
 _TURNS = ("stands", "clockwise", "counter-clockwise")
 
 
-def outputs_on(state: State) -> Switch:
-    """The outputs as `ngc` handed them out last."""
-    return Switch(state.spindle, state.speed, bool(state.mist), bool(state.flood), state.selected, state.slot)
-
-
 def work_words(in_force: InForce, machine_nm: Point) -> str:
     """The work point of the tool's tip."""
     at = in_force.to_program(machine_nm)
@@ -34,16 +29,21 @@ def short_words(in_force: InForce) -> Iterator[str]:
 
 def on_words(switch: Switch) -> str:
     """The spindle and the coolant that are on; nothing if none is."""
-    spindle = f"the spindle, {_TURNS[switch.spindle]} at {trimmed(switch.speed)}" if switch.spindle else ""
-    return " and ".join(name for name in (spindle, switch.mist and "mist", switch.flood and "flood") if name)
+    return " and ".join([f"the spindle, {_turning(switch)}"] * bool(switch.spindle) + _flowing(switch))
 
 
 def outputs_words(switch: Switch) -> str:
     """What the outputs are."""
-    spindle = f"spindle {_TURNS[switch.spindle]}" + (f" at {trimmed(switch.speed)}" if switch.spindle else "")
-    coolant = [name for name, is_on in (("mist", switch.mist), ("flood", switch.flood)) if is_on]
     tool = f"tool {switch.slot}" if switch.slot else "no tool"
-    return f"{spindle}; {' and '.join(coolant) or 'no coolant'}; {tool}"
+    return f"spindle {_turning(switch)}; {' and '.join(_flowing(switch)) or 'no coolant'}; {tool} in the spindle"
+
+
+def _turning(switch: Switch) -> str:
+    return _TURNS[switch.spindle] + (f" at {trimmed(switch.speed)}" if switch.spindle else "")
+
+
+def _flowing(switch: Switch) -> list[str]:
+    return [name for name, is_on in (("mist", switch.mist), ("flood", switch.flood)) if is_on]
 
 
 def offsets_words(state: State) -> str:

@@ -2,7 +2,7 @@
 from ngc_tools.formats.device import Device
 from ngc_tools.ngc.console import Status
 from ngc_tools.operator.face import WARNING
-from ngc_tools.operator.display import on_words, outputs_on
+from ngc_tools.operator.display import on_words
 from ngc_tools.operator.motors import behind
 from ngc_tools.operator.session import Session
 from ngc_tools.operator.synced import SyncedLink
@@ -51,7 +51,7 @@ class Ending:
         if report:
             return on_words(report.outputs)
         device = self.session.stored()
-        words = on_words(outputs_on(device.state)) if isinstance(device, Device) else ""
+        words = on_words(device.state.outputs) if isinstance(device, Device) else ""
         return f"{words}, as it was handed out last" if words else ""
 
     def can_switch(self, status: Status) -> bool:

@@ -5,6 +5,7 @@ from dataclasses import dataclass
 from typing import Protocol
 
 from ngc_tools.ngc.console import Status
+from ngc_tools.operator.commands import Taken, is_taken
 from ngc_tools.link.progress import Report
 
 SAID, WHERE, MESSAGE, REFUSED, WARNING = "said", "where", "message", "refused", "warning"
@@ -21,13 +22,16 @@ def are_keys(text: str) -> bool:
 
 def is_override(text: str) -> bool:
     """Whether a line sets an override: by keys, by `percent N`, or that of the spindle."""
-    return are_keys(text) or text.lower().split()[:1] in (["percent"], ["spindle"])
+    return are_keys(text) or is_taken(_word(text), Taken.PIPED)
 
 
 def is_aside(text: str) -> bool:
     """Whether a line is a command that is taken while something runs, besides the wish to hold."""
-    return is_override(text) or text.lower().split()[:1] in (["go"], ["release"], ["optional"], ["delete"], ["single"],
-                                                             ["off"])
+    return are_keys(text) or is_taken(_word(text), Taken.AMID)
+
+
+def _word(text: str) -> str:
+    return next(iter(text.lower().split()), "")
 
 
 def axes(at: list[str] | tuple[str, ...]) -> str:

@@ -6,7 +6,7 @@ from ngc_tools.formats.position import nanometres
 from ngc_tools.formats.in_force import in_force_on
 from ngc_tools.ngc.console import Status
 from ngc_tools.operator.face import WARNING, WHERE, axes
-from ngc_tools.operator.display import offsets_words, outputs_on, outputs_words, work_words
+from ngc_tools.operator.display import offsets_words, outputs_words, work_words
 from ngc_tools.operator.modes import trimmed
 from ngc_tools.operator.motors import behind, manner
 from ngc_tools.operator.session import Session, place
@@ -80,7 +80,7 @@ class Look:
         work = f"work {work_words(in_force_on(state), at)}" if at else "the work point isn't known"
         yield f"{work}; {offsets_words(state)}"
         yield (f"G{state.motion} G{state.plane} G{state.unit} G{state.distance} G{state.feed_mode};"
-               f" F{trimmed(state.feed_nm_per_min)} mm/min; {outputs_words(outputs_on(state))}")
+               f" F{trimmed(state.feed_nm_per_min)} mm/min; {outputs_words(state.outputs)}")
 
     def _times(self, status: Status, timeline: Timeline) -> str:
         times = timeline.times(self.session.program.number(status.place))

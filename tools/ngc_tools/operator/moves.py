@@ -9,6 +9,7 @@ from ngc_tools.formats.position import nanometres
 from ngc_tools.ngc.console import Status
 from ngc_tools.operator.alarm import Alarm
 from ngc_tools.operator.causes import busy, taken
+from ngc_tools.operator.commands import BY_WORD
 from ngc_tools.operator.face import REFUSED, SAID, WARNING, UnderWay, axes
 from ngc_tools.operator.left import Left
 from ngc_tools.operator.look import Look
@@ -30,11 +31,6 @@ _WAY = r"\s*([xyz])\s*([-+])\s+(\S+)"
 _JOG = re.compile(_WAY + r"\s+for\s+(\S+)\s*", re.IGNORECASE)
 _SEEK = re.compile(_WAY + r"\s+within\s+(\S+)\s*", re.IGNORECASE)
 _HOME = re.compile(r"[xyz\s]*", re.IGNORECASE)
-_FORMS = {
-    "home": "home, or home X Z: these axes alone",
-    "jog": "jog X+ RATE for MM: at a rate in mm a minute, as jog X+ 600 for 10; jog alone: by keys, at a terminal",
-    "seek": "seek Z- RATE within MM: until the probe is on, as seek Z- 60 within 10",
-}
 _NOT_KNOWN = "home, jog and seek are of tools/player with -m"
 _ANEW = ("what the player had in hand in the alarm is never carried out: another session begins, and goes on as after a"
          " loss of power")
@@ -75,7 +71,7 @@ class Moves:
     def home(self, rest: str) -> None:
         """Homes all axes, or those that are named."""
         if not _HOME.fullmatch(rest):
-            self._refuse(_FORMS["home"])
+            self._refuse(BY_WORD["home"].usage)
         elif self.begins("home"):
             names = "".join(sorted(set("".join(rest.upper().split()))))
             self._go("home", lambda link: link.home(names))
@@ -119,7 +115,7 @@ class Moves:
         match = form.fullmatch(rest)
         rate, length = (nanometres_of(match[3]), length_of(match[4])) if match else (None, None)
         if match is None or not rate or not length or rate < 0 or length < 0:
-            self._refuse(_FORMS[word])
+            self._refuse(BY_WORD[word].usage)
             return None
         return f"{match[1].upper()}{match[2]}", trimmed(rate), trimmed(length)
 

@@ -15,6 +15,7 @@ from ngc_tools.ngc.console import NO_TICK, Console, Status
 from ngc_tools.operator.alarm import Alarm
 from ngc_tools.operator.causes import refused, taken
 from ngc_tools.operator.choices import Choices
+from ngc_tools.operator.commands import BY_WORD, Brings
 from ngc_tools.operator.display import on_words
 from ngc_tools.operator.ending import Ending
 from ngc_tools.operator.face import MESSAGE, REFUSED, WARNING, WHERE, Face, are_keys
@@ -33,7 +34,7 @@ from ngc_tools.operator.outputs import comes_on_agreed, outputs_agree
 from ngc_tools.operator.places import Places, stops_outputs
 from ngc_tools.operator.recover import Recover
 from ngc_tools.operator.rehearsing import rehearse
-from ngc_tools.operator.sentences import (GO_ON, HELP, NOT_MOVED, SWITCHED, SWITCHED_THERE, TAKEN_UP,
+from ngc_tools.operator.sentences import (GO_ON, NOT_MOVED, SWITCHED, SWITCHED_THERE, TAKEN_UP,
                                           TAKEN_UP_THERE)
 from ngc_tools.operator.session import ALARM, BROKEN, Nothing, Session, place
 from ngc_tools.operator.stopping import Stopping
@@ -42,9 +43,6 @@ from ngc_tools.operator.touch import Touch, is_slot
 from ngc_tools.operator.typed import ANYWAY, Typed
 from ngc_tools.operator.work import SINGLE, Work
 from ngc_tools.link.progress import NoAnswer, Report
-
-CHOSEN = ("percent", "spindle", "single", "optional", "delete")
-PLAIN = ("abandon", "tool", "optional", "delete")
 
 
 @dataclass(slots=True)
@@ -81,22 +79,6 @@ class Operator:
         self.keys: Callable[[], AbstractContextManager[Keys]] | None = None
         self.over = False
         self.taken_up: TakenUp | None = None
-        self._doings: dict[str, Callable[[Typed], None]] = {
-            "load": self._load, "run": self._run, "start": self._start, "continue": self._continue,
-            "where": self._where, "status": self._status, "reference": self._reference, "resume": self._resume,
-            "rehearse": self._rehearse, "restore": self._restore, "go": self._go, "help": self._help, "?": self._help,
-            "recover": self._recover, "drop": self._drop, "quit": self._quit, "exit": self._quit, "tick": self._tick,
-            "hold": self._hold_all, "release": self._release, "percent": self._percent, "single": self._single,
-            "spindle": lambda typed: self.motors.spindle(typed.rest), "rewind": self._rewind,
-            "stop": lambda _: self.stopping.stop(), "off": lambda _: self.stopping.off(),
-            "home": lambda typed: self.moves.home(typed.rest), "jog": self._jog,
-            "seek": lambda typed: self.moves.seek(typed.rest),
-            "zero": lambda typed: self.touch.zero(typed.rest, typed.anyway),
-            "touch": lambda typed: self.touch.tool(typed.rest, typed.anyway),
-            "undo": lambda _: self.touch.undo(),
-            "mdi": lambda typed: self._mdi(typed.rest, typed.anyway),
-            **dict.fromkeys(PLAIN, self._plain), "tool": self._tool,
-        }
 
     def begin(self, bound: str, found: Device | None = None) -> None:
         """Says what the session begins with. `found` is the device as it stood before `ngc` was started."""
@@ -117,16 +99,17 @@ class Operator:
     def do(self, line: str) -> None:
         """Does what a person typed. Raises Ended if `ngc` ends."""
         typed = Typed.read(line)
-        is_line = typed.word not in self._doings and not are_keys(typed.line)
+        command, is_by_keys = BY_WORD.get(typed.word), are_keys(typed.line)
+        is_line = command is None and not is_by_keys
         if typed.word and (self.alarm.forbids(typed.word) or self.recover.forbids(typed.word, is_line)):
             return
-        if typed.word in self._doings:
-            self._doings[typed.word](typed)
-        elif are_keys(typed.line):
+        if command:
+            command.does(self, typed)
+        elif is_by_keys:
             self.motors.override(typed.line, "")
         elif typed.word:
-            self._mdi(typed.line, typed.anyway)
-        if typed.word in CHOSEN or are_keys(typed.line):
+            self.mdi(typed.line, typed.anyway)
+        if is_by_keys or command and command.brings & Brings.CHOICE:
             self.choices.keep()
         if not self.work.is_amid:
             self.session.note_out(self.left.is_as_left)
@@ -155,17 +138,12 @@ class Operator:
 
     # what a word does
 
-    def _help(self, _: Typed) -> None:
-        self.face.say(HELP)
-
-    def _tick(self, _: Typed) -> None:
-        self.face.say("ticks are given by run, continue, resume and a line of G-code, in small counts")
-
-    def _load(self, typed: Typed) -> None:
-        if not typed.rest:
+    def load_file(self, name: str) -> None:
+        """Stores a program of a file."""
+        if not name:
             self.face.say("load FILE: which file?")
             return
-        path = os.path.expanduser(typed.rest)
+        path = os.path.expanduser(name)
         try:
             text = read_regular(path)
         except OSError as error:
@@ -173,17 +151,12 @@ class Operator:
             return
         self.load(path, text)
 
-    def _run(self, typed: Typed) -> None:
+    def run(self, typed: Typed) -> None:
+        """Starts the program, or goes on where it waits or is held."""
         waits = self.console.status().does in ("stopped", "held")
-        self._go_on("continue" if waits else "start", typed)
+        self.go_on("continue" if waits else "start", typed)
 
-    def _start(self, typed: Typed) -> None:
-        self._go_on("start", typed)
-
-    def _continue(self, typed: Typed) -> None:
-        self._go_on("continue", typed)
-
-    def _go_on(self, command: str, typed: Typed) -> None:
+    def go_on(self, command: str, typed: Typed) -> None:
         """Starts the program, or goes on with what waits."""
         status = self.console.status()
         if self.taken_up and status.half != "none" and status.does == "held":
@@ -212,7 +185,7 @@ class Operator:
         if ended != "refused" or self.console.status().place != status.place:
             self.left.forget()
 
-    def _mdi(self, line: str, anyway: bool) -> None:
+    def mdi(self, line: str, anyway: bool) -> None:
         """Does a line of one's own, and says how all stands then."""
         if ended := self._line_done(line, anyway):
             self._say_stand(ended)
@@ -246,10 +219,10 @@ class Operator:
         """Names the command that is meant, if a line of G-code was none."""
         word = line.split()[0].lower() if line else ""
         if word.isalpha() and len(word) > 1:
-            near = " or ".join(difflib.get_close_matches(word, self._doings, 2))
+            near = " or ".join(difflib.get_close_matches(word, BY_WORD, 2))
             self.face.say(f"nor is {word} a command; {f'did you mean {near}? ' if near else ''}help lists them")
 
-    def _restore(self, _: Typed) -> None:
+    def restore(self) -> None:
         """Types the lines that put back what was in force before lines of one's own."""
         if not self.left.differs():
             self.face.say("all is in force as it was")
@@ -263,41 +236,44 @@ class Operator:
         if found.left:
             self.face.say("it can't put back " + "; nor ".join(found.left), WARNING)
 
-    def _tool(self, typed: Typed) -> None:
+    def tool(self, typed: Typed) -> None:
         """Gives a slot a length."""
         slot, _, length = typed.rest.partition(" ")
         if is_slot(slot):
             fill_below(self.session, int(slot), nanometres_of(length.strip()))
-        self._plain(typed)
+        self.plain(typed)
 
-    def _plain(self, typed: Typed) -> None:
+    def plain(self, typed: Typed) -> None:
+        """Has `ngc` do it as it is typed."""
         if typed.word == "abandon" and self.console.status().does == "idle":
             self.left.keep()
         reply = self.console.ask(" ".join([typed.word, *typed.rest.lower().split()]))[0]
         if taken(self.session, reply, f"{typed.word} {typed.rest}".strip()) and typed.word in ("delete", "optional"):
             setattr(self.session, typed.word, typed.rest.lower() == "on")
 
-    def _rewind(self, _: Typed) -> None:
+    def rewind(self) -> None:
         """The program that is stored begins with its first line again, as if it were loaded."""
         if self.session.program.text:
             self.load("from line 1", self.session.program.text)
         else:
             self.face.say("no program is stored: load FILE", REFUSED)
 
-    def _single(self, typed: Typed) -> None:
-        if typed.rest.lower() not in ("on", "off"):
+    def set_single(self, rest: str) -> None:
+        """Whether it holds after each line."""
+        if rest.lower() not in ("on", "off"):
             self.face.say("single on, or single off: whether it holds after each line", REFUSED)
             return
-        self.session.single = typed.rest.lower() == "on"
-        self.face.say(f"single {typed.rest.lower()}")
+        self.session.single = rest.lower() == "on"
+        self.face.say(f"single {rest.lower()}")
 
-    def _hold_all(self, typed: Typed) -> None:
+    def hold_all(self, typed: Typed) -> None:
+        """Holds the motors, and `ngc`."""
         stand = self.motors.hold()
-        self._plain(typed)
+        self.plain(typed)
         if stand:
             self.motors.say_rest()
 
-    def _release(self, _: Typed) -> None:
+    def release(self) -> None:
         """Lets the motors carry out what is in hand; `ngc` stays as it is. While something runs that is all."""
         if self.work.is_amid:
             if comes_on_agreed(self.session):
@@ -313,14 +289,12 @@ class Operator:
         if self.work.await_motors():
             Look(self.session).after_work()
 
-    def _jog(self, typed: Typed) -> None:
-        if typed.rest or self.keys is None:
-            self.moves.jog(typed.rest)
+    def jog(self, rest: str) -> None:
+        """Jogs as the words say; without any by keys, where there are some."""
+        if rest or self.keys is None:
+            self.moves.jog(rest)
         else:
             jog_by_keys(self.moves, self.keys())
-
-    def _percent(self, typed: Typed) -> None:
-        self.motors.override(typed.word, typed.rest)
 
     def _let_go(self, command: str, status: Status) -> bool:
         """Lets held motors go on. Whether that is all that is done: where `ngc` isn't held, what it handed out is
@@ -336,7 +310,8 @@ class Operator:
             Look(self.session).after_work()
         return True
 
-    def _reference(self, typed: Typed) -> None:
+    def reference(self, typed: Typed) -> None:
+        """Tells where the machine stands."""
         if self.alarm.stands():
             if self.alarm.place(typed.rest.lower().split()):
                 self.moves.tell()
@@ -350,7 +325,7 @@ class Operator:
         if typed.rest.lower() != "player":
             self.moves.touched = None
 
-    def _recover(self, _: Typed) -> None:
+    def bring_back(self) -> None:
         """Brings the motors to where a half-done segment begins, and takes it up."""
         status = self.console.status()
         try:
@@ -361,13 +336,14 @@ class Operator:
         if is_there and status.half != "none":
             self._take_up(self.console.status(), True)
 
-    def _drop(self, _: Typed) -> None:
+    def drop(self) -> None:
+        """Cuts off OUT what no motor carried out."""
         try:
             self.recover.drop()
         except (NoAnswer, OSError) as error:
             self.face.say(str(error), WARNING)
 
-    def _resume(self, typed: Typed) -> None:
+    def resume(self, typed: Typed) -> None:
         """Takes a half-done block up. A player brings the motors there first, at a feed: `ngc` would go at the traverse
         rate, down into the work too."""
         status = self.console.status()
@@ -446,10 +422,12 @@ class Operator:
             taken_up.is_switched = True
         return self.work.await_motors()
 
-    def _rehearse(self, typed: Typed) -> None:
-        rehearse(self.session, typed.rest.split())
+    def rehearse(self, rest: str) -> None:
+        """Says what `resume` would do, or `start`, perhaps from another point."""
+        rehearse(self.session, rest.split())
 
-    def _go(self, _: Typed) -> None:
+    def tell_go(self) -> None:
+        """Tells the player that the tool is in."""
         if not self.session.meter:
             self.face.say("no player is known: --player SOCKET")
             return
@@ -458,7 +436,7 @@ class Operator:
         except NoAnswer as error:
             self.face.say(str(error), WARNING)
 
-    def _quit(self, _: Typed) -> None:
+    def quit(self) -> None:
         """Ends the session, once a person knows what stays half-done and what stays on."""
         status = self.console.status()
         question = "quit? yes ends the session, anything else doesn't: "
@@ -532,9 +510,11 @@ class Operator:
 
     # what is said
 
-    def _where(self, _: Typed) -> None:
+    def where(self) -> None:
+        """Says how all stands."""
         Look(self.session).all(self.loading.timeline(False))
 
-    def _status(self, typed: Typed) -> None:
+    def status(self) -> None:
+        """The same, behind `ngc`'s own reply."""
         self.face.say(self.console.ask("status")[0])
-        self._where(typed)
+        self.where()

@@ -1,7 +1,7 @@
 """Whether the motors' side has on what `ngc` switched on: after an alarm, and in a new session, it has not."""
 from ngc_tools.formats.device import Device, State
 from ngc_tools.ngc.console import Status
-from ngc_tools.operator.display import on_words, outputs_on
+from ngc_tools.operator.display import on_words
 from ngc_tools.operator.face import WARNING
 from ngc_tools.operator.modes import SPINDLE, trimmed
 from ngc_tools.operator.session import Session
@@ -13,7 +13,7 @@ def outputs_agree(session: Session, status: Status) -> bool:
     device, seen = session.stored(), session.seen
     if not session.meter or not status.place or status.half != "none" or not isinstance(device, Device) or seen is None:
         return True
-    wanted = outputs_on(device.state)
+    wanted = device.state.outputs
     if not on_words(wanted) or on_words(wanted) == on_words(seen.outputs):
         return True
     there = on_words(seen.outputs) or "all of it off"

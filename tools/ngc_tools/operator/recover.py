@@ -12,6 +12,7 @@ from ngc_tools.formats.position import Position, distance, millimetres, nanometr
 from ngc_tools.job.figures import millimetres as rounded
 from ngc_tools.ngc.console import Status
 from ngc_tools.operator.causes import taken
+from ngc_tools.operator.commands import Brings, words_that_bring
 from ngc_tools.operator.face import REFUSED, WARNING, axes
 from ngc_tools.operator.feeds import cut_feed
 from ngc_tools.operator.modes import trimmed
@@ -23,7 +24,7 @@ from ngc_tools.operator.way_back import WayBack
 from ngc_tools.link.progress import Report
 from ngc_tools.link.way import count_lines
 
-_MOVING = ("run", "start", "continue", "resume", "mdi", "restore", "zero", "undo")
+_HANDS_OUT = words_that_bring(Brings.HANDS_OUT)
 LEFT = """\
 lines stand in OUT that no motor carried out, behind line {line}: recover goes on along them, or back; drop cuts them
 off, and then nothing makes them any more"""
@@ -69,7 +70,7 @@ class Recover:
 
     def forbids(self, word: str, is_line: bool) -> bool:
         """Whether a command would hand out lines behind some that no motor carried out; says it."""
-        if self.found is None or not (is_line or word in _MOVING) or not self.found.is_left():
+        if self.found is None or not (is_line or word in _HANDS_OUT) or not self.found.is_left():
             return False
         left = ON_WAY if self.found.is_sent else LEFT.format(line=self.found.recovery.lines)
         self.session.face.say("nothing is done: " + left, REFUSED)

@@ -20,7 +20,6 @@ from ngc_tools.ngc.console import Ended
 from ngc_tools.ngc.carried import CannotTell
 from ngc_tools.ngc.copies import CommandRefused
 from ngc_tools.ngc.handed_out import SegmentBeginning, Finder, FileRecord
-from ngc_tools.operator.display import outputs_on
 from ngc_tools.operator.feeds import cut_feed
 from ngc_tools.operator.synced import SyncedLink
 from ngc_tools.link.progress import HeldBack, Report
@@ -123,7 +122,7 @@ class Looking:
             return found
         if is_switch_between(file, size, to):
             return kept
-        return self.finder.segment(self.device.image)[1] if self.device.state.half else outputs_on(self.device.state)
+        return self.finder.segment(self.device.image)[1] if self.device.state.half else self.device.state.outputs
 
     def may_be_through(self, is_all: bool, at_nm: Point) -> bool:
         """Whether nothing is left but what OUT lost: no block is half-done, all of OUT is carried out, and the motors

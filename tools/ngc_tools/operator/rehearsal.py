@@ -11,22 +11,12 @@ from ngc_tools.formats.lines import Program
 from ngc_tools.formats.out import Switch
 from ngc_tools.formats.position import distance, nanometres
 from ngc_tools.formats.text import shown_line
-
-_TURNS = ("stands", "clockwise", "counter-clockwise")
+from ngc_tools.operator.display import outputs_words
 
 
 def point(at: tuple[str, ...] | list[str]) -> str:
     """A point for people, of numbers in millimetres."""
     return " ".join(f"{axis} {number}" for axis, number in zip("XYZ", at, strict=True))
-
-
-def outputs(switch: Switch) -> str:
-    """What a switch says, for people."""
-    speed = f"{switch.speed / 10**6:g}"
-    spindle = f"spindle {_TURNS[switch.spindle]}" + (f" at {speed}" if switch.spindle else "")
-    coolant = [name for name, on in (("mist", switch.mist), ("flood", switch.flood)) if on]
-    tool = f"tool {switch.slot} in the spindle" if switch.slot else "no tool in the spindle"
-    return f"{spindle}; {' and '.join(coolant) or 'no coolant'}; {tool}"
 
 
 @dataclass(slots=True)
@@ -81,7 +71,7 @@ class Rehearsal:
         if self.at is not None or self._known():
             self.approach = (approach, end.at, us)
         said.append(f"segment {state.segment}{of}, counted from 0: {begins}")
-        said.append(f"first comes on: {outputs(switch)}")
+        said.append(f"first comes on: {outputs_words(switch)}")
         said += self._approach(approach, end.at, us)
         return [*said, *rest]
 
@@ -165,8 +155,7 @@ class Rehearsal:
             return [*said, "there is no program"]
         said.append(f"start goes on with line {program.number(state.place)} of {program.count}:"
                     f" {program.line(state.place)}")
-        kept = Switch(state.spindle, state.speed, bool(state.mist), bool(state.flood), state.selected, state.slot)
-        said.append(f"it switches nothing by itself; kept is: {outputs(kept)}")
+        said.append(f"it switches nothing by itself; kept is: {outputs_words(state.outputs)}")
         if self.at is None and not self._known():
             return [*said, "it isn't known where the machine stands; name it: X Y Z"]
         commands = [f"reference {' '.join(self.at)}"] if self.at else []

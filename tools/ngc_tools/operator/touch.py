@@ -11,6 +11,7 @@ from ngc_tools.job.figures import millimetres as rounded
 from ngc_tools.formats.in_force import in_force_on
 from ngc_tools.ngc.console import Status
 from ngc_tools.operator.causes import busy, reference_words, taken
+from ngc_tools.operator.commands import BY_WORD
 from ngc_tools.operator.face import REFUSED, WARNING, WHERE
 from ngc_tools.operator.look import Look
 from ngc_tools.operator.modes import SYSTEMS, point_words, trimmed
@@ -26,8 +27,6 @@ Point = tuple[int, int, int]
 
 _AXES, _PROBE = "XYZ", "probe"
 _AXIS = re.compile(r"([xyz])\s*([-+.\d]*(?:mm|in)?)\s*", re.IGNORECASE)
-_ZERO = "zero X Y Z: which axes are 0 here? zero Z 10 for another coordinate than 0"
-_TOUCH = "touch tool N: which slot's tool stands on the setter? touch tool 3, or touch tool 3 HEIGHT"
 _HEIGHT = ("at which machine Z does the bare spindle reach the setter's top? touch tool {slot} HEIGHT, or height_um of"
            " [setter] in the file of --machine")
 _NOT_TOUCHED = "the probe wasn't touched since the machine moved last, or its place was used: seek Z- RATE within MM"
@@ -66,7 +65,7 @@ def axes_of(text: str, unit: int) -> dict[int, int]:
             raise CannotTouch(f"{match[1].upper()} stands twice")
         found[axis] = _length(match[2], unit) if match[2] else 0
     if not found or at < len(text):
-        raise CannotTouch(_ZERO)
+        raise CannotTouch(BY_WORD["zero"].usage)
     return found
 
 
@@ -171,7 +170,7 @@ class Touch:
         named, by_probe = _parted(rest)
         words = named.lower().split()
         if len(words) not in (2, 3) or words[0] != "tool" or not is_slot(words[1]):
-            raise CannotTouch(_TOUCH)
+            raise CannotTouch(BY_WORD["touch"].usage)
         slot, height = int(words[1]), self._height(words)
         status, device = self._found()
         if status.does not in ("idle", "stopped"):

@@ -2,6 +2,7 @@
 from dataclasses import dataclass
 
 from ngc_tools.ngc.console import Status
+from ngc_tools.operator.commands import Brings, words_that_bring
 from ngc_tools.operator.display import on_words
 from ngc_tools.operator.motors import count
 from ngc_tools.operator.session import ALARM, BROKEN, DOOR, SPINDLE, WAITS_SPINDLE
@@ -23,6 +24,7 @@ _OFF = "Spindle and coolant were switched off by hand. Go on asks before they co
 _HELD_BY_OTHER = "Somebody else holds the motors. Go on carries on"
 _MOVES = {"home": "Homing", "jog": "Jogging", "seek": "Seeking"}
 _SEEKS = "until the probe is touched"
+_TAKE_UP = words_that_bring(Brings.TAKES_UP)
 _TYPED = ("mdi", "restore")
 """The commands that do lines of one's own: before one has begun, and after it, no line of the program runs."""
 _STARTS = "ngc looks at the program first; nothing moves yet"
@@ -110,7 +112,7 @@ class Standing:
             return "Held", "hold", self._held_by()
         if command.word == "run" and session.face.last is None and not self._is_in_hand():
             return "Starting", "idle", _STARTS
-        if session.under and session.under.word in ("resume", "recover") and not session.face.has_looked:
+        if session.under and session.under.word in _TAKE_UP and not session.face.has_looked:
             return "On the way", "run", "To where the line was cut off. Hold stops it"
         waits = ": the spindle isn't at its speed yet" if self.report and self.report.word == WAITS_SPINDLE else ""
         line = session.operator.session.own or ("" if command.word in _TYPED else self.here)

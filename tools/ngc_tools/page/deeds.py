@@ -4,11 +4,13 @@ import json
 import re
 from collections.abc import Callable
 from dataclasses import dataclass, field
+from functools import partial
 from http import HTTPStatus
 
 from ngc_tools.formats.device import SLOTS
 from ngc_tools.formats.position import nanometres
 from ngc_tools.job.cam_homes import HomeAnswers
+from ngc_tools.operator.commands import BY_WORD, COMMANDS, Asked, Brings, words_that_bring
 from ngc_tools.operator.motors import PERCENTS, SPINDLE_PERCENTS
 from ngc_tools.page.aside import Wanted
 from ngc_tools.page.http import RequestRefused
@@ -21,6 +23,7 @@ _NUMBER = re.compile(r"[-+]?(?:[0-9]{1,7}\.?[0-9]{0,6}|\.[0-9]{1,6})")
 _LONGEST_LINE = 256
 _LONGEST_ANSWER = 64
 _MOST_PRESSES = 1000  # that are numbered before the server hears of one
+SWITCHES = words_that_bring(Brings.SWITCH)
 _MOST_KEPT = 2  # programs that were looked at and may be loaded
 
 
@@ -149,13 +152,9 @@ def _stands(given: Given) -> dict:
     return {"refused": given.session.face.refusal}
 
 
-def _tool(given: Given) -> None:
-    given.session.tell(f"tool {given.count('slot', 128)} {given.number('length')}")
-
-
 def _switch(given: Given) -> None:
-    if given.words.get("name") not in ("optional", "delete", "single"):
-        raise BadWords("name: optional, delete or single")
+    if given.words.get("name") not in SWITCHES:
+        raise BadWords(f"name: one of {', '.join(sorted(SWITCHES))}")
     given.session.tell(f"{given.words['name']} {'on' if given.flag('on') else 'off'}")
 
 
@@ -167,11 +166,11 @@ def _way(given: Given) -> str:
     return f"{axis}{'+' if sign > 0 else '-'}"
 
 
-def _home(given: Given) -> None:
+def _home_words(given: Given) -> str:
     axes = given.words.get("axes", "")
     if not isinstance(axes, str) or not re.fullmatch("X?Y?Z?", axes):
         raise BadWords("axes: as XYZ")
-    given.session.type(f"home {' '.join(axes)}".strip())
+    return " ".join(axes)
 
 
 def _jog(given: Given) -> None:
@@ -184,18 +183,18 @@ def _jog(given: Given) -> None:
         given.session.jog(way, rate, given.press())
 
 
-def _seek(given: Given) -> None:
-    given.session.type(f"seek {_way(given)} {given.number('rate')} within {given.number('within')}")
+def _seek_words(given: Given) -> str:
+    return f"{_way(given)} {given.number('rate')} within {given.number('within')}"
 
 
-def _zero(given: Given) -> None:
-    words = " ".join(f"{axis}{number}mm" for axis, number in sorted(given.axes("axes").items()))
-    given.session.type(f"zero {words}{_by_probe(given)}{given.anyway()}")
+def _zero_words(given: Given) -> str:
+    axes = " ".join(f"{axis}{number}mm" for axis, number in sorted(given.axes("axes").items()))
+    return axes + _by_probe(given)
 
 
-def _touch(given: Given) -> None:
+def _touch_words(given: Given) -> str:
     height = f" {given.number('height')}mm" if given.words.get("height") is not None else ""
-    given.session.type(f"touch tool {given.count('slot', 128)}{height}{_by_probe(given)}{given.anyway()}")
+    return f"tool {given.count('slot', SLOTS)}{height}{_by_probe(given)}"
 
 
 def _by_probe(given: Given) -> str:
@@ -221,29 +220,48 @@ def _rehearse(given: Given) -> dict:
     return rehearse(given.session, at, given.flag("recover"), given.wanted)
 
 
-DEEDS: dict[str, Callable[[Given], dict | None]] = {
-    "load": _load, "mdi": _mdi, "reference": _reference, "stands": _stands, "tool": _tool, "switch": _switch,
-    "answer": _answer, "rehearse": _rehearse, "home": _home, "jog": _jog, "seek": _seek, "zero": _zero, "touch": _touch,
-    "recover": _recover,
-    "jogstop": lambda given: given.session.jogs.let_go(given.press()),
-    "undo": lambda given: given.session.type("undo"),
+_WORDS: dict[str, Callable[[Given], str]] = {
+    "home": _home_words, "seek": _seek_words, "zero": _zero_words, "touch": _touch_words,
+    "tool": lambda given: f"{given.count('slot', SLOTS)} {given.number('length')}",
+    "percent": lambda given: str(given.count("percent", PERCENTS[-1])),
+    "spindle": lambda given: f"percent {given.count('percent', SPINDLE_PERCENTS[-1])}",
+}
+"""What stands behind a command, by a page's words; behind the others nothing does."""
+
+
+def _typed(word: str, given: Given) -> None:
+    """A command as a person types it, given or awaited."""
+    line = f"{word} {_WORDS[word](given) if word in _WORDS else ''}".strip() + given.anyway()
+    if BY_WORD[word].asked is Asked.AWAITED:
+        given.session.tell(line)
+    else:
+        given.session.type(line)
+
+
+_OWN: dict[str, Callable[[Given], dict | None]] = {
+    "load": _load, "mdi": _mdi, "reference": _reference, "rehearse": _rehearse, "jog": _jog, "recover": _recover,
     "stop": lambda given: given.session.stop(given.pages.commands),
     "off": lambda given: given.session.off(given.pages.commands),
     "rewind": lambda given: {"taken": given.session.rewind()},
     "run": lambda given: given.session.run("run" + given.anyway()),
-    "resume": lambda given: given.session.type("resume" + given.anyway()),
-    "drop": lambda given: given.session.type("drop"),
-    "restore": lambda given: given.session.type("restore"),
     "release": lambda given: given.session.release(),
-    "abandon": lambda given: given.session.tell("abandon"),
     "go": lambda given: given.session.tell("go", given.holds),
-    "percent": lambda given: given.session.tell(f"percent {given.count('percent', PERCENTS[-1])}"),
-    "spindle": lambda given: given.session.tell(f"spindle percent {given.count('percent', SPINDLE_PERCENTS[-1])}"),
-    "loss": lambda given: given.pages.choose(given.flag("goes")),
-    "restart": lambda given: given.session.restart(),
     "quit": lambda given: given.session.quit(),
 }
+"""The commands by which the page does more than a console, or asks for more."""
+
+_OF_PAGES: dict[str, Callable[[Given], dict | None]] = {
+    "stands": _stands, "switch": _switch, "answer": _answer,
+    "jogstop": lambda given: given.session.jogs.let_go(given.press()),
+    "loss": lambda given: given.pages.choose(given.flag("goes")),
+    "restart": lambda given: given.session.restart(),
+}
+"""What is no command, and the switches, which are asked for by one name."""
+
+_ASKED = [command for command in COMMANDS if command.asked is not Asked.NEVER and command.word not in SWITCHES]
+
+DEEDS: dict[str, Callable[[Given], dict | None]] = {
+    **{command.word: partial(_typed, command.word) for command in _ASKED}, **_OWN, **_OF_PAGES}
 """What the page that commands may ask for."""
-WAITING = {"load", "rehearse", "reference", "stands", "tool", "switch", "abandon", "go", "percent", "spindle",
-           "restart", "off", "rewind"}
+WAITING = {command.word for command in _ASKED if command.asked is Asked.AWAITED} | {"stands", "switch", "restart"}
 """Those that wait for what they ask for; the others only give it to the session's thread."""

@@ -13,7 +13,8 @@ from ngc_tools.job.moves import CUT, Move, Point, of_out
 from ngc_tools.ngc.copies import CommandRefused
 from ngc_tools.operator import causes
 from ngc_tools.operator.recovery import OutFound
-from ngc_tools.operator.rehearsal import Rehearsal, outputs
+from ngc_tools.operator.display import outputs_words
+from ngc_tools.operator.rehearsal import Rehearsal
 from ngc_tools.page.aside import Wanted
 from ngc_tools.page.differs import differences
 from ngc_tools.page.drawing import Drawing, job_of
@@ -100,7 +101,7 @@ def rehearsed(asked: RehearsalRequest) -> dict:
         lines = list(map(shown_lines, rehearsal.lines()))
     except CommandRefused as error:
         return found | {"refused": _refusal(error, asked.settings), "lines": [shown_lines(str(error))]}
-    comes_on = outputs(rehearsal.comes_on) if rehearsal.comes_on else ""
+    comes_on = outputs_words(rehearsal.comes_on) if rehearsal.comes_on else ""
     approach = _approach(asked, *rehearsal.approach) if rehearsal.approach else None
     return found | {"lines": lines, "begins": rehearsal.begins, "rest": duration(rehearsal.rest_us),
                     "rest_us": rehearsal.rest_us, "comes_on": comes_on, "approach": approach,

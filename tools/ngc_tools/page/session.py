@@ -18,9 +18,10 @@ from ngc_tools.formats.position import nanometres
 from ngc_tools.formats.settings import Settings, read_table
 from ngc_tools.job.cam_homes import HomeAnswers
 from ngc_tools.ngc.console import Ended, Status
+from ngc_tools.operator.commands import Brings, Taken, words_taken, words_that_bring
 from ngc_tools.operator.face import REFUSED, WARNING
 from ngc_tools.operator.motors import SPINDLE_PERCENTS, WHOLE
-from ngc_tools.operator.operator import CHOSEN, Operator
+from ngc_tools.operator.operator import Operator
 from ngc_tools.operator.places import is_same_place
 from ngc_tools.operator.sentences import explained
 from ngc_tools.operator.session import ALARM
@@ -36,14 +37,16 @@ from ngc_tools.page.stand import Kept, Stand, recovery_of
 from ngc_tools.link.machine import read_machine
 from ngc_tools.link.progress import Link, NoAnswer
 
-WITHOUT_LINES = {"home", "jog", "seek"}
-MOVES = {"run", "mdi", "resume", "recover", "restore", "release", *WITHOUT_LINES}
+WITHOUT_LINES = words_that_bring(Brings.MOVES)
+MOVES = words_that_bring(Brings.LINES) | WITHOUT_LINES
 """The commands that move the machine, and those of them that the player makes without lines of OUT."""
 LOST = "lost"
 """Stands for the page that held, where that was nobody: the one that commands was lost."""
 _LEAVE_S = 10.0
 _LOOK_S = 0.15  # how often it looks while nothing runs
-_ASIDES = {"go", "off", *CHOSEN}
+_PROGRAM = words_that_bring(Brings.PROGRAM)
+_CHOICES = words_that_bring(Brings.CHOICE)
+_ASIDES = words_taken(Taken.AMID) - {"release"}  # that one has a way of its own
 
 
 class Busy(Failure):
@@ -535,7 +538,7 @@ class PageSession:
     def _see_end(self, command: SessionCommand, before: Status) -> None:
         """Sees whether the program ran to its end."""
         status = self.operator.console.status()
-        ran = command.word in ("run", "resume", "recover") and (before.place or before.half == "program"
+        ran = command.word in _PROGRAM and (before.place or before.half == "program"
                                                                 or before.entries != status.entries)
         at_start = status.does == "idle" and status.half == "none" and not status.place
         seen = self.operator.session.seen
@@ -563,7 +566,7 @@ class PageSession:
 
     def _look_meanwhile(self) -> None:
         """While somebody is asked: overrides and switches are heeded, and how all stands is looked at."""
-        chosen = self.face.asides(CHOSEN)
+        chosen = self.face.asides(_CHOICES)
         for line in chosen:
             self.operator.do(line)
         self._look()

@@ -4,15 +4,18 @@ from collections.abc import Iterator
 
 from ngc_tools.formats.device import Device, State
 from ngc_tools.formats.lines import Program
+from ngc_tools.formats.out import SLOTS
 from ngc_tools.formats.position import Position, millimetres, nanometres
 from ngc_tools.formats.text import shown_line
 from ngc_tools.formats.in_force import in_force_on
 from ngc_tools.ngc.console import Status
 from ngc_tools.operator.alarm import left_of
-from ngc_tools.operator.display import on_words, outputs_on
+from ngc_tools.operator.commands import Brings, words_that_bring
+from ngc_tools.operator.display import on_words
 from ngc_tools.operator.motors import way_nm
 from ngc_tools.operator.sentences import SWITCHED
-from ngc_tools.operator.session import ALARM, WAITS_SPINDLE
+from ngc_tools.operator.session import ALARM
+from ngc_tools.page.able import able
 from ngc_tools.page.band import Standing
 from ngc_tools.page.face import LOOKS
 from ngc_tools.page.session import MOVES, WITHOUT_LINES, PageSession
@@ -21,10 +24,9 @@ from ngc_tools.link.progress import MoveReport, Report
 LOOKED_AT = 3
 """So many things are looked at before anything moves."""
 _IN_MODES = ("unit", "distance", "plane", "system", "feed_mode", "motion")
-_LINES = ("run", "resume", "recover")
-"""The commands that run to the program's end."""
-_CONFIRMED = ("recover", "resume", "release")
-"""What goes from where somebody has told that the motors stand."""
+_LINES = words_that_bring(Brings.PROGRAM)
+_TAKE_UP = words_that_bring(Brings.TAKES_UP)
+_CONFIRMED = words_that_bring(Brings.FROM_TOLD)
 _OLD_S = 0.6
 """A place that was told so long ago isn't shown as the place now, while something is under way."""
 HERE = "here"
@@ -132,7 +134,7 @@ class Pictured:
 
     def _looks(self) -> tuple[str, str, str]:
         """What has to be looked at, by what the player has on, or what was handed out where there is none."""
-        out = self.report.outputs if self.report else outputs_on(self.device.state)
+        out = self.report.outputs if self.report else self.device.state.outputs
         on = on_words(out)
         tool = f"Tool {out.slot} is in the spindle, and it is sound" if out.slot else "The right tool is in, and sound"
         is_own = self.face.question is not None and self.face.question.text == SWITCHED.strip()
@@ -143,12 +145,13 @@ class Pictured:
     def _motors(self) -> dict:
         """Where the motors are, with the outputs as they have them: `ngc` may be ahead of them."""
         report, meter = self.report, self.operator.session.meter
-        out = report.outputs if report else outputs_on(self.device.state)
+        out = report.outputs if report else self.device.state.outputs
+        can = able(self.session, self.status, report, self._machine_said, out, any(self._apart))
         said = {"player": meter is not None, "player_gone": self.stand.gone, "motors": report and report.at.split(),
                 "speed": out.speed / 10**6, "spindle": out.spindle, "mist": out.mist, "flood": out.flood,
                 "slot": out.slot, "selected": out.selected, "most_percents": self.session.most_percents,
                 "homes": self.session.homes,
-                "again": on_words(report.again) if report and report.again else "", "can": self._can(),
+                "again": on_words(report.again) if report and report.again else "", "can": can,
                 "recover": self.stand.recovery,
                 **self._past()}
         if not report or not meter:
@@ -159,20 +162,6 @@ class Pictured:
                        "spindle_percent": report.spindle,
                        "held_motors": report.is_held, "keeps": self.operator.recover.found is not None,
                        "behind_mm": way_nm(report, self.session.settings) / 10**6}
-
-    def _can(self) -> dict:
-        """Which of some buttons do something now."""
-        status, report, session = self.status, self.report, self.session
-        is_there = not session.ended and not self.stand.gone and status.does != "broken"
-        is_there = is_there and not (report and report.word == ALARM)
-        is_on = report is not None and bool(on_words(report.outputs))
-        stands = report is not None and (report.is_held or report.waits or not report.behind
-                                         or report.word == WAITS_SPINDLE)
-        runs = status.does in ("running", "held", "stopped") or self.command is not None and self.command.word in MOVES
-        is_free = status.half == "none" and status.does in ("idle", "stopped") and not session.is_busy
-        return {"stop": is_there and (runs or is_on or report is not None and report.behind > 0),
-                "off": is_there and is_on and stands,
-                "rewind": is_there and is_free and status.place > 0 and bool(self.program.text)}
 
     @property
     def _machine_said(self) -> MoveReport | None:
@@ -251,7 +240,7 @@ class Pictured:
         work = list(map(millimetres, in_force.to_program((x, y, z)))) if is_known else None
         return {"work": work, "stale": self._stale(), "feed": state.feed_nm_per_min / 10**6,
                 "tool_length": millimetres(state.tool_length_nm), "origin": list(map(millimetres, in_force.origin)),
-                "tools": list(map(millimetres, self.device.tools_nm)),
+                "tools": list(map(millimetres, self.device.tools_nm)), "most_slots": SLOTS,
                 **{name: getattr(state, name) for name in _IN_MODES}}
 
     def _stale(self) -> dict | None:
@@ -297,7 +286,7 @@ class Pictured:
         """Whether a command is under way that moves the machine, and nobody has to look or agree first."""
         if self.command is None or self.face.question is not None or self.command.word not in MOVES:
             return False
-        return self.command.word not in ("resume", "recover") or self.face.has_looked
+        return self.command.word not in _TAKE_UP or self.face.has_looked
 
     # in words
 

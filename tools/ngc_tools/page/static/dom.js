@@ -55,3 +55,6 @@ export function lasting(us) {
 export const systemName = number => SYSTEMS[number - 1] ?? '';
 
 export const clock = date => date.toTimeString().slice(0, 8);
+
+// Whether this page commands, and all holds that a command needs.
+export const may = (s, command) => s.yours && s.can[command];

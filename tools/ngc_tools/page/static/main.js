@@ -1,6 +1,6 @@
 // The page: what the server says is shown, what people touch is asked. It decides nothing.
 import { Alarm, isThere } from './alarm.js';
-import { $, el, grouped, lasting, micrometres, mm, point, text, zeroOf } from './dom.js';
+import { $, el, grouped, lasting, may, micrometres, mm, point, text, zeroOf } from './dom.js';
 import { Job, TRAVERSE } from './job.js';
 import { connect, get, hold as asksHold, post } from './link.js';
 import { load } from './loader.js';
@@ -64,9 +64,6 @@ function show(s) {
   }
   if (app.state && app.state.program.id !== s.program.id) letGoOfJob();
   app.state = s;
-  app.isRest = !s.busy && s.half === 'none' && !s.ended && s.yours && !s.player_gone;
-  app.isFree = s.yours && !s.ended && !s.player_gone && !s.alarm && !s.broken; // settings are taken
-  app.isIdle = app.isRest && app.isFree && ['idle', 'stopped'].includes(s.does) && !s.recover?.left;
   alarm.show(s);
   showWords(s);
   showControls(s);
@@ -74,8 +71,8 @@ function show(s) {
   readout.show(s, rate(s, reached));
   const isOfProgram = s.half === 'program' || s.half === 'none' && s.busy && PROGRAM.includes(s.command?.word);
   program.follow(s.line, isOfProgram, s.finished);
-  setup.show(s, app.isIdle && !s.apart.some(Boolean));
-  tools.show(s, app.isIdle, asks);
+  setup.show(s);
+  tools.show(s, may(s, 'tool'), asks);
   log.show(s.log, noticed(s));
   recovery.show(s);
   showQuestion(s);
@@ -105,18 +102,18 @@ function showWords(s) {
 
 function showControls(s) {
   $('takeover').hidden = s.yours;
-  $('load').disabled = !app.isIdle;
-  $('quit').disabled = s.busy || !s.yours || Boolean(quitting?.head.isConnected); // what it opens is open
+  $('load').disabled = !may(s, 'load');
+  $('quit').disabled = !may(s, 'quit') || Boolean(quitting?.head.isConnected); // what it opens is open
   $('restart').hidden = !(s.yours && !s.over && (s.ended || s.broken));
-  $('line').disabled = !(app.isRest && app.isFree && !s.recover?.left);
+  $('line').disabled = !may(s, 'mdi');
   enableDo();
-  $('hold').disabled = Boolean(s.ended);
-  $('stop').disabled = !(s.yours && s.can.stop);
-  $('rewind').hidden = !(s.yours && s.can.rewind);
+  $('hold').disabled = !s.can.hold;
+  $('stop').disabled = !may(s, 'stop');
+  $('rewind').hidden = !may(s, 'rewind');
   showOff(s);
   for (const name of ['single', 'optional', 'delete']) {
     $(name).setAttribute('aria-checked', String(Boolean(s[name])));
-    $(name).disabled = !app.isFree;
+    $(name).disabled = !may(s, name);
   }
   const [says, isEnabled, does] = running(s);
   text($('run'), says);
@@ -129,7 +126,7 @@ function showControls(s) {
 function showOff(s) {
   const on = [s.spindle && 'spindle', (s.mist || s.flood) && 'coolant'].filter(Boolean).join(' and ');
   $('off').hidden = !on || s.player_gone || s.ended;
-  $('off').disabled = !(s.yours && s.can.off);
+  $('off').disabled = !may(s, 'off');
   text($('off'), `${on.charAt(0).toUpperCase()}${on.slice(1)} off`);
 }
 
@@ -145,16 +142,16 @@ function running(s) {
   if (s.question) return ['Answer first', false, null];
   if (isThere(s)) return alarm.button(s);
   const isIn = s.waits_tool ? `Tool ${s.waits_tool} is in` : 'Tool is out';
-  if (s.waits && !s.player_gone) return [isIn, s.yours, () => asks('go')];
+  if (s.waits && !s.player_gone) return [isIn, may(s, 'go'), () => asks('go')];
   if (s.door_open && s.held_by && !isHalf) return ['Close the door', false, null];
-  if (s.busy && s.held_by && s.held_by !== 'here') return ['Go on', s.yours, () => asks('release')];
+  if (s.busy && s.held_by && s.held_by !== 'here') return ['Go on', may(s, 'release'), () => asks('release')];
   if (isHalf) return ['Recover', s.yours && !recovery.isOpen, () => recovery.begin()];
   if (s.player_gone) return ['Run', false, null];
   const isFree = $('over').hidden; // on a sheet something is asked already, perhaps the same
   if (s.recover?.left && !s.busy && s.half === 'none') return ['Recover', s.yours && isFree, takeUpLines];
-  if (s.held_motors && s.behind && s.does !== 'held' && !s.busy) return ['Go on', s.yours, () => asks('release')];
-  if (s.does === 'held') return ['Continue', s.yours && !s.busy, run];
-  const canRun = app.isRest && isFree;
+  if (s.held_motors && s.behind && s.does !== 'held' && !s.busy) return ['Go on', may(s, 'release'), () => asks('release')];
+  if (s.does === 'held') return ['Continue', may(s, 'run'), run];
+  const canRun = may(s, 'run') && isFree;
   if (s.apart.some(Boolean) || isNowhere(s)) return ['Where is it?', canRun, whereIsIt];
   if (s.does === 'stopped') return ['Continue', canRun, () => (s.typed ? goOn(s, 'Continue') : run())];
   if (s.place > 0 && !s.busy) return [`Run from ${s.line}`, canRun && s.known, () => goOn(s, `Run from ${s.line}`)];

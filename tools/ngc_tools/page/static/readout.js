@@ -1,5 +1,5 @@
 // Where the machine is, what turns and flows, how fast it goes: as the motors have it where a player tells it.
-import { $, AXES, el, grouped, lasting, mm, systemName, text } from './dom.js';
+import { $, AXES, el, grouped, lasting, may, mm, systemName, text } from './dom.js';
 
 const TURNS = ['', '\u21bb', '\u21ba'];
 const INCH_MM = 25.4;
@@ -46,9 +46,8 @@ export class Readout {
     this.axes.forEach((axis, i) => this.showAxis(axis, s, i));
     this.fit();
     this.showGauges(s, rate);
-    const isFree = s.yours && !s.player_gone && !s.ended && !s.alarm && !s.broken;
-    this.feed.show(s.has_percent ? s.percent : null, s.most_percents[0], isFree);
-    this.spindle.show(s.spindle_percent ?? null, s.most_percents[1], isFree);
+    this.feed.show(s.has_percent ? s.percent : null, s.most_percents[0], may(s, 'percent'));
+    this.spindle.show(s.spindle_percent ?? null, s.most_percents[1], may(s, 'spindle'));
     this.showRisk(s);
     const words = [systemName(s.system), `G${s.distance}`, `G${s.unit}`, `G${s.plane}`, `G${s.feed_mode}`];
     const length = Number(s.tool_length) ? `  length ${this.length(s.tool_length)} ${this.unit}` : '';

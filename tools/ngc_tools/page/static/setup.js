@@ -1,5 +1,5 @@
 // Setting up: home, jog, the probe, work zero, touch-off, and what becomes of a job whose page is lost.
-import { $, AXES, el, mm, point, systemName, text, typedNumber } from './dom.js';
+import { $, AXES, el, may, mm, point, systemName, text, typedNumber } from './dom.js';
 import { Jog } from './jog.js';
 import { button } from './sheet.js';
 import { means } from './steady.js';
@@ -15,7 +15,7 @@ export class Setup {
     this.homed = el('span');
     this.home = ['', ...AXES].map(axes => button(axes || 'Home all', () => asks('home', { axes })));
     this.touched = el('span');
-    const changed = () => { if (this.shown) this.show(...this.shown); };
+    const changed = () => { if (this.shown) this.show(this.shown); };
     this.within = entry('10', 'How far the probe is sought, in mm', changed);
     this.seeks = SEEKS.map(([axis, sign]) => button(axis + SIGNS[sign], () => this.seek(axis, sign)));
     this.system = el('span');
@@ -46,10 +46,9 @@ export class Setup {
     this.showUnit();
   }
 
-  show(s, isIdle) {
-    this.shown = [s, isIdle];
+  show(s) {
+    this.shown = s;
     const hasMoves = s.machine !== null && s.machine !== undefined, isJogging = s.command?.word === 'jog';
-    const isFree = s.yours && canMove(s), isOff = isFree && !isOn(s);
     for (const name of ['home', 'jog', 'probe']) this.parts[name].hidden = !hasMoves;
     this.parts.home.hidden ||= s.homes === ''; // the machine's file doesn't say how
     text(this.why, hasMoves && !isJogging ? whyNot(s) : '');
@@ -57,18 +56,18 @@ export class Setup {
     text(this.homed, s.homed ? `homed: ${[...s.homed].join(' ')}` : 'not homed');
     text(this.system, systemName(s.system));
     const isHome = i => i === 0 || (s.homes ?? 'XYZ').includes(AXES[i - 1]);
-    this.home.forEach((one, i) => { one.disabled = !isOff || s.busy || !isHome(i); });
+    this.home.forEach((one, i) => { one.disabled = !may(s, 'home') || !isHome(i); });
     this.jog.told = s.press;
-    this.jog.enable(isFree && hasMoves && !s.alarm && (!s.busy || isJogging));
-    this.within.disabled = !isOff || s.busy || Boolean(s.alarm);
+    this.jog.enable(may(s, 'jog'));
+    this.within.disabled = !may(s, 'seek');
     for (const one of this.seeks) one.disabled = this.within.disabled || typed(this.within) === null;
-    for (const one of [this.value, this.byProbe]) one.disabled = !isIdle;
-    for (const one of this.zero) one.disabled = !isIdle || typed(this.value) === null;
+    for (const one of [this.value, this.byProbe]) one.disabled = !may(s, 'zero');
+    for (const one of this.zero) one.disabled = !may(s, 'zero') || typed(this.value) === null;
     text(this.touched, s.touched ? `touched: ${point(s.touched)} mm` : '');
     this.showUsed(s);
-    this.showTool(s, isIdle);
+    this.showTool(s);
     this.undo.hidden = !s.undo;
-    this.undo.disabled = !isIdle;
+    this.undo.disabled = !may(s, 'undo');
     text(this.undo, `Undo: ${s.undo ?? ''}`);
     means(this.undo, this.undo.textContent);
     this.loss.setAttribute('aria-checked', String(s.on_loss === 'go'));
@@ -91,13 +90,13 @@ export class Setup {
           : 'Where the machine stands isn\u2019t known');
   }
 
-  showTool(s, isIdle) {
+  showTool(s) {
     this.slot = s.slot;
     this.needsHeight = s.setter === null || s.setter === undefined;
     this.setter.hidden = !this.needsHeight;
-    this.height.disabled = !isIdle;
+    this.height.disabled = !may(s, 'touch');
     const isHigh = !this.needsHeight || typedNumber(this.height.value) !== null;
-    this.touch.disabled = !isIdle || !s.slot || !isHigh || s.has_probe && !s.touched;
+    this.touch.disabled = !may(s, 'touch') || !s.slot || !isHigh || s.has_probe && !s.touched;
     text(this.touch, s.slot ? `Tool ${s.slot} stands on the setter` : 'No tool is in the spindle');
     means(this.touch, this.touch.textContent);
     this.showLength(s);
@@ -127,19 +126,13 @@ export class Setup {
 
   touchOff() {
     const height = this.needsHeight ? typedNumber(this.height.value) : undefined;
-    this.asks('touch', { slot: this.slot, height, probe: Boolean(this.shown[0].touched) });
+    this.asks('touch', { slot: this.slot, height, probe: Boolean(this.shown.touched) });
   }
 
   probe() { return !this.byProbe.hidden && isChosen(this.byProbe); }
 }
 
 const isOn = s => Boolean(s.spindle || s.mist || s.flood);
-
-// Whether the player takes a move without lines, but for what is busy.
-function canMove(s) {
-  const isAtRest = ['idle', 'stopped'].includes(s.does) && !(s.held_motors && s.behind);
-  return !s.ended && !s.player_gone && !s.door_open && (isAtRest || Boolean(s.alarm) || s.word === 'Broken off');
-}
 
 // Why home, jog and the probe are disabled, where that isn't for what is under way.
 function whyNot(s) {

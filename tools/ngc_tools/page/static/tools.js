@@ -1,27 +1,26 @@
 // The tool table: a length for each slot, which the device keeps.
 import { $, el, mm, typedNumber } from './dom.js';
 
-const MOST_SLOTS = 128;
 let shown = '';
 
 export function show(s, isIdle, asks) {
   const key = JSON.stringify([s.tools, s.slot, isIdle]);
   if (key === shown || document.activeElement?.closest?.('#tab-tools input')) return;
   shown = key;
-  const lengths = [...s.tools, ''].slice(0, MOST_SLOTS);
-  const rows = lengths.map((length, i) => row(i + 1, length, s.slot === i + 1, isIdle, asks));
+  const lengths = [...s.tools, ''].slice(0, s.most_slots);
+  const rows = lengths.map((length, i) => row(i + 1, length, s, isIdle, asks));
   $('tab-tools').replaceChildren(
     el('p', { class: 'hint' }, 'Lengths in mm. A new length counts from the next G43 on. Slots that are passed over '
       + 'get 0, as of a tool that isn\u2019t measured.'), ...rows);
 }
 
-function row(slot, length, isIn, isIdle, asks) {
+function row(slot, length, s, isIdle, asks) {
   const isNew = length === '';
   const input = el('input', { value: isNew ? '' : mm(length).replace('\u2212', '-'), inputMode: 'decimal',
     disabled: !isIdle, placeholder: isNew ? 'a length' : '', 'aria-label': `Length of tool ${slot}` });
   const number = el('input', { value: String(slot), inputMode: 'numeric', disabled: !isIdle,
     'aria-label': 'Number of a new tool' });
-  const typed = () => [isNew ? slotNumber(number.value, slot) : slot, typedNumber(input.value)];
+  const typed = () => [isNew ? slotNumber(number.value, slot, s.most_slots) : slot, typedNumber(input.value)];
   const give = () => {
     const [own, length] = typed();
     for (const one of [input, number]) one.blur();
@@ -37,11 +36,12 @@ function row(slot, length, isIn, isIdle, asks) {
   for (const one of [input, number]) one.addEventListener('input', check);
   input.addEventListener('keydown', event => { if (event.key === 'Enter' && !button.disabled) give(); });
   check();
-  return el('div', { class: `slot ${isIn ? 'in' : ''}` }, isNew ? number : el('b', {}, `T${slot}`), input, button);
+  const isIn = s.slot === slot ? 'in' : '';
+  return el('div', { class: `slot ${isIn}` }, isNew ? number : el('b', {}, `T${slot}`), input, button);
 }
 
 // The number of a slot that isn't in the table yet; null for another one.
-function slotNumber(typed, first) {
+function slotNumber(typed, first, most) {
   const number = /^\s*T?\s*(\d{1,3})\s*$/i.exec(typed)?.[1];
-  return number && number >= first && number <= MOST_SLOTS ? Number(number) : null;
+  return number && number >= first && number <= most ? Number(number) : null;
 }

@@ -1,0 +1,259 @@
+"""The commands of console and page, each once: how it is typed, when it is taken, what it brings about, how a page may
+ask for it, what its button needs, what it does.
+
+The console's dispatch and `help`, what is taken while something runs, in an alarm and before what is left in OUT, what
+a page may ask for and which of its buttons are enabled come from here. docs/TOOLS.md has a row for each."""
+from collections.abc import Callable
+from dataclasses import dataclass
+from enum import Enum, Flag, auto
+from typing import TYPE_CHECKING
+
+from ngc_tools.operator.typed import Typed
+
+if TYPE_CHECKING:
+    from ngc_tools.operator.operator import Operator
+
+_WIDTH = 17  # of a form in `help`
+
+
+class Taken(Flag):
+    """When a command is taken besides at rest."""
+
+    AMID = auto()
+    """While something runs, besides the wish to hold."""
+    PIPED = auto()
+    """So also where it comes from a pipe or a file."""
+    IN_ALARM = auto()
+    BROKEN_OFF = auto()
+    """While the player carries out no more line of this session; so are those that are taken in an alarm."""
+
+
+class Brings(Flag):
+    """What a command brings about."""
+
+    LINES = auto()
+    """The machine moves by lines of OUT."""
+    MOVES = auto()
+    """The player moves it without lines."""
+    HANDS_OUT = auto()
+    """Lines come behind those that stand in OUT: not before these are carried out, or dropped."""
+    PROGRAM = auto()
+    """The program runs, to its end or the next stop."""
+    TAKES_UP = auto()
+    """What a loss of power cut off goes on, once somebody has looked."""
+    FROM_TOLD = auto()
+    """It goes from where somebody has told that the motors stand."""
+    CHOICE = auto()
+    """What is chosen is kept beside the device."""
+    SWITCH = auto()
+    """Something is on or off from then on, and that is all."""
+
+
+class Asked(Enum):
+    """How a page asks for a command."""
+
+    NEVER = auto()
+    GIVEN = auto()
+    """The session's thread does it, and nobody waits."""
+    AWAITED = auto()
+
+
+class Needs(Flag):
+    """What has to hold, by what was told last, so that a page's button does something."""
+
+    SESSION = auto()
+    """`ngc` has not ended."""
+    PLAYER = auto()
+    """The player isn't gone, if there is one."""
+    DEVICE = auto()
+    """It has not failed."""
+    NO_ALARM = auto()
+    CARRIES = auto()
+    """The player carries out lines of this session."""
+    NOT_BUSY = auto()
+    NOTHING_BUT_JOG = auto()
+    """Nothing is under way but a jog."""
+    NOTHING_HALF = auto()
+    """No block is half-done."""
+    NOTHING_BUT_HELD = auto()
+    """No block is half-done but one that is held."""
+    IDLE = auto()
+    """`ngc` is idle or stopped."""
+    NOTHING_LEFT = auto()
+    """No line stands in OUT that no motor carried out, since the last session."""
+    ONE_PLACE = auto()
+    """The motors rest where `ngc` takes them to be."""
+    MAKES_MOVES = auto()
+    """The player makes moves without lines."""
+    TAKES_MOVES = auto()
+    """It takes one now, but for the door, for what is on and for what is under way."""
+    DOOR_SHUT = auto()
+    ALL_OFF = auto()
+    """Spindle and coolant are off."""
+    SOMETHING_ON = auto()
+    MOTORS_STAND = auto()
+    BEGUN = auto()
+    """A program is stored, and its first line is done."""
+    SOMETHING_TO_STOP = auto()
+
+
+_THERE = Needs.SESSION | Needs.PLAYER
+_SOUND = _THERE | Needs.DEVICE | Needs.NO_ALARM
+_WELL = _SOUND | Needs.CARRIES
+_LINE = _WELL | Needs.NOT_BUSY | Needs.NOTHING_HALF | Needs.NOTHING_LEFT
+_SETTING = _LINE | Needs.IDLE
+_TOUCH_OFF = _SETTING | Needs.ONE_PLACE
+_MOVE = _THERE | Needs.MAKES_MOVES | Needs.TAKES_MOVES | Needs.DOOR_SHUT
+_TOWARDS = _MOVE | Needs.ALL_OFF | Needs.NOT_BUSY
+
+
+@dataclass(frozen=True, slots=True)
+class Command:
+    """A command, and its `others`, names that do the same. `forms` are what `help` says, each form with its sentence;
+    nothing where it stands beside another one, or nobody types it. `usage` is said where the words behind it are
+    others."""
+
+    word: str
+    does: Callable[["Operator", Typed], None]
+    forms: tuple[tuple[str, str], ...] = ()
+    others: tuple[str, ...] = ()
+    usage: str = ""
+    taken: Taken = Taken(0)
+    brings: Brings = Brings(0)
+    asked: Asked = Asked.NEVER
+    needs: Needs = Needs(0)
+
+
+def _plain(operator: "Operator", typed: Typed) -> None:
+    operator.plain(typed)
+
+
+_OVERRIDE = {"taken": Taken.AMID | Taken.PIPED, "brings": Brings.CHOICE, "asked": Asked.AWAITED, "needs": _WELL}
+_SWITCH = _OVERRIDE | {"taken": Taken.AMID, "brings": Brings.CHOICE | Brings.SWITCH}
+_OWN_LINES = Brings.LINES | Brings.HANDS_OUT
+_GOES_ON = _OWN_LINES | Brings.PROGRAM
+_TAKES_UP = Brings.LINES | Brings.PROGRAM | Brings.TAKES_UP | Brings.FROM_TOLD
+
+COMMANDS = (
+    Command("load", lambda operator, typed: operator.load_file(typed.rest),
+            (("load FILE", "try a program by a dry run, and store it"),), asked=Asked.AWAITED, needs=_SETTING),
+    Command("run", lambda operator, typed: operator.run(typed),
+            (("run, start", "start it; run goes on with it too"),), brings=_GOES_ON, asked=Asked.GIVEN,
+            needs=_THERE | Needs.NOT_BUSY | Needs.NOTHING_BUT_HELD),
+    Command("start", lambda operator, typed: operator.go_on("start", typed), brings=_GOES_ON),
+    Command("mdi", lambda operator, typed: operator.mdi(typed.rest, typed.anyway),
+            (("G0 X1 ..", "a line of G-code of your own"),), brings=_OWN_LINES, asked=Asked.GIVEN, needs=_LINE),
+    Command("restore", lambda operator, _: operator.restore(),
+            (("restore", "put back what lines of your own left in force"),), brings=_OWN_LINES, asked=Asked.GIVEN,
+            needs=_LINE),
+    Command("home", lambda operator, typed: operator.moves.home(typed.rest),
+            (("home, home X Z", "to the switches; then ngc knows where the machine is"),),
+            usage="home, or home X Z: these axes alone", taken=Taken.IN_ALARM, brings=Brings.MOVES, asked=Asked.GIVEN,
+            needs=_TOWARDS),
+    Command("jog", lambda operator, typed: operator.jog(typed.rest),
+            (("jog", "by the arrow keys, at a terminal"), ("jog X+ 600 for 10", "at 600 mm a minute, by 10 mm")),
+            usage="jog X+ RATE for MM: at a rate in mm a minute, as jog X+ 600 for 10; jog alone: by keys, at a"
+            " terminal", taken=Taken.BROKEN_OFF, brings=Brings.MOVES, asked=Asked.GIVEN,
+            needs=_MOVE | Needs.NO_ALARM | Needs.NOTHING_BUT_JOG),
+    Command("seek", lambda operator, typed: operator.moves.seek(typed.rest),
+            (("seek Z- 60 within 10", "until the probe is on, at most 10 mm"),),
+            usage="seek Z- RATE within MM: until the probe is on, as seek Z- 60 within 10", taken=Taken.BROKEN_OFF,
+            brings=Brings.MOVES, asked=Asked.GIVEN, needs=_TOWARDS | Needs.NO_ALARM),
+    Command("zero", lambda operator, typed: operator.touch.zero(typed.rest, typed.anyway),
+            (("zero X Y Z", "here is X0, Y0, Z0 of the work; zero Z 10: here is Z10"),),
+            usage="zero X Y Z: which axes are 0 here? zero Z 10 for another coordinate than 0",
+            brings=Brings.HANDS_OUT, asked=Asked.GIVEN, needs=_TOUCH_OFF),
+    Command("touch", lambda operator, typed: operator.touch.tool(typed.rest, typed.anyway),
+            (("touch tool N", "slot N has the length of the tool on the setter"),
+             ("probe", "behind zero and touch: where it was touched")),
+            usage="touch tool N: which slot's tool stands on the setter? touch tool 3, or touch tool 3 HEIGHT",
+            asked=Asked.GIVEN, needs=_TOUCH_OFF),
+    Command("undo", lambda operator, _: operator.touch.undo(),
+            (("undo", "put back what zero or touch set last"),), brings=Brings.HANDS_OUT, asked=Asked.GIVEN,
+            needs=_TOUCH_OFF),
+    Command("hold", lambda operator, typed: operator.hold_all(typed),
+            (("hold", "Enter or Ctrl-C while something runs"),), taken=Taken.BROKEN_OFF, needs=Needs.SESSION),
+    Command("stop", lambda operator, _: operator.stopping.stop(),
+            (("stop", "end the job: spindle and coolant off, then lines, jog\nand home are taken"),),
+            taken=Taken.BROKEN_OFF, asked=Asked.GIVEN, needs=_SOUND | Needs.SOMETHING_TO_STOP),
+    Command("off", lambda operator, _: operator.stopping.off(),
+            (("off", "spindle and coolant off, while the motors stand"),), taken=Taken.AMID | Taken.BROKEN_OFF,
+            asked=Asked.AWAITED, needs=_SOUND | Needs.SOMETHING_ON | Needs.MOTORS_STAND),
+    Command("rewind", lambda operator, _: operator.rewind(),
+            (("rewind", "the stored program from its first line"),), asked=Asked.AWAITED,
+            needs=_SOUND | Needs.NOT_BUSY | Needs.NOTHING_HALF | Needs.IDLE | Needs.BEGUN),
+    Command("release", lambda operator, _: operator.release(),
+            (("release", "lets held motors carry out what is in hand"),), taken=Taken.AMID,
+            brings=Brings.LINES | Brings.FROM_TOLD, asked=Asked.GIVEN, needs=Needs.SESSION),
+    Command("percent", lambda operator, typed: operator.motors.override("percent", typed.rest),
+            (("percent N", "go at N % of the rates; - and + are 10 %\nless and more, 0 is 100 %"),), **_OVERRIDE),
+    Command("spindle", lambda operator, typed: operator.motors.spindle(typed.rest),
+            (("spindle percent N", "the spindle turns at N % of the program's speed"),), **_OVERRIDE),
+    Command("where", lambda operator, _: operator.where(),
+            (("where, status", "machine and work, the line, the times, the motors"),), taken=Taken.IN_ALARM),
+    Command("status", lambda operator, _: operator.status(), taken=Taken.IN_ALARM),
+    Command("continue", lambda operator, typed: operator.go_on("continue", typed),
+            (("continue", "go on with what was held or stopped"),), brings=_GOES_ON),
+    Command("reference", lambda operator, typed: operator.reference(typed),
+            (("reference X Y Z", "the machine stands there, in mm"),
+             ("reference player", "the machine stands where the player says")),
+            taken=Taken.IN_ALARM | Taken.BROKEN_OFF, asked=Asked.AWAITED, needs=_THERE | Needs.NOT_BUSY),
+    Command("tool", lambda operator, typed: operator.tool(typed),
+            (("tool N LENGTH", "a tool's length, in mm"),), asked=Asked.AWAITED, needs=_SETTING),
+    Command("rehearse", lambda operator, typed: operator.rehearse(typed.rest),
+            (("rehearse", "what resume would do, or start; nothing moves"),), asked=Asked.AWAITED,
+            needs=Needs.SESSION),
+    Command("recover", lambda operator, _: operator.bring_back(),
+            (("recover", "after a loss of power, OUT being a file: back, or on,\nto where the half-done segment begins;"
+              " resume"),), brings=_TAKES_UP, asked=Asked.GIVEN,
+            needs=_THERE | Needs.NOT_BUSY),
+    Command("drop", lambda operator, _: operator.drop(),
+            (("drop", "cut lines off OUT that no motor carried out"),), asked=Asked.GIVEN,
+            needs=_THERE | Needs.NOT_BUSY),
+    Command("resume", lambda operator, typed: operator.resume(typed),
+            (("resume, abandon", "take a half-done block up, give it up"),
+             ("anyway", "after run, resume and others, before a line: do it\nwhatever the player says")),
+            brings=_TAKES_UP | Brings.HANDS_OUT, asked=Asked.GIVEN, needs=_THERE | Needs.NOT_BUSY),
+    Command("abandon", _plain, asked=Asked.AWAITED, needs=_THERE | Needs.NOT_BUSY),
+    Command("go", lambda operator, _: operator.tell_go(),
+            (("go", "tells the player that the tool is in"),), taken=Taken.AMID, asked=Asked.AWAITED, needs=_THERE),
+    Command("single", lambda operator, typed: operator.set_single(typed.rest),
+            (("single on, off", "hold after each line"),), **_SWITCH),
+    Command("optional", _plain, (("optional on, off", "stop at M1"),), **_SWITCH),
+    Command("delete", _plain, (("delete on, off", "leave out lines with a slash"),), **_SWITCH),
+    Command("quit", lambda operator, _: operator.quit(),
+            (("quit", "end; Ctrl-D too"),), ("exit",), taken=Taken.IN_ALARM, asked=Asked.GIVEN, needs=Needs.NOT_BUSY),
+    Command("help", lambda operator, _: operator.face.say(help_text()),
+            (("help", "this"),), ("?",), taken=Taken.IN_ALARM),
+    Command("tick", lambda operator, _: operator.face.say(
+        "ticks are given by run, continue, resume and a line of G-code, in small counts")),
+)
+"""In the order of `help`."""
+
+BY_WORD = {word: command for command in COMMANDS for word in (command.word, *command.others)}
+
+
+def is_taken(word: str, when: Taken) -> bool:
+    """Whether a word is a command that is taken then, in any of these cases."""
+    return word in BY_WORD and bool(BY_WORD[word].taken & when)
+
+
+def words_that_bring(what: Brings) -> frozenset[str]:
+    """The commands that bring about any of these."""
+    return frozenset(word for word, command in BY_WORD.items() if command.brings & what)
+
+
+def words_taken(when: Taken) -> frozenset[str]:
+    """The commands that are taken in any of these cases."""
+    return frozenset(word for word in BY_WORD if is_taken(word, when))
+
+
+def help_text() -> str:
+    """What `help` says: each form in a line or two."""
+    return "\n".join(_help_line(form, says) for command in COMMANDS for form, says in command.forms)
+
+
+def _help_line(form: str, says: str) -> str:
+    first, *rest = says.split("\n")
+    gap = "  " if len(form) <= _WIDTH else "   "
+    return "\n".join([f"{form:{_WIDTH}}{gap}{first}", *(" " * (_WIDTH + 2) + line for line in rest)])

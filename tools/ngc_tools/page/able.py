@@ -1,0 +1,64 @@
+"""Which commands do something now: what each of them needs, beside how all stands. Buttons are enabled by it."""
+from ngc_tools.formats.out import Switch
+from ngc_tools.ngc.console import Status
+from ngc_tools.operator.commands import COMMANDS, Asked, Needs
+from ngc_tools.operator.display import on_words
+from ngc_tools.operator.session import ALARM, BROKEN, WAITS_SPINDLE
+from ngc_tools.page.session import MOVES, PageSession
+from ngc_tools.link.progress import MoveReport, Report
+
+
+def able(session: PageSession, status: Status, report: Report | None, machine: MoveReport | None, outputs: Switch,
+         is_apart: bool) -> dict[str, bool]:
+    """Of each command that a page may ask for, and of `hold`, whether all holds that it needs. `machine` is what the
+    player says of moves without lines, None where it makes none; `outputs` are those that are shown; `is_apart` says
+    that the motors rest elsewhere than `ngc` takes them to be."""
+    holds = (_of_session(session) | _of_ngc(status) | _of_player(session, status, report) |
+             _of_moves(session, status, report, machine, outputs))
+    if not is_apart:
+        holds |= Needs.ONE_PLACE
+    if session.operator.session.program.text and status.place > 0:
+        holds |= Needs.BEGUN
+    return {command.word: command.needs in holds for command in COMMANDS
+            if command.asked is not Asked.NEVER or command.word == "hold"}
+
+
+def _those(**holding: bool) -> Needs:
+    """Those of which something is true."""
+    found = Needs(0)
+    for name, is_so in holding.items():
+        found |= Needs[name] if is_so else Needs(0)
+    return found
+
+
+def _of_session(session: PageSession) -> Needs:
+    stand, under = session.stand, session.under
+    return _those(SESSION=not session.ended, PLAYER=not stand.gone, CARRIES=not stand.is_broken,
+                  NOT_BUSY=not session.is_busy,
+                  NOTHING_BUT_JOG=not session.is_busy or under is not None and under.word == "jog",
+                  NOTHING_LEFT=not (stand.recovery and stand.recovery["left"]))
+
+
+def _of_ngc(status: Status) -> Needs:
+    is_whole = status.half == "none"
+    return _those(DEVICE=status.does != "broken", NOTHING_HALF=is_whole, IDLE=status.does in ("idle", "stopped"),
+                  NOTHING_BUT_HELD=is_whole or status.does == "held")
+
+
+def _of_player(session: PageSession, status: Status, report: Report | None) -> Needs:
+    is_on = report is not None and bool(on_words(report.outputs))
+    stands = report is not None and (report.is_held or report.waits or not report.behind
+                                     or report.word == WAITS_SPINDLE)
+    runs = status.does in ("running", "held", "stopped") or session.under is not None and session.under.word in MOVES
+    return _those(SOMETHING_ON=is_on, MOTORS_STAND=stands,
+                  SOMETHING_TO_STOP=runs or is_on or report is not None and report.behind > 0)
+
+
+def _of_moves(session: PageSession, status: Status, report: Report | None, machine: MoveReport | None,
+              outputs: Switch) -> Needs:
+    has_rest = report is not None and report.is_held and report.behind > 0
+    is_alarm = report is not None and report.word == ALARM or machine is not None and bool(machine.alarm)
+    is_broken_off = report is not None and report.word == BROKEN and status.does != "broken"
+    takes = status.does in ("idle", "stopped") and not has_rest or is_alarm or is_broken_off
+    return _those(NO_ALARM=not is_alarm, MAKES_MOVES=machine is not None, TAKES_MOVES=takes,
+                  DOOR_SHUT=not session.operator.session.is_door_open, ALL_OFF=not on_words(outputs))

@@ -1,0 +1,190 @@
+"""The table of commands, beside the pages that tell of them, the page that asks for them, and what their buttons need.
+"""
+import re
+import sys
+import unittest
+from dataclasses import dataclass, field, replace
+from pathlib import Path
+from types import SimpleNamespace
+
+sys.path.insert(0, str(Path(__file__).resolve().parent))
+
+from session_support import TOOLS
+
+from ngc_tools.formats.out import OFF, Switch
+from ngc_tools.link.progress import MoveReport, Report
+from ngc_tools.ngc.commands import FORMS
+from ngc_tools.ngc.console import Status
+from ngc_tools.operator.commands import BY_WORD, COMMANDS, Asked, Taken, help_text, words_taken
+from ngc_tools.operator.face import is_aside, is_override
+from ngc_tools.page.able import able
+from ngc_tools.page.deeds import DEEDS, SWITCHES, WAITING
+
+PAGE = (TOOLS.parent / "docs" / "TOOLS.md").read_text().partition("## ngc-operate: ")[2].partition("\n## ")[0]
+STATIC = TOOLS / "ngc_tools" / "page" / "static"
+UNSAID = {"mdi", "tick", "exit", "?"}
+"""Commands that nobody types, and other names."""
+
+
+def cited(text: str) -> list[str]:
+    """The words at which what is cited in a text begins."""
+    return [cited.split()[0] for cited in re.findall("`([^`]+)`", text)]
+
+
+class Pages(unittest.TestCase):
+    """What the pages say of commands."""
+
+    def test_tools(self) -> None:
+        """TOOLS.md has a row for each command, and none for others."""
+        rows = re.findall(r"^\| ([^|]*) \|", PAGE.partition("| Typed |")[2], re.MULTILINE)
+        first = {word for row in rows for word in cited(row) if word[0].isalpha() and word.islower()}
+        self.assertEqual(first - {"anyway"}, BY_WORD.keys() - UNSAID)
+
+    def test_help(self) -> None:
+        """So has what `help` says, and no line of it is longer than a terminal of old."""
+        forms = [form for command in COMMANDS for form, _ in command.forms]
+        words = {part.split()[0] for form in forms for part in form.split(", ") if part.islower() or " " in part}
+        self.assertEqual(words - {"anyway", "probe", "G0"}, BY_WORD.keys() - UNSAID)
+        self.assertTrue(all(re.search(rf"(?m)^{re.escape(form)}  ", help_text()) for form in forms))
+        self.assertLessEqual(max(map(len, help_text().splitlines())), 78)
+
+    def test_session(self) -> None:
+        """A console takes what `ngc run` takes, by the same words."""
+        self.assertEqual({form.word for form in FORMS} - BY_WORD.keys(), set())
+
+    def test_while_something_runs(self) -> None:
+        """What TOOLS.md says is taken then, and of a pipe or a file."""
+        said = re.search(r"While something runs, ([^|]*?) are taken, each with Enter; of a pipe or a file the first five",
+                         PAGE.replace("\n", " "))
+        words = cited(said[1].replace("the switches", " ".join(f"`{name} on`" for name in sorted(SWITCHES))))
+        self.assertEqual({word for word in words if word[0].isalpha()}, words_taken(Taken.AMID))
+        self.assertTrue(all(map(is_aside, words)))
+        self.assertEqual([is_override(word) for word in words], [True] * 5 + [False] * (len(words) - 5))
+        self.assertFalse(is_aside("stop") or is_aside("G0 X1") or is_override("go"))
+
+    def test_in_an_alarm(self) -> None:
+        """What TOOLS.md says is taken in an alarm."""
+        said = re.search(r"nothing but (.*?) is taken until the machine is homed\. (.*?) Lines that were",
+                         PAGE.replace("\n", " "))
+        words = set(cited(said[1])) | set(cited(said[2])) & {"reference"}
+        self.assertEqual(words | {"exit", "?"}, words_taken(Taken.IN_ALARM))
+
+
+class Asks(unittest.TestCase):
+    """What the page asks for."""
+
+    SERVERS = {"hold", "beat", "takeover", "checking"}
+    """What the server does itself."""
+
+    def test_deeds(self) -> None:
+        """Each command that a page may ask for is a deed, or a switch, and none else is; it waits where that is said.
+        """
+        asked = {command.word for command in COMMANDS if command.asked is not Asked.NEVER}
+        self.assertEqual(asked - DEEDS.keys(), SWITCHES)
+        self.assertEqual(DEEDS.keys() - asked, {"stands", "switch", "answer", "jogstop", "loss", "restart"})
+        self.assertEqual(WAITING - {"stands", "switch", "restart"},
+                         {command.word for command in COMMANDS if command.asked is Asked.AWAITED} - SWITCHES)
+        self.assertEqual(SWITCHES, {"single", "optional", "delete"})
+
+    def test_scripts(self) -> None:
+        """What the scripts of the page ask for is done, and what enables their buttons is told."""
+        text = "\n".join(path.read_text() for path in sorted(STATIC.glob("*.js")))
+        asked = set(re.findall(r"\b(?:asks|post)\('(\w+)'", text))
+        self.assertEqual(asked - DEEDS.keys(), self.SERVERS)
+        enabled = set(re.findall(r"\bmay\(s, '(\w+)'\)", text)) | set(re.findall(r"\bs\.can\.(\w+)", text))
+        self.assertGreater(len(enabled), 12)
+        self.assertEqual(enabled - told(Standing()).keys(), set())
+
+
+@dataclass
+class Standing:
+    """How all stands in a test: at rest, with a player that makes moves, and a program whose first line is done."""
+
+    status: Status = field(default_factory=lambda: Status(7, 20, ("0", "0", "0"), True, "none", 0, "idle"))
+    report: Report | None = field(default_factory=lambda: Report(9, 9, False, "0 0 0", "out", OFF, wants=100))
+    machine: MoveReport | None = field(default_factory=lambda: MoveReport("stands"))
+    ended: str = ""
+    gone: str = ""
+    under: str = ""
+    has_left: bool = False
+    is_door_open: bool = False
+    is_apart: bool = False
+
+
+def told(standing: Standing) -> dict[str, bool]:
+    """What the page is told of its buttons."""
+    report, status = standing.report, standing.status
+    is_broken = bool(standing.gone) or report is not None and report.word == "broken" or status.does == "broken"
+    stand = SimpleNamespace(gone=standing.gone, is_broken=is_broken, recovery={"left": standing.has_left})
+    inner = SimpleNamespace(program=SimpleNamespace(text=b"M2\n"), is_door_open=standing.is_door_open)
+    session = SimpleNamespace(ended=standing.ended, stand=stand, is_busy=bool(standing.under),
+                              under=SimpleNamespace(word=standing.under) if standing.under else None,
+                              operator=SimpleNamespace(session=inner))
+    return able(session, status, report, standing.machine, report.outputs if report else OFF, standing.is_apart)
+
+
+class Buttons(unittest.TestCase):
+    """Which buttons are enabled."""
+
+    SETTING_UP = {"load", "mdi", "tool", "zero", "touch", "undo", "restore"}
+    MOVES = {"home", "jog", "seek"}
+    ALWAYS = {"hold", "release", "rehearse"}
+    CHOICES = {"single", "optional", "delete", "percent", "spindle"}
+
+    def check(self, standing: Standing, *enabled: set[str]) -> None:
+        """These and no others are."""
+        self.assertEqual({word for word, is_so in told(standing).items() if is_so}, set().union(*enabled))
+
+    def test_at_rest(self) -> None:
+        """All but what there is nothing for; on the first line there is nothing to rewind."""
+        going = {"run", "go", "reference", "resume", "recover", "drop", "abandon", "quit", "rewind"}
+        self.check(Standing(), self.ALWAYS, self.CHOICES, self.SETTING_UP, self.MOVES, going)
+        first = Standing()
+        first.status = replace(first.status, place=0)
+        self.check(first, self.ALWAYS, self.CHOICES, self.SETTING_UP, self.MOVES, going - {"rewind"})
+        self.assertFalse(told(Standing(is_apart=True))["zero"])
+        self.assertTrue(told(Standing(is_apart=True))["load"])
+
+    def test_while_it_runs(self) -> None:
+        """What is taken meanwhile; a jog goes on by its own button."""
+        runs = Standing(under="run")
+        runs.status = replace(runs.status, does="running", half="program")
+        runs.report = replace(runs.report, received=12, outputs=Switch(1, 5, False, False, 0, 0))
+        self.check(runs, self.ALWAYS, self.CHOICES, {"stop", "go"})
+        self.check(Standing(under="jog"), self.ALWAYS, self.CHOICES, {"stop", "go", "jog"})
+
+    def test_held(self) -> None:
+        """Within a block: it goes on, is ended, or its outputs go off."""
+        held = Standing()
+        held.status = replace(held.status, does="held", half="program")
+        held.report = replace(held.report, received=12, is_held=True, outputs=Switch(1, 5, False, False, 0, 0))
+        self.check(held, self.ALWAYS, self.CHOICES, {"run", "stop", "off", "go", "quit", "reference", "resume",
+                                                     "recover", "drop", "abandon"})
+
+    def test_alarm(self) -> None:
+        """Home comes first, and a place may be told."""
+        alarm = Standing(machine=MoveReport("stands", alarm="limits"))
+        alarm.report = replace(alarm.report, word="alarm")
+        self.check(alarm, self.ALWAYS, {"home", "run", "go", "reference", "resume", "recover", "drop", "abandon",
+                                        "quit"})
+
+    def test_moves(self) -> None:
+        """None while the door is open, none but a jog while something turns, none of a player that makes none."""
+        for standing, enabled in ((Standing(is_door_open=True), set()), (Standing(machine=None), set()),
+                                  (Standing(report=replace(Standing().report, outputs=Switch(1, 5, False, False, 0, 0))),
+                                   {"jog"})):
+            found = told(standing)
+            self.assertEqual({word for word in self.MOVES if found[word]}, enabled)
+
+    def test_nothing_there(self) -> None:
+        """Once `ngc` has ended, its player is gone, its device failed, or lines are left in OUT."""
+        self.check(Standing(ended="ngc ended"), {"quit"})
+        self.check(Standing(gone="no player"), self.ALWAYS, {"quit"})
+        broken = Standing()
+        broken.status = replace(broken.status, does="broken")
+        self.assertFalse(any(told(broken)[word] for word in self.SETTING_UP | self.CHOICES | {"off", "stop", "rewind"}))
+        self.assertFalse(any(told(Standing(has_left=True))[word] for word in self.SETTING_UP))
+
+
+if __name__ == "__main__":
+    unittest.main()
