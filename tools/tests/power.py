@@ -78,12 +78,23 @@ def try_plant(tools: Tools, plant: str, seed: int) -> str:
     return ""
 
 
+JOG_STEPS = 100
+"""How far the person jogs at a stop, up along X; and back."""
+
+
+def typed_x(stands: int, wanted: int) -> int:
+    """Where a line leads that is typed at a stop, in steps of X: there, but where no jog from the stop leads, also one
+    that is cut. Nothing but the place tells in the device's status whether the line was done."""
+    return wanted + (JOG_STEPS + 10) * (0 <= wanted - stands <= JOG_STEPS)
+
+
 def program(chance: random.Random, blocks: int) -> tuple[bytes, list[bytes]]:
     """Short moves, arcs, cycles, waits, switches, tools, traverses and stops, by chance; and what is typed at these."""
     typed: list[bytes] = []
     lines, x, y = ["G17 G21 G40 G49 G54 G80 G90 G94", "M3 S1000", "G0 Z0.1", "G1 Z-0.1 F1200"], 0, 0
+    stands = 0  # in steps of X
     for _ in range(blocks):
-        x, y = x + chance.randint(-6, 9), y + chance.randint(-6, 9)
+        before, x, y = len(lines), x + chance.randint(-6, 9), y + chance.randint(-6, 9)
         at = f"X{x / 100:.2f} Y{y / 100:.2f}"
         lines += chance.choice((
             [f"G1 {at}"], [f"G1 {at} F{chance.choice((600, 900, 1200))}"], [f"G1 {at}", f"G3 {at} I0.03 J0"],
@@ -91,8 +102,10 @@ def program(chance: random.Random, blocks: int) -> tuple[bytes, list[bytes]]:
             ["G0 Z0.2", f"G82 {at} Z-0.15 R0.1 P0.003", "G80", "G1 Z-0.1"],
             ["G0 Z0.3", f"G83 {at} Z-0.2 R0.1 Q0.1", "G80", "G1 Z-0.1"],
             ["G0 Z0.2", f"G0 {at}", "G1 Z-0.1"], ["G0 Z0.2", "T1 M6", "G1 Z-0.1"], ["G0 Z0.2", "M0", "G1 Z-0.1"]))
+        stands = 10 * x if any(" X" in line for line in lines[before:]) else stands
         if lines[-2:-1] == ["M0"]:
-            typed.append(b"G1 X%.3f" % (chance.randint(-9, 9) / 100 + 0.005))  # where no jog leads
+            stands = typed_x(stands, 10 * chance.randint(-9, 9) + 5)
+            typed.append(b"G1 X%.3f" % (stands / 1000))
     return "".join(line + "\n" for line in [*lines, "G0 Z0.3", "G0 X0 Y0", "M2"]).encode(), typed
 
 

@@ -5,6 +5,8 @@ import sys
 import unittest
 from dataclasses import replace
 from pathlib import Path
+from types import SimpleNamespace
+from unittest.mock import patch
 
 sys.path.insert(0, str(Path(__file__).resolve().parent))
 
@@ -17,6 +19,7 @@ from ngc_tools.cli.keys import TerminalKeys
 from ngc_tools.formats.position import Position
 from ngc_tools.ngc.carried import CannotTell
 from ngc_tools.ngc.handed_out import Finder, FileRecord
+from ngc_tools.link.progress import Report
 from ngc_tools.operator import jog_keys
 
 HOMED = "-298.000000 -198.000000 -2.000000"
@@ -186,6 +189,25 @@ class Moves(Core):
             self.assertIn(said, self.do(f"G0 X{x}"))
             self.assertEqual((self.status().at[0], released[:1]), (f"{x}00000", [True]))
             released.clear()
+
+    def test_waits_still(self) -> None:
+        """Of a player that works, and carries nothing out, that is said once after a while; a wish to hold ends it."""
+        self.begin(self.link)
+        before, asked = self.link.ask, []
+        self.link.lazy = True
+
+        def ask() -> Report:
+            """The clock goes on by a second at each question."""
+            asked.append(1.0)
+            return before()
+
+        self.link.ask = ask
+        self.hold_after(60)
+        with patch("ngc_tools.operator.work.time", SimpleNamespace(monotonic=lambda: float(len(asked)))):
+            said = self.do("G0 X0.3")
+        self.assertGreater(len(asked), 40)
+        self.assertEqual([text for text in said if "carried no line out" in text],
+                         ["the player has carried no line out for 10 s, as in a dwell. Enter or Ctrl-C holds"])
 
     def test_half_done(self) -> None:
         """Over a half-done block too; `recover` is still for what the last session left."""

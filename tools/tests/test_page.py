@@ -867,11 +867,13 @@ class Bands(unittest.TestCase):
             self.assertEqual(standing.band(), ("Tool change", "ask", f"Put in tool 2{more}"))
 
     def test_way_that_was_held(self) -> None:
-        """On a way of recover that was held the band names the button that goes on with it."""
-        for left, says in ((True, "Recover goes on with the way that was held"),
-                           (False, "Go on carries out what was handed out")):
+        """On a way of recover that was held the band names the button that goes on with it; where lines of the last
+        session are in hand, those that lead on."""
+        in_hand = "Recover has them carry out 7 lines in hand first; Stop lets go of these"
+        for left, sent, says in ((True, True, "Recover goes on with the way that was held"), (True, False, in_hand),
+                                 (False, False, "Go on carries out what was handed out")):
             operator = SimpleNamespace(session=SimpleNamespace(is_door_open=False))
-            stand = SimpleNamespace(gone="", recovery={"left": left})
+            stand = SimpleNamespace(gone="", recovery={"left": left, "sent": sent})
             session = SimpleNamespace(ended="", stand=stand, face=PageFace(), operator=operator, under=None)
             report = SimpleNamespace(word="works", waits=False, behind=7, is_held=True)
             status = Status(3, 0, ("0", "0", "0"), True, "none", 0, "idle")
@@ -1053,7 +1055,8 @@ class Shown(unittest.TestCase):
 
     def test_stale(self) -> None:
         """A place that wasn't known before isn't one that was known last, once the player is gone; nor is one that
-        another player says as another session begins. What was said before that is."""
+        another player says as another session begins. What was said before that is, but where the player had it by its
+        record alone."""
         for word, is_known, begins_at, why in (
                 ("works", True, None, "player"), ("works", False, None, "power"), ("alarm", True, None, "alarm"),
                 ("works", True, 4.5, "power"), ("works", True, 5.5, "player")):
@@ -1063,7 +1066,10 @@ class Shown(unittest.TestCase):
             pictured.status = replace(pictured.status, known=is_known)
             pictured.stand.gone = "it is gone"
             pictured.session.ended, pictured.session.opened = "", SimpleNamespace(left_at=4.0)
-            self.assertEqual(pictured._stale()["why"], why)
+            for axes in ("", "XY"):
+                pictured.session.past, pictured.session.past_mm, pictured.session.past_axes = "of a record", "0.4", axes
+                stale = pictured._stale()
+                self.assertEqual((stale["why"], stale.get("by_record", False)), (why, why == "player" and axes != ""))
 
     def test_two_places(self) -> None:
         """Where the motors rest elsewhere than the last line ended, their place isn't told as known while something is
@@ -1083,8 +1089,10 @@ class Shown(unittest.TestCase):
         player, or this computer, stands still for a second."""
         pictured = self.pictured("run")
         pictured.session.begins_at, pictured.session.ended, pictured.report.word = None, "", "works"
+        pictured.session.past = pictured.session.past_mm = pictured.session.past_axes = ""
         view, now = UnderWay("line 1", pictured.status, ""), time.time()
-        for shown, at, stale in ((view, now - 1, {"why": "player", "at": now - 1}), (view, now, None),
+        old = {"why": "player", "at": now - 1, "by_record": False}
+        for shown, at, stale in ((view, now - 1, old), (view, now, None),
                                  (None, now - 1, None), (view, 0.0, None)):
             pictured.face = SimpleNamespace(reported_at=at, view=shown)
             self.assertEqual(pictured._stale(), stale, (shown, now - at))

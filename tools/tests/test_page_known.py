@@ -34,6 +34,15 @@ M2
 """Tool 2 comes in its line 6."""
 
 
+def child_of(parent: int, program_path: str) -> int:
+    """The process of a program that another one started."""
+    for path in Path(f"/proc/{parent}/task").glob("*/children"):
+        for pid in path.read_text().split():
+            if Path(f"/proc/{pid}/exe").resolve() == Path(program_path).resolve():
+                return int(pid)
+    raise AssertionError(f"{parent} started no {program_path}")
+
+
 class Known(Served):
     """The page, told by requests."""
 
@@ -196,6 +205,95 @@ class Known(Served):
         self.assertGreater(float(state["motors"][0]), 1)
         self.assertEqual((state["work"][0], state["slot"], state["stale"]["why"]), (state["motors"][0], 0, "player"))
         self.assertLess(state["now"] - state["stale"]["at"], 30)
+
+    def test_gone_before_it_is_told(self) -> None:
+        """A player that began again by its record alone, and is gone before anybody told where the motors are: its
+        place is shown with how far the record may be off, and not as one that was known."""
+        page = self.page()
+        page.post("jog", {"axis": "X", "sign": 1, "rate": "600", "length": "9"})
+        page.until("it jogs", lambda state: float(state["motors"][0]) > 1)
+        self.wait_for("the record has it", lambda: self.recorded().at_nm[0] > 0)
+        self.pull()
+        self.begin()
+        page = self.page(OTHER)
+        page.until("two places are told", lambda state: state["word"] == "Two places")
+        os.kill(self.player.pid, signal.SIGKILL)
+        state = page.until("it is gone", lambda state: state["player_gone"])
+        self.assertEqual((state["stale"]["why"], state["stale"]["by_record"]), ("player", True))
+        self.assertGreater(float(state["past_mm"]), 0)
+
+    def test_counted_over_a_stop(self) -> None:
+        """A player that goes on with another session has counted all along: nothing is by a record."""
+        page = self.page()
+        self.runs(page, CUT, 0.1)
+        self.assertEqual(page.post("stop"), (200, {}))
+        state = page.asked()
+        page.post("answer", {"question": state["question"]["id"], "yes": False})
+        state = page.until("it is kept", lambda state: not state["busy"] and state["half"] == "program"
+                           and not state["held_motors"])
+        self.assertEqual((state["past_mm"], state["past_axes"]), ("", [False] * 3))
+        os.kill(self.player.pid, signal.SIGKILL)
+        state = page.until("it is gone", lambda state: state["player_gone"])
+        self.assertFalse(state["stale"].get("by_record"))
+
+    def test_given_up(self) -> None:
+        """Power is lost in a cut, and the line is given up while lines of it stand in OUT: the buttons that are shown
+        then lead on. Recover goes to where it began, ngc is told so, and it is cut from there."""
+        page = self.page()
+        self.runs(page, CUT, 0.5)
+        self.wait_for("the record has it", lambda: self.recorded().at_nm[0] > 0)
+        self.pull()
+        self.begin()
+        page = self.page(OTHER)
+        state = page.until("it is half-done", lambda state: state["half"] == "program" and state["recover"])
+        self.assertEqual(page.post("reference", {"at": state["motors"], "anyway": True}), (200, {"refused": ""}))
+        self.assertEqual(page.post("abandon"), (200, {}))
+        state = page.until("it is given up", lambda state: state["half"] == "none" and not state["busy"])
+        self.assertEqual((state["word"], state["recover"]["left"]), ("Lines left", True))
+        self.assertEqual(page.post("recover", {"at": state["motors"]}), (200, {}))
+        page.agree(page.asked())
+        state = page.until("it is there", lambda state: not state["busy"] and not state["recover"]["left"])
+        self.assertEqual((state["word"], state["detail"], state["motors"], state["at"], state["apart"], state["known"]),
+                         ("Idle", "Next is line 3 of 4", ["0.000000"] * 3, ["0.000000"] * 3, [False] * 3, True))
+        self.assertEqual(Path("out").read_bytes(), b"")
+
+    def test_given_up_in_hand(self) -> None:
+        """`ngc` is gone while a cut is held, and its line is given up with lines in hand: the band names what leads on,
+        and Stop lets go of them."""
+        page = self.page()
+        self.runs(page, CUT, 0.5)
+        page.post("hold")
+        held = self.stopped(page)
+        os.kill(child_of(self.server.pid, ngc()), signal.SIGKILL)
+        page.until("it is told", lambda state: state["ended"])
+        self.assertEqual(page.post("restart"), (200, {}))
+        page.until("it is half-done", lambda state: state["half"] == "program" and not state["ended"])
+        page.post("reference", {"at": held["motors"], "anyway": True})
+        self.assertEqual(page.post("abandon"), (200, {}))
+        state = page.until("it is given up", lambda state: state["half"] == "none" and not state["busy"])
+        self.assertEqual((state["word"], state["can"]["stop"]), ("Held", True))
+        self.assertRegex(state["detail"], r"^Recover has them carry out [\d,]+ lines in hand first; Stop lets go of these$")
+        self.assertEqual(page.post("stop"), (200, {}))
+        page.agree(page.asked())
+        state = page.until("they are let go", lambda state: not state["busy"] and not state["behind"])
+        self.assertEqual((state["word"], state["motors"], state["at"]), ("Idle", held["motors"], held["motors"]))
+
+    def test_held_on_the_way(self) -> None:
+        """A way back that this page held: the band names the button that goes on with it."""
+        page = self.page()
+        self.runs(page, CUT, 1.2)
+        self.wait_for("the record has it", lambda: self.recorded().at_nm[0] > 1_000_000)
+        self.pull()
+        self.begin()
+        page = self.page(OTHER)
+        state = page.until("it is half-done", lambda state: state["half"] == "program" and state["recover"])
+        began = float(state["motors"][0])
+        self.assertEqual(page.post("recover", {"at": state["motors"]}), (200, {}))
+        page.agree(page.asked())
+        page.until("it goes back", lambda state: float(state["motors"][0]) < began - 0.1)
+        page.post("hold")
+        state = page.until("it is held", lambda state: state["held_motors"] and not state["busy"])
+        self.assertEqual((state["word"], state["detail"]), ("Held", "Recover goes on with the way that was held"))
 
     def test_tool_change(self) -> None:
         """Power is lost at a tool change: the place is that of the tool which is in by the record, not of the next one.

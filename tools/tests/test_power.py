@@ -4,16 +4,21 @@ NGC_POWER_S says for how many seconds jobs are tried in all (default 30)."""
 import os
 import random
 import sys
+import tempfile
 import unittest
 from pathlib import Path
+from unittest.mock import patch
 
 sys.path.insert(0, str(Path(__file__).resolve().parent))
 
 import power
 from power_axes import Screws
+from power_chain import Chain, Plan
 from power_disk import CUT, SYNC, WRITE, Call, left_of, mark_lasting
-from power_path import Ledger, Legs, Uncut, Wrong
-from session_support import ngc
+from power_path import Ledger, Legs, Uncut, Wrong, memory, run_uncut
+from power_person import Person
+from power_shop import Lost
+from session_support import FIRST, ngc
 
 SECONDS = float(os.environ.get("NGC_POWER_S", "30"))
 
@@ -63,6 +68,18 @@ class Judge(unittest.TestCase):
         self.assertEqual(known.up, [1, 0, 4])
         self.assertEqual(known.table([b"P 1 1 -1 50", up]), [b"P 0 1 -1 50", up])
 
+    def test_typed(self) -> None:
+        """No jog at a stop, up to 100 steps along X, cut or whole, comes to where the line leads that is typed there."""
+        for seed in range(300):
+            chance = random.Random(seed)
+            text, typed = power.program(chance, chance.randint(3, 14))
+            x, lines = 0, iter(typed)
+            for line in text.decode().splitlines():
+                x = next((round(float(word[1:]) * 1000) for word in line.split() if word[0] == "X"), x)
+                if line == "M0":
+                    x, stands = round(float(next(lines).decode().removeprefix("G1 X")) * 1000), x
+                    self.assertFalse(stands <= x <= stands + 100, (seed, stands, x))
+
     def test_disk(self) -> None:
         """What a sync that failed was to write isn't lasting, also once another one succeeds; what is behind it is. A
         part of an append is kept, a file isn't cut, or has a hole."""
@@ -96,6 +113,26 @@ class Power(unittest.TestCase):
             found = power.try_plant(self.tools, plant, 1)
             self.assertRegex(found, "motors stand at|is made with|legs lead|is at its end|are on the disk", plant)
         self.assertEqual(power.try_plant(self.tools, "", 1), "")
+
+    def test_lost_behind_a_jog(self) -> None:
+        """At a stop somebody jogs, so that the device is told another place, and power is lost right behind that: what
+        is typed at the stop is made all the same, once."""
+        text, typed = b"G17 G21 G90 G94\nM3 S1000\nG1 X0.2 F1200\nM0\nG1 Y0.1\nM2\n", [b"G1 X0.105"]
+        job = power.Job(text, run_uncut(ngc(), FIRST, text, typed), typed, has_ramps=True)
+        lost_at, runs = [], Person.runs
+
+        def loses(person: Person, said: str) -> str:
+            """What is typed next; power is lost before the jog back, once."""
+            if person.errands[:1] == ["jog X- 600 for 0.1"] and not lost_at:
+                lost_at.append(person.ledger.steps)
+                person.shop.kill()
+                raise Lost
+            return runs(person, said)
+
+        with tempfile.TemporaryDirectory(dir=memory()) as folder, patch.object(Person, "runs", loses):
+            chain = Chain(self.tools, Path(folder).resolve(), job, random.Random(1), [Plan()])
+            chain.run()
+        self.assertEqual((lost_at, chain.lost, chain.ledger.made), ([(300, 0, 0)], 1, len(job.uncut.moves)))
 
     def judged(self, over: str, share: float, seed: int) -> None:
         """Jobs of seeds from this one on, over a file, a pipe or a sink, for a share of the seconds."""

@@ -71,6 +71,22 @@ class Late(unittest.TestCase):
         self.assertGreater(late.slack_s(stood), 0.5)
 
 
+class Killed(InFolder):
+    """What comes of kills, by hand."""
+
+    def test_player_twice(self) -> None:
+        """Power is lost while the probe is sought, and then the next player is gone: the place is by its record, which
+        stands there, and isn't one that was known."""
+        walk = Walk(TABS, LATE, Covered())
+        self.addCleanup(walk.close)
+        walk.begin()
+        for step in (("touch", "Setup"), ("touch", "Y+ @Seek the probe"), ("wait", "0.5"),
+                     ("kill", "player", "server", "ngc"), ("start", "player"), ("start", "server"), ("kill", "player"),
+                     ("wait", "1")):
+            walk.do(step)
+        self.assertRegex(walk.seen.risk, r"^By the record of the player, \u00b1 [\d.]+ mm; told [\d.:]+ \w+ ago$")
+
+
 class Planted(InFolder):
     """Faults that are planted in the page's server are found, each by its rule."""
 

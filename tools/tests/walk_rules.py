@@ -172,7 +172,9 @@ class Judge:
             return
         wanted = _difference(shown, self.truth.offset)
         if seen.blind and seen.past and seen.risk.startswith("By the record"):
-            is_so = self._was_at(wanted, unit, since, told, float(seen.past) + self.truth.late_mm)
+            _, _, told_ago = seen.risk.partition("; told ")
+            begin = since - (_seconds(told_ago) or 0.0)
+            is_so = self._was_at(wanted, unit, begin, told, float(seen.past) + self.truth.late_mm)
         elif seen.blind and seen.risk.startswith("Last known"):
             ago_s = _seconds(seen.risk)
             is_so = ago_s is None or self._was_at(wanted, unit, since - ago_s, told - ago_s + ROUNDED_S)

@@ -245,11 +245,15 @@ class Operator:
 
     def plain(self, typed: Typed) -> None:
         """Has `ngc` do it as it is typed."""
-        if typed.word == "abandon" and self.console.status().does == "idle":
+        gives_up = typed.word == "abandon" and self.console.status().does == "idle"
+        if gives_up:
             self.left.keep()
+        is_still = gives_up and self.recover.is_still()
         reply = self.console.ask(" ".join([typed.word, *typed.rest.lower().split()]))[0]
         if taken(self.session, reply, f"{typed.word} {typed.rest}".strip()) and typed.word in ("delete", "optional"):
             setattr(self.session, typed.word, typed.rest.lower() == "on")
+        if is_still:
+            self.recover.still()  # what is left in OUT is as it was
 
     def rewind(self) -> None:
         """The program that is stored begins with its first line again, as if it were loaded."""

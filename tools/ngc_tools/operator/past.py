@@ -1,7 +1,8 @@
 """How far the motors may be past the player's record: by what they can carry out between two syncs of it.
 
-A loss of power, or `kill -9`, leaves the record as it was synced last. What the motors did since then isn't in it, but
-it lasted no longer than the record ever got old."""
+A loss of power, or `kill -9`, leaves the record as it was synced last. What the motors did since then isn't in it. It
+lasted no longer than the record ever got old, unless the disk was slower at the very end than ever before: how old it
+got then nothing tells."""
 import os
 from collections.abc import Iterable, Iterator
 from dataclasses import dataclass

@@ -17,6 +17,7 @@ from ngc_tools.operator.face import REFUSED, WARNING, axes
 from ngc_tools.operator.feeds import cut_feed
 from ngc_tools.operator.modes import trimmed
 from ngc_tools.operator.past import Past, along_out, by_rate
+from ngc_tools.operator.places import is_same_place
 from ngc_tools.operator.recovery import OutFound, Recovery
 from ngc_tools.operator.rehearsing import segment_begins
 from ngc_tools.operator.session import Session
@@ -41,9 +42,9 @@ stand with nothing in hand"""
 HALF = "recover goes back along OUT to where the half-done segment begins, and takes it up"
 STANDS = """\
 By the record the motors stand at {at}, behind line {line} of OUT.
-{past};
-and a motor that turned went on for a while. Where steps may be lost, answer no: home the machine, and start
-the player anew with --at X Y Z.
+{past},
+and more if the disk was slower at the very end; and a motor that turned went on for a while. Where steps may be
+lost, answer no: home the machine, and start the player anew with --at X Y Z.
 Do they stand there? yes goes on, anything else ends: """
 SURE = """\
 The motors stand at {at}, behind line {line} of OUT: that was told since the player began, by a person, a home or the
@@ -141,8 +142,7 @@ class Recover:
         if self.found is None and not self._stands():
             return False
         if status.half == "none":
-            self.session.face.say(THERE if self.found.recovery.beginning else NOT_THERE)
-            return True
+            return self._tells_end(self.found.recovery)
         return self._is_over()
 
     def straight(self) -> bool:
@@ -181,6 +181,19 @@ class Recover:
                     begins[1], lambda: session.meter.link.legs(chosen[0], wanted, self._size(), chosen[1]), wanted):
                 return False
         return self._tells(wanted)
+
+    def _tells_end(self, recovery: Recovery) -> bool:
+        """Tells `ngc` where the motors are, behind what was handed out, where it has the machine elsewhere, as after a
+        block was given up; whether it takes that."""
+        status, at = self.session.console.status(), " ".join(map(millimetres, recovery.at_nm))
+        if not recovery.beginning:
+            self.session.face.say(NOT_THERE)
+            return True
+        is_told = status.known and is_same_place(self.session.settings, status.at, at.split())
+        if not is_told and not self._tells(at):
+            return False
+        self.session.face.say(THERE)
+        return True
 
     def _tells(self, at: str) -> bool:
         """Tells `ngc` where the motors are; whether it takes that."""

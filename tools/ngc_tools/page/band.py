@@ -123,9 +123,9 @@ class Standing:
         return self.report is not None and self.report.behind > 0
 
     def _has_lines_left(self) -> bool:
-        """Whether lines stand in OUT that no motor carried out, and no block is half-done."""
+        """Whether lines stand in OUT that no motor carried out, or that are taken back."""
         recovery = self.session.stand.recovery
-        return self.status.half == "none" and bool(recovery and recovery["left"])
+        return bool(recovery and recovery["left"])
 
     def _held_by(self) -> str:
         """What holds the motors that nobody told to hold from here."""
@@ -158,10 +158,16 @@ class Standing:
             return _OPEN
         if self.status.does != "held":
             if self._has_lines_left():
-                return "Recover goes on with the way that was held"
+                return self._left_in_hand()
             return self._held_by() if self.held_by != "here" else "Go on carries out what was handed out"
         who = self._who()
         return (f"{who}. " if who else "") + (f"Before the rest of {self.here}" if self.here else "Continue goes on")
+
+    def _left_in_hand(self) -> str:
+        """What leads on where motors are held that have lines of the last session in hand, or a way."""
+        if self.session.stand.recovery["sent"]:
+            return "Recover goes on with the way that was held"
+        return f"Recover has them carry out {count(self.report)} in hand first; Stop lets go of these"
 
     def _who(self) -> str:
         """Who held it, if that wasn't this page."""

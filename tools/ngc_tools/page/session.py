@@ -166,12 +166,12 @@ class PageSession:
         self._find_never_cut()
 
     def _follow(self, found: Device | None) -> None:
-        """Sees how all stands as another session of `ngc` begins, with the player that goes on."""
+        """Sees how all stands as another session of `ngc` begins, with the player that goes on: it has counted all that
+        its motors made."""
         self.opened = replace(self.opened, found=found, left_at=time.time())
         self.is_finished, self.face.message = False, ""
         self.kept.read()
         self._look()
-        self._see_past()
         self._find_never_cut()
 
     def _see_past(self) -> None:

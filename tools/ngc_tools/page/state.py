@@ -245,7 +245,7 @@ class Pictured:
 
     def _stale(self) -> dict | None:
         """Why the place isn't known any more that is shown, and when it was, in seconds since 1970, if that is known;
-        None where it is the machine's."""
+        None where it is the machine's. `by_record`: the player had it by its record, and nobody has told it since."""
         if self.report and self.report.word == ALARM:
             return {"why": "alarm", "at": 0}
         begins_at = self.session.begins_at  # what a player says since is by its record
@@ -253,7 +253,9 @@ class Pictured:
             return {"why": "power", "at": self.session.opened.left_at}
         # what wasn't known before isn't "known last" by that
         is_gone = self.stand.gone or self.session.ended or begins_at is not None
-        return {"why": "player", "at": self.face.reported_at} if is_gone or self._is_old else None
+        if not is_gone and not self._is_old:
+            return None
+        return {"why": "player", "at": self.face.reported_at, "by_record": bool(self._past()["past_mm"])}
 
     @property
     def _is_old(self) -> bool:

@@ -52,6 +52,10 @@ export function lasting(us) {
   return h ? `${h}:${two(m)}:${two(whole % 60)} h` : `${m}:${two(whole % 60)} min`;
 }
 
+// How far the motors may be past the player's record, by what the server says of it.
+export const byRecord = past => `By the player\u2019s record. ${past}, and more if the disk was slower at the very `
+  + 'end; and a motor that turned went on for a while.';
+
 export const systemName = number => SYSTEMS[number - 1] ?? '';
 
 export const clock = date => date.toTimeString().slice(0, 8);

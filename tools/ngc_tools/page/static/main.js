@@ -1,6 +1,6 @@
 // The page: what the server says is shown, what people touch is asked. It decides nothing.
 import { Alarm, isThere } from './alarm.js';
-import { $, el, grouped, lasting, may, micrometres, mm, point, text, zeroOf } from './dom.js';
+import { $, byRecord, el, grouped, lasting, may, micrometres, mm, point, text, zeroOf } from './dom.js';
 import { Job, TRAVERSE } from './job.js';
 import { connect, get, hold as asksHold, post } from './link.js';
 import { load } from './loader.js';
@@ -171,7 +171,7 @@ function whereIsIt() {
       + 'goes from the one that is true.'),
     sheet.facts([['The player counts', sheet.code(point(s.motors))],
       ['The last line ended at', s.known && sheet.code(point(s.at))]]),
-    s.past && sheet.said(`By the player\u2019s record. ${s.past}; and a motor that turned went on for a while.`),
+    s.past && sheet.said(byRecord(s.past)),
     hasHome && sheet.said('Where steps may be lost, as after a loss of power, home it.')],
   [sheet.button('Back', sheet.close), sheet.gap('Nothing moves by the first.'),
     sheet.button(`Where the player counts${off}`, does('reference', { at: 'player' })),

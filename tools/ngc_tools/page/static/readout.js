@@ -145,6 +145,7 @@ function known(s) {
   if (!s.stale) return '';
   const { why, at } = s.stale, age = at ? `${lasting(1e6 * Math.max(0, s.now - at))} ago` : '';
   if (why === 'alarm') return 'As counted before the alarm: home tells where it is';
+  if (s.stale.by_record) return `By the record of the player, \u00b1 ${mm(s.past_mm)} mm; told ${age}`;
   if (why === 'player') return at ? `Last known ${age}` : 'Nobody told where it is';
   return s.motors ? `By the record of the player; the device was written ${age}`
     : `Before the line that was cut off; the device was written ${age}`;

@@ -1,6 +1,6 @@
 // After a loss of power: what was stored, where the machine is, a rehearsal, and then step by step. Nothing moves and
 // nothing is switched before the last step.
-import { AXES, counted, el, grouped, lasting, micrometres, mm, point, typedNumber, zeroOf } from './dom.js';
+import { AXES, byRecord, counted, el, grouped, lasting, micrometres, mm, point, typedNumber, zeroOf } from './dom.js';
 import * as question from './question.js';
 import * as sheet from './sheet.js';
 import { Sight } from './sight.js';
@@ -219,8 +219,7 @@ export class Recovery {
     const next = (isHomeFirst ? sheet.button : sheet.go)('Next: rehearsal', () => this.rehearsal(), state.yours);
     const enable = () => { next.disabled = !(state.yours && this.sure.every(Boolean)); };
     const age = state.left_at ? ` The device was written last ${lasting(1e6 * (state.now - state.left_at))} ago.` : '';
-    const past = state.past && `By the player\u2019s record. ${state.past}; and a motor that turned went on for a `
-      + 'while. ';
+    const past = state.past && `${byRecord(state.past)} `;
     this.put([sheet.title('Where does the machine stand now?'),
       sheet.said('Machine coordinates in mm. Look at the machine, and confirm each axis.'),
       ...AXES.map((_, i) => this.confirm(i, enable)),
