@@ -11,6 +11,7 @@ from pathlib import Path
 
 import completion
 import manual
+from deb import BUILD
 
 TOP = Path(__file__).resolve().parent.parent
 FILES = Path(__file__).resolve().parent / "files"
@@ -86,7 +87,7 @@ class Tree:
         player.parent.mkdir(parents=True)
         archives = " ".join(str(self.given.built / name) for name in ("libng_pace_c.a", "libng_lines_c.a"))
         flags = ("-std=c11 -O2 -Wall -Wextra -Wconversion -Werror -fPIE -pie -fstack-protector-strong"
-                 " -D_FORTIFY_SOURCE=2 -Wl,-z,relro,-z,now")
+                 f" -D_FORTIFY_SOURCE=2 -DBUILD='\"/{BUILD}\"' -Wl,-z,relro,-z,now")
         run(["make", "-s", "-B", "-C", str(TOP / "tools/player"), f"OUT={player.parent}", f"ARCHIVES={archives}",
              f"CC={self.target.prefix}gcc", f"CFLAGS={flags}", str(player)])
         for path in (self.root / "usr/bin/ngc", player):
@@ -183,7 +184,8 @@ def player_words() -> str:
     """How the player is called, by its source: it has no --help of its own."""
     text = (TOP / "tools/player/options.c").read_text()
     usage = re.search(r'usage\[\] = ((?:\s*"[^"]*")+);', text)[1]
-    words = "".join(re.findall('"([^"]*)"', usage)).replace("player [", "/usr/libexec/ngc/player [")
+    words = "".join(re.findall('"([^"]*)"', usage))
+    words = re.sub("player (?=\\[|--)", "/usr/libexec/ngc/player ", words)
     return (f"{words}\n\nCarries out the lines of OUT, each in its time or with ramps, over a step sink, and keeps in"
             " POSITION how far it came. What each word means, and what its socket answers, stands in"
             " /usr/share/doc/ngc/docs/TOOLS.md and OUTPUT.md. Each word has a short and a long form."

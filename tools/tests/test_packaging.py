@@ -181,8 +181,8 @@ class Files(InFolder):
             self.assertIn("Version: 1.0~x\n", said)
             sums = (root / "usr/share/doc/ngc/SHA256SUMS").read_text()
             self.assertEqual(sorted(re.findall("  (.*)", sums)), [
-                "etc/words", "usr/bin/ngc", "usr/libexec/ngc/player", "usr/share/doc/ngc/BUILD",
-                "usr/share/doc/ngc/changelog.gz", "usr/share/doc/ngc/page"])
+                "etc/words", "usr/bin/ngc", "usr/libexec/ngc/player", "usr/share/doc/ngc/changelog.gz",
+                "usr/share/doc/ngc/page", "usr/share/ngc/BUILD"])
             changes = gzip.decompress((root / "usr/share/doc/ngc/changelog.gz").read_bytes())
             self.assertIn(b"commit " + b"c" * 40, changes)
         self.assertEqual((packages[0] == packages[1], packages[0] == packages[2]), (True, False))

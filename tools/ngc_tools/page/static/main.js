@@ -77,6 +77,7 @@ function show(s) {
   setup.show(s, app.isIdle && !s.apart.some(Boolean));
   tools.show(s, app.isIdle, asks);
   log.show(s.log, noticed(s));
+  text($('version'), s.version);
   recovery.show(s);
   showQuestion(s);
   const isHalf = s.half !== 'none' && !s.busy && s.does === 'idle' && !s.ended;
