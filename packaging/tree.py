@@ -24,6 +24,9 @@ MILL = Settings((5000, 5000, 2500), (-150_000_000, -100_000_000, -200_000_000), 
                 3 * 10**9, 50, ())
 """A machine to begin with: 300 by 200 by 200 mm, its zero in the middle of the table and at the top of Z."""
 
+BOARDS = ("stm32f103", "stm32f103_boot", "stm32f411", "nucleo_f411re", "pico")
+"""Those of tools/sink/Makefile, for each of which there is firmware."""
+
 _SHEBANG = b"#!/usr/bin/env python3\n"
 _NOT_FOR_USERS = ("STATE.md",)
 _PLAYER = "player that carries out the lines of OUT, with ramps"
@@ -106,15 +109,14 @@ class Tree:
         self.copy(FILES / "ngc-address", "usr/bin/ngc-address", 0o755)
 
     def _firmware(self) -> None:
-        """What tools/sink builds for chips, as it is flashed."""
+        """What tools/sink builds for each board, as it is flashed."""
         to = self.root / "usr/share/ngc/firmware"
-        to.mkdir(parents=True)
         built = to / "built"
-        run(["make", "-s", "-C", str(TOP / "tools/sink"), "arm", f"OUT={built}"])
-        for elf in sorted(built.glob("*.elf")):
-            for kind, suffix in (("binary", "bin"), ("ihex", "hex")):
-                run(["arm-none-eabi-objcopy", "-O", kind, str(elf), str(to / f"{elf.stem}.{suffix}")])
-                (to / f"{elf.stem}.{suffix}").chmod(0o644)
+        for board in BOARDS:
+            run(["make", "-s", "-C", str(TOP / "tools/sink"), "arm", f"OUT={built}", f"BOARD={board}"])
+        for path in sorted(built.iterdir()):
+            if path.suffix in (".bin", ".hex", ".uf2"):
+                self.copy(path, f"usr/share/ngc/firmware/{path.name}")
         shutil.rmtree(built)
 
     def _services(self) -> None:

@@ -12,6 +12,7 @@ from pathlib import Path
 
 sys.path.insert(0, str(Path(__file__).resolve().parent))
 
+from chip_parts import BOARDS
 from player_support import SANITIZERS, has_sanitizers
 from session_support import TOOLS, InFolder, ngc
 
@@ -139,6 +140,10 @@ class Files(InFolder):
         made._machine()
         self.assertEqual(Settings.read("etc/ngc/example/settings.toml"), tree.MILL)
         self.assertIn("sink", read_tables("etc/ngc/example/machine.toml"))
+
+    def test_boards(self) -> None:
+        """There is firmware for each board that docs/SINK.md has."""
+        self.assertEqual(set(tree.BOARDS), set(BOARDS))
 
     def test_address(self) -> None:
         """Its help is that of a tool, and wrong words are told."""
