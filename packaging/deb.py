@@ -10,6 +10,8 @@ from dataclasses import dataclass
 from pathlib import Path
 
 DEBIAN = Path(__file__).resolve().parent / "debian"
+BUILD = "usr/share/ngc/BUILD"
+"""Where the tools look for it: beside their modules."""
 _SCRIPTS = ("postinst", "prerm", "postrm")
 _CONTROL = """Package: ngc
 Version: {version}
@@ -57,9 +59,11 @@ class Facts:
 
 
 def tell(root: Path, facts: Facts) -> None:
-    """Puts in what tells of the build: BUILD, and the checksums of all other files."""
+    """Puts in what tells of the build: BUILD, which each program's --version prints, and the checksums of all other
+    files."""
     folder = root / "usr/share/doc/ngc"
-    (folder / "BUILD").write_text(facts.text())
+    (root / BUILD).parent.mkdir(parents=True, exist_ok=True)
+    (root / BUILD).write_text(facts.text())
     (folder / "changelog.gz").write_bytes(gzip.compress(facts.changelog(), 9, mtime=0))
     sums = [f"{hashlib.sha256(path.read_bytes()).hexdigest()}  {path.relative_to(root)}\n" for path in files(root)]
     (folder / "SHA256SUMS").write_text("".join(sums))

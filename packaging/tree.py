@@ -11,6 +11,7 @@ from pathlib import Path
 
 import completion
 import manual
+from deb import BUILD
 
 TOP = Path(__file__).resolve().parent.parent
 FILES = Path(__file__).resolve().parent / "files"
@@ -22,6 +23,9 @@ from ngc_tools.setup.texts import machine_text, settings_text  # noqa: E402
 MILL = Settings((5000, 5000, 2500), (-150_000_000, -100_000_000, -200_000_000), (150_000_000, 100_000_000, 0),
                 3 * 10**9, 50, ())
 """A machine to begin with: 300 by 200 by 200 mm, its zero in the middle of the table and at the top of Z."""
+
+BOARDS = ("stm32f103", "stm32f103_boot", "stm32f411", "nucleo_f411re", "pico")
+"""Those of tools/sink/Makefile, for each of which there is firmware."""
 
 _SHEBANG = b"#!/usr/bin/env python3\n"
 _NOT_FOR_USERS = ("STATE.md",)
@@ -86,7 +90,7 @@ class Tree:
         player.parent.mkdir(parents=True)
         archives = " ".join(str(self.given.built / name) for name in ("libng_pace_c.a", "libng_lines_c.a"))
         flags = ("-std=c11 -O2 -Wall -Wextra -Wconversion -Werror -fPIE -pie -fstack-protector-strong"
-                 " -D_FORTIFY_SOURCE=2 -Wl,-z,relro,-z,now")
+                 f" -D_FORTIFY_SOURCE=2 -DBUILD='\"/{BUILD}\"' -Wl,-z,relro,-z,now")
         run(["make", "-s", "-B", "-C", str(TOP / "tools/player"), f"OUT={player.parent}", f"ARCHIVES={archives}",
              f"CC={self.target.prefix}gcc", f"CFLAGS={flags}", str(player)])
         for path in (self.root / "usr/bin/ngc", player):
@@ -105,15 +109,14 @@ class Tree:
         self.copy(FILES / "ngc-address", "usr/bin/ngc-address", 0o755)
 
     def _firmware(self) -> None:
-        """What tools/sink builds for chips, as it is flashed."""
+        """What tools/sink builds for each board, as it is flashed."""
         to = self.root / "usr/share/ngc/firmware"
-        to.mkdir(parents=True)
         built = to / "built"
-        run(["make", "-s", "-C", str(TOP / "tools/sink"), "arm", f"OUT={built}"])
-        for elf in sorted(built.glob("*.elf")):
-            for kind, suffix in (("binary", "bin"), ("ihex", "hex")):
-                run(["arm-none-eabi-objcopy", "-O", kind, str(elf), str(to / f"{elf.stem}.{suffix}")])
-                (to / f"{elf.stem}.{suffix}").chmod(0o644)
+        for board in BOARDS:
+            run(["make", "-s", "-C", str(TOP / "tools/sink"), "arm", f"OUT={built}", f"BOARD={board}"])
+        for path in sorted(built.iterdir()):
+            if path.suffix in (".bin", ".hex", ".uf2"):
+                self.copy(path, f"usr/share/ngc/firmware/{path.name}")
         shutil.rmtree(built)
 
     def _services(self) -> None:
@@ -183,7 +186,8 @@ def player_words() -> str:
     """How the player is called, by its source: it has no --help of its own."""
     text = (TOP / "tools/player/options.c").read_text()
     usage = re.search(r'usage\[\] = ((?:\s*"[^"]*")+);', text)[1]
-    words = "".join(re.findall('"([^"]*)"', usage)).replace("player [", "/usr/libexec/ngc/player [")
+    words = "".join(re.findall('"([^"]*)"', usage))
+    words = re.sub("player (?=\\[|--)", "/usr/libexec/ngc/player ", words)
     return (f"{words}\n\nCarries out the lines of OUT, each in its time or with ramps, over a step sink, and keeps in"
             " POSITION how far it came. What each word means, and what its socket answers, stands in"
             " /usr/share/doc/ngc/docs/TOOLS.md and OUTPUT.md. Each word has a short and a long form."

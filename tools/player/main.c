@@ -22,6 +22,7 @@
 #include "sink_link.h"
 #include "sink_play.h"
 #include "times.h"
+#include "version.h"
 #include "waits.h"
 
 enum { NS_PER_MS = 1000000 };
@@ -173,6 +174,9 @@ int main(int count, char **given) {
     struct settings settings = {0};
     struct cause why;
     open_streams();
+    if (version_is_asked(count, given)) {
+        return version_tell();
+    }
     if (!options_read(count, given, &options, &why)) {
         return fail(&why);
     }

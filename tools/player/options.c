@@ -9,7 +9,7 @@
 #include "record.h"
 
 static const char usage[] = "usage: player [-unrtfyc] [-a X Y Z] [-o SECONDS] [-b BYTES] [-s SOCKET] [-p PINS]"
-                            " [-m FILE] [-i FILE] [-g LINE] [-l Z -e RATE] OUT SETTINGS POSITION";
+                            " [-m FILE] [-i FILE] [-g LINE] [-l Z -e RATE] OUT SETTINGS POSITION, or player --version";
 
 static const struct option words[] = {
     {"untimed", no_argument, NULL, 'u'},        {"anew", no_argument, NULL, 'n'},

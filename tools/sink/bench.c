@@ -27,7 +27,7 @@
 
 #include "bench_line.h"
 
-enum { SLICE_TICKS = WIRE_TICKS_A_MS, SHORT_TICKS = WIRE_TICKS_A_MS / 10, HEARS_MS = 100, HAS_MS = 12, SWITCHES = 4 };
+enum { SLICE_TICKS = WIRE_TICKS_A_MS, SHORT_TICKS = WIRE_TICKS_A_MS / 10, HEARS_MS = 100, HAS_MS = 12, SWITCHES = 4, AGAIN_MS = 200 };
 enum { AHEAD_TICKS = 4 * SLICE_TICKS }; /* a slice, a frame on the line, and the main loop that reads it */
 
 static unsigned inputs;
@@ -109,12 +109,28 @@ static bool may_go_on(void) {
     return !is_early && (is_in_order || real_ms() - waited >= (runs ? serves_ms : 1));
 }
 
+/* Says the newest answer again where nothing was said for some real time, while by this clock the sink isn't silent: for
+ * a player, whose clock is the real one, a sink is deaf after two seconds, in which this one may stand or be slow. */
+static void be_heard(void) {
+    static unsigned long said;
+    static uint64_t said_at;
+    if (said == line_sent() && real_ms() - said_at < AGAIN_MS) {
+        return;
+    }
+    if (said == line_sent()) {
+        line_say_again();
+    }
+    said = line_sent();
+    said_at = real_ms();
+}
+
 /* Lets the clock go on by itself, until a line of the input comes. What is on its way comes in any case, but for frames
  * that say nothing: a sender that is late sends these all the time. */
 static void serve(void) {
     struct pollfd on = {STDIN_FILENO, POLLIN, 0};
     while (serves_ms > 0 && poll(&on, 1, 0) == 0) {
         line_take_frames();
+        be_heard();
         bool is_on_way = device_takes();
         if (may_go_on()) {
             device_run(SLICE_TICKS);

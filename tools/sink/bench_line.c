@@ -10,7 +10,7 @@
 
 #include "bench.h"
 
-enum { ROOM = 65536 };
+enum { ROOM = 65536, NEW_MS = 20 };
 
 /* A frame on its way, as far as it has come. */
 struct way {
@@ -22,6 +22,7 @@ static int terminal;
 static unsigned long received;
 static unsigned long sent;
 static uint64_t gave_at;
+static struct { uint8_t bytes[WIRE_LINE]; size_t size; uint64_t at; } newest; /* frame that came through, and its tick */
 static uint32_t random_state;
 static uint32_t fault_rate;
 static uint64_t cut_until;
@@ -96,6 +97,15 @@ static void write_all(const uint8_t *bytes, size_t size) {
     sent += done > 0 ? (unsigned long)done : 0;
 }
 
+/* Keeps a frame, if it is a whole one. */
+static void keep(const uint8_t *bytes, size_t size) {
+    if (size > 0 && size <= sizeof newest.bytes && bytes[size - 1] == 0) {
+        memcpy(newest.bytes, bytes, size);
+        newest.size = size;
+        newest.at = device_now();
+    }
+}
+
 void bench_send(const uint8_t *bytes, size_t size) {
     static struct way way;
     for (size_t at = 0; at < size; at++) {
@@ -103,7 +113,13 @@ void bench_send(const uint8_t *bytes, size_t size) {
         size_t passed = follow(&way, bytes[at], &times);
         write_all(way.bytes, passed);
         write_all(way.bytes, times == 2 ? passed : 0);
+        keep(way.bytes, passed);
     }
+}
+
+void line_say_again(void) {
+    bool is_new = device_now() - newest.at < NEW_MS * WIRE_TICKS_A_MS;
+    write_all(newest.bytes, is_new && !line_is_cut() ? newest.size : 0);
 }
 
 /* Bytes that have come, 0 where there are none. */

@@ -23,6 +23,9 @@ void line_receive(unsigned long bytes);
 /* Gives the device the frames that have come, but for what befalls them. */
 void line_take_frames(void);
 
+/* Sends the newest whole frame of the device once more, if it came through in the last 20 ms. */
+void line_say_again(void);
+
 /* Waits until something comes over the line or the standard input, for at most so many milliseconds. */
 void line_wait(int ms);
 

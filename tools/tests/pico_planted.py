@@ -130,13 +130,14 @@ PINS: dict[str, list[Edit]] = {
     "mist and flood swapped": port("MIST = 11, FLOOD = 12", "MIST = 12, FLOOD = 11"),
 }
 LOG: dict[str, list[Edit]] = {
-    "number not written": [(BOOTS, "            write_slot(slot, word);\n", "")],
+    "number not written": [(BOOTS, "write_slot(slot, word)", "write_slot(slot, 0xffffffff)")],
     "number always 1": [(BOOTS, "? boot_log[slot] & 0xffff : 0", "? 0 : 0")],
     "words without a complement": [(BOOTS, "((word >> 16) ^ (word & 0xffff)) == 0xffff", "word != 0xffffffff")],
     "numbers compared as such": [(BOOTS, "(uint16_t)(boot_log[slot] - boot_log[newest]) < 0x8000",
                                   "(boot_log[slot] & 0xffff) > (boot_log[newest] & 0xffff)")],
-    "full sector not erased": [(BOOTS, "slot % SLOTS_OF_SECTOR == 0 && !is_blank(slot)", "slot == SLOTS")],
-    "both sectors erased": [(BOOTS, "erases(offset_of(slot), BOOT_SECTOR", "erases(offset_of(0), 2 * BOOT_SECTOR")],
+    "full sector not erased": [(BOOTS, "slot % SLOTS_OF_SECTOR == 0 &&", "slot == SLOTS &&")],
+    "both sectors erased": [(BOOTS, "erases(offset_of(slot), BOOT_SECTOR",
+                             "erases(offset_of(0 * slot), 2 * BOOT_SECTOR")],
     "flash memory while it is written": [(BOOTS, "    ((call *)rom('E', 'X'))();\n", "")],
     "flash not memory again": [(BOOTS, "    ((call *)rom('C', 'X'))();\n", "")],
     "cache not emptied": [(BOOTS, "    ((call *)rom('F', 'C'))();\n", "")],

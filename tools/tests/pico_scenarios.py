@@ -55,7 +55,8 @@ def boots(elf: str) -> Figures:
     """The boot's number is one more than the last: from none on, over 65,535, in a full sector, in a full log, over
     words that aren't numbers."""
     full = [number(boot) for boot in range(1000, 1000 + SLOTS)]
-    cases = (([], 1), ([number(7)], 8), ([number(65534), number(65535)], 0), (full[:SLOTS // 2], 2024),
+    cases = (([], 1), ([number(7)], 8), ([number(65534), number(65535)], 0),
+             ([number(65535), number(0)], 1), (full[:SLOTS // 2], 2024),
              (full, 1000 + SLOTS), ([number(5), 0x12345678, 0], 6), ([0x00010001] * SLOTS, 1),
              ([*full[:700], *[BLANK] * 324, *[number(boot) for boot in range(3000, 3000 + SLOTS // 2)]], 4024))
     for log, wanted in cases:

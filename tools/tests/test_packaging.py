@@ -12,6 +12,7 @@ from pathlib import Path
 
 sys.path.insert(0, str(Path(__file__).resolve().parent))
 
+from chip_parts import BOARDS
 from player_support import SANITIZERS, has_sanitizers
 from session_support import TOOLS, InFolder, ngc
 
@@ -140,6 +141,10 @@ class Files(InFolder):
         self.assertEqual(Settings.read("etc/ngc/example/settings.toml"), tree.MILL)
         self.assertIn("sink", read_tables("etc/ngc/example/machine.toml"))
 
+    def test_boards(self) -> None:
+        """There is firmware for each board that docs/SINK.md has."""
+        self.assertEqual(set(tree.BOARDS), set(BOARDS))
+
     def test_address(self) -> None:
         """Its help is that of a tool, and wrong words are told."""
         script = PACKAGING / "files/ngc-address"
@@ -181,8 +186,8 @@ class Files(InFolder):
             self.assertIn("Version: 1.0~x\n", said)
             sums = (root / "usr/share/doc/ngc/SHA256SUMS").read_text()
             self.assertEqual(sorted(re.findall("  (.*)", sums)), [
-                "etc/words", "usr/bin/ngc", "usr/libexec/ngc/player", "usr/share/doc/ngc/BUILD",
-                "usr/share/doc/ngc/changelog.gz", "usr/share/doc/ngc/page"])
+                "etc/words", "usr/bin/ngc", "usr/libexec/ngc/player", "usr/share/doc/ngc/changelog.gz",
+                "usr/share/doc/ngc/page", "usr/share/ngc/BUILD"])
             changes = gzip.decompress((root / "usr/share/doc/ngc/changelog.gz").read_bytes())
             self.assertIn(b"commit " + b"c" * 40, changes)
         self.assertEqual((packages[0] == packages[1], packages[0] == packages[2]), (True, False))

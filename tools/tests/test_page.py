@@ -111,7 +111,9 @@ class Who(Served):
                             ("switch", {"name": "load", "on": True}), ("percent", {"percent": 201}),
                             ("switch", {"name": "delete", "on": "on"}), ("answer", {"question": 1, "text": "a\nb"})):
             self.assertEqual(page.post(what, words)[0], 422, words)
-        self.assertEqual((self.server.poll(), [entry["kind"] for entry in page.next()["log"]]), (None, ["said"]))
+        state = page.next()
+        self.assertEqual((self.server.poll(), [entry["kind"] for entry in state["log"]]), (None, ["said"]))
+        self.assertEqual(state["version"], "built from a checkout")
 
     def test_raw(self) -> None:
         """Texts that are no plain request, or could be taken for two: each is answered, and the connection closed."""

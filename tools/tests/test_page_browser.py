@@ -261,6 +261,7 @@ class Looks(InBrowser):
         for tab in ("setup", "tools", "log", "program"):
             browser.js(f"document.querySelector('[data-tab={tab}]').click()")
             self.look(tab)
+        self.assertEqual(browser.js("document.getElementById('version').textContent"), "built from a checkout")
         for size in SIZES:
             browser.size(*size)
             self.assertEqual(browser.js(FAR), [], size)

@@ -14,8 +14,7 @@ from pathlib import Path
 
 sys.path.insert(0, str(Path(__file__).resolve().parent))
 
-from player_support import (NO_RAMPS, SOURCES, PlayerTest, Sanitized, built, preloaded,
-                            record)
+from player_support import NO_RAMPS, SOURCES, PlayerTest, Sanitized, built, played, preloaded, record
 from session_support import PATIENCE_S
 
 from ngc_tools.formats.out import BadLine, read_line
@@ -440,10 +439,24 @@ class Player(Playing, PlayerTest):
     def test_its_own_words(self) -> None:
         """What it says of words that aren't its own."""
         usage = ("usage: player [-unrtfyc] [-a X Y Z] [-o SECONDS] [-b BYTES] [-s SOCKET] [-p PINS] [-m FILE]"
-                 " [-i FILE] [-g LINE] [-l Z -e RATE] OUT SETTINGS POSITION")
+                 " [-i FILE] [-g LINE] [-l Z -e RATE] OUT SETTINGS POSITION, or player --version")
         Path("out").write_text(LINES)
         for words in (("out", "first.toml"), ("out", "first.toml", "position", "more"), ("-x",), ("-a", "1", "2")):
             self.assertEqual(self.refused(*words), usage)
+
+    def test_version(self) -> None:
+        """In a checkout it says so; where it was compiled with a file, what that says; of one that isn't there, why.
+        """
+        self.assertEqual(played("--version"), (0, "player\nbuilt from a checkout\n", ""))
+        of_package = [built("-O2", f'-DBUILD="{self.folder}/BUILD"'), "--version"]
+        done = subprocess.run(of_package, capture_output=True, text=True)
+        said = f"player: {self.folder}/BUILD: No such file or directory\n"
+        self.assertEqual((done.returncode, done.stderr), (2, said))
+        Path("BUILD").write_text("version: 1.0~x\nkit: " + "k" * 2000 + "\n")
+        done = subprocess.run(of_package, capture_output=True, text=True)
+        said = "player\nversion: 1.0~x\nkit: " + "k" * 2000 + "\n"
+        self.assertEqual((done.returncode, done.stdout, done.stderr), (0, said, ""))
+        self.assertFalse(Path("position").exists())
 
     def test_allocates_nothing(self) -> None:
         """From its first wait on it asks for no memory, also where it is asked how far it is."""

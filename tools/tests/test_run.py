@@ -89,7 +89,7 @@ class Ends(unittest.TestCase):
         self.assertEqual((wrong[0], wrong[2].splitlines()[-1]),
                          (2, "try: error: argument --count: invalid int value: 'x'"))
         said = raised(WrongWords("one of the two"))
-        self.assertEqual((said[0], said[2].splitlines()), (2, ["usage: try [-h] [--count COUNT]",
+        self.assertEqual((said[0], said[2].splitlines()), (2, ["usage: try [-h] [--version] [--count COUNT]",
                                                                "try: error: one of the two"]))
 
     def test_bugs(self) -> None:

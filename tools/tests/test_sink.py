@@ -2,11 +2,13 @@
 import math
 import os
 import random
+import select
 import shutil
 import struct
 import subprocess
 import sys
 import tempfile
+import time
 import unittest
 from collections.abc import Iterator
 from pathlib import Path
@@ -970,6 +972,36 @@ class ByChance(unittest.TestCase):
         names, counts = done.stdout.split()[::2], done.stdout.split()[1::2]
         self.assertIn("dry", names)
         self.assertTrue(all(int(count) > 2 for count in counts), done.stdout)
+
+
+class Served(unittest.TestCase):
+    """The bench's clock, where it goes on by itself."""
+
+    def hear(self, line: int, seconds: float) -> list[Answer]:
+        """The answers of so many real seconds."""
+        until, came = time.monotonic() + seconds, b""
+        while (left := until - time.monotonic()) > 0:
+            came += os.read(line, 65536) if select.select([line], [], [], left)[0] else b""
+        return answers(came[came.find(b"\0") + 1:])
+
+    def test_heard_while_the_clock_stands(self) -> None:
+        """While the clock waits for a sender that is late, the newest answer comes again and again, as for that sender
+        time goes on; over a line that is cut nothing comes."""
+        sink = Sink()
+        self.addCleanup(sink.child.kill)
+        sink.run(20, begin_frame(1 << 16))
+        sink.run(2, b"".join(words_frame(1 << 16 | 1, at, *[steep(1000, 1)] * 40) for at in range(0, 200, 40)))
+        sink.ask("serve 600000")
+        self.hear(sink.line, 1)
+        found = self.hear(sink.line, 1.2)
+        self.assertGreaterEqual(len(found), 3)
+        self.assertEqual(len(set(found)), 1, found)
+        self.assertEqual((found[0].state, found[0].fault), (RUNS, NOTHING))
+        self.assertLess(found[0].made, 200)
+        sink.ask("cut 1000000")
+        self.hear(sink.line, 0.3)
+        self.assertEqual(self.hear(sink.line, 1), [])
+        sink.child.communicate()
 
 
 class Built(unittest.TestCase):

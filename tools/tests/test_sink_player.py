@@ -111,19 +111,24 @@ class Whole(OverSink, unittest.TestCase):
         them, and the record counts all lines."""
         Path("first.toml").write_text(COARSE)
         for example in EXAMPLES:
-            sink = self.serve()
-            self.hand_out(example.read_text())
-            done = self.run_player(*self.words("--times", "times"))
-            self.assertEqual(done.returncode, 0, (example.name, done.stderr))
-            self.assertNotIn("ran dry", done.stderr + done.stdout)
-            made = sink.end()
-            ticks = self.check_made(made)
-            self.assertEqual(len(ticks), sum(words[0] == "P" and words[1:4] != ["0"] * 3 for words in self.out()))
-            self.check_switches(made)
-            self.check_times(ticks, example.name)
-            if not IS_CHIP:  # whose steps are up to a microsecond to and fro
-                self.assertLess(excess(self.timed(ticks), (10_000,) * 3), 4, example.name)
-            self.assertEqual(record().splitlines()[0], f"lines {len(self.out())}")
+            with self.subTest(example.stem):
+                self.check_example(example)
+
+    def check_example(self, example: Path) -> None:
+        """Plays one, and looks at all that the sink made."""
+        sink = self.serve()
+        self.hand_out(example.read_text())
+        done = self.run_player(*self.words("--times", "times"))
+        self.assertEqual(done.returncode, 0, done.stderr)
+        self.assertNotIn("ran dry", done.stderr + done.stdout)
+        made = sink.end()
+        ticks = self.check_made(made)
+        self.assertEqual(len(ticks), sum(words[0] == "P" and words[1:4] != ["0"] * 3 for words in self.out()))
+        self.check_switches(made)
+        self.check_times(ticks, example.name)
+        if not IS_CHIP:  # whose steps are up to a microsecond to and fro
+            self.assertLess(excess(self.timed(ticks), (10_000,) * 3), 4)
+        self.assertEqual(record().splitlines()[0], f"lines {len(self.out())}")
 
     def test_fast(self) -> None:
         """20,000 steps a second, at which a stop takes 1,000 words, with waits and switches between: no word is made

@@ -52,6 +52,22 @@ class Tools(InFolder):
             self.assertEqual("--ngc PATH" in said, name not in ("ngc-device", "ngc-check-disk"))
             self.assertTrue((TOOLS / name).stat().st_mode & 0o111, name)
 
+    def test_version(self) -> None:
+        """In a checkout it says so; with the file that packaging writes beside the tools, what that says; of one that
+        can't be read, why."""
+        shutil.copytree(TOOLS, "installed", ignore=shutil.ignore_patterns("tests", "player", "sink", "__pycache__"))
+        for name in NAMES:
+            self.assertEqual(self.run_tool(name, "--version"), (0, f"{name}\nbuilt from a checkout\n", ""), name)
+        Path("installed/BUILD").write_text("version: 1.0~x\ncommit: c\nkit: k\n")
+        for name in NAMES:
+            said = f"{name}\nversion: 1.0~x\ncommit: c\nkit: k\n"
+            self.assertEqual(self.run_tool(name, "--version", tools=Path("installed")), (0, said, ""), name)
+        Path("installed/BUILD").unlink()
+        Path("installed/BUILD").mkdir()
+        status, said, error = self.run_tool("ngc-check", "--version", tools=Path("installed"))
+        self.assertEqual((status, said), (2, ""))
+        self.assertRegex(error, r"^ngc-check: .*/BUILD: Is a directory\n$")
+
     def test_folder(self) -> None:
         """No Python of the folder in which a tool is started is run, by a tool or by what it starts."""
         for name in ("sitecustomize", "usercustomize", "argparse", "json", "re", "ngc_tools"):

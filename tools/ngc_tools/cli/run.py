@@ -18,6 +18,7 @@ from ngc_tools.failure import Failure, WrongWords
 from ngc_tools.files import cause
 from ngc_tools.formats.text import shown
 from ngc_tools.scratch import nothing_left
+from ngc_tools.version import version_text
 
 Work = Callable[[argparse.Namespace], int]
 """Does what the words ask for, and returns the exit status."""
@@ -61,7 +62,10 @@ def run(parser: argparse.ArgumentParser, work: Work, arguments: list[str] | None
 def new_parser(prog: str, about: str, epilog: str) -> argparse.ArgumentParser:
     """A parser of words whose help fits the terminal: paragraphs are filled, and lines that begin with a blank stay
     lines."""
-    return _Parser(prog, description=about, epilog=epilog, formatter_class=_Help)
+    parser = _Parser(prog, description=about, epilog=epilog, formatter_class=_Help)
+    parser.add_argument("--version", action=_Version, nargs=0, default=argparse.SUPPRESS,
+                        help="show which version this is, of which commit and kit, and exit")
+    return parser
 
 
 def add_ngc(parser: argparse.ArgumentParser) -> None:
@@ -83,6 +87,15 @@ class _Parser(argparse.ArgumentParser):
     def error(self, message: str) -> NoReturn:
         """Says what is wrong, and ends with status 2."""
         super().error(shown(message))
+
+
+class _Version(argparse.Action):
+    """Prints which version this is, and ends."""
+
+    def __call__(self, parser: argparse.ArgumentParser, *_: object) -> NoReturn:
+        """Raises OSError where that can't be read."""
+        print(f"{parser.prog}\n{version_text()}")
+        parser.exit()
 
 
 class _Help(argparse.HelpFormatter):

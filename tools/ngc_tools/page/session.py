@@ -36,6 +36,7 @@ from ngc_tools.page.losses import Losses
 from ngc_tools.page.stand import Kept, Stand, recovery_of
 from ngc_tools.link.machine import read_machine
 from ngc_tools.link.progress import Link, NoAnswer
+from ngc_tools.version import shown_version
 
 WITHOUT_LINES = words_that_bring(Brings.MOVES)
 MOVES = words_that_bring(Brings.LINES) | WITHOUT_LINES
@@ -111,6 +112,7 @@ class PageSession:
         `opens` raises."""
         self._opens, self.face, self.machine = opens, face, machine
         self.aside, self.jogs = Aside(), HeldJog()
+        self.version = shown_version()
         self._checks: dict[str, Child] = {}  # by the page that asked
         self.over = threading.Event()
         self.name, self.program_id, self.ended = "", 1, "it isn't begun yet"

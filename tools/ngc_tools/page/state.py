@@ -282,7 +282,7 @@ class Pictured:
                 "left_at": session.opened.left_at, "broken": self.stand.is_broken, "undo": self.operator.touch.undoes,
                 "setter": None if setter_nm is None else millimetres(setter_nm),
                 "has_probe": self.operator.touch.has_probe,
-                "typed": self.stand.typed, "restore": self.stand.restore}
+                "typed": self.stand.typed, "restore": self.stand.restore, "version": session.version}
 
     def _moves(self) -> bool:
         """Whether a command is under way that moves the machine, and nobody has to look or agree first."""

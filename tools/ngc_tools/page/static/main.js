@@ -74,6 +74,7 @@ function show(s) {
   setup.show(s);
   tools.show(s, may(s, 'tool'), asks);
   log.show(s.log, noticed(s));
+  text($('version'), s.version);
   recovery.show(s);
   showQuestion(s);
   const isHalf = s.half !== 'none' && !s.busy && s.does === 'idle' && !s.ended;

@@ -16,6 +16,7 @@ enum { WORDS_BY_COMMAND = 31 << 16 | 3 << 8, READ_COMMAND = 3 << 24 | 2 << 8 | 6
 static struct {
     uint32_t ctrlr0, ctrlr1, enr, baudr, spi_ctrlr0;
     bool is_connected, is_command; /* as the ROM's functions left it */
+    bool is_forced;                /* the flash's chip select, by the pin's override */
 } ssi;
 static uint32_t tags[SETS][WAYS]; /* of lines, 0 for none; the one that was used last is first */
 
@@ -72,6 +73,7 @@ void flash_reset(void) {
 
 void ssi_flush(void) {
     memset(tags, 0, sizeof tags);
+    ssi.is_forced = false;
 }
 
 void ssi_connect(void) {
@@ -82,10 +84,13 @@ void ssi_leave_memory(void) {
     if (!ssi.is_connected) {
         violation("the flash's pins aren't the ROM's");
     }
-    ssi.is_command = true;
+    ssi.is_command = ssi.is_forced = true;
 }
 
 void ssi_enter_memory(void) {
+    if (ssi.is_forced) {
+        violation("the flash is to be memory while its chip select is forced: the cache wasn't emptied");
+    }
     ssi.is_connected = ssi.is_command = false;
     ssi.enr = 1;
     ssi.ctrlr0 = WORDS_BY_COMMAND;
