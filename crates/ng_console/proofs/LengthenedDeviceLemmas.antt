@@ -18,7 +18,7 @@ use Rattle.ng_layout.specs.declared.header.Header.{Header}
 use Rattle.ng_layout.specs.Header.{header_at, header_by, header_in, is_marked, longest_in}
 use Rattle.ng_layout.specs.Limits.{greatest_count}
 use Rattle.ng_layout.specs.Stands.{is_large}
-use Rattle.ng_core.specs.Lifetime.{IsGrown}
+use Rattle.ng_journal.specs.Growth.{IsGrown}
 use Rattle.ng_file.specs.Bytes.{Lengthened, LengthenedInPart, sector_of}
 use Rattle.ng_console.specs.Grow.{GrowsFile, has_header, is_device, large_bytes}
 use Rattle.ng_console.specs.Lengthening.{IsLengthened, NamesSmallAreas, StayOrAreLengthened, image_in}

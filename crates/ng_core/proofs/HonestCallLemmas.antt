@@ -7,8 +7,6 @@ use Rattle.ng_rig.specs.Rig.{Device}
 use Rattle.ng_rig.specs.Trace.{Trace}
 use Rattle.ng_rig.specs.Calls.{IfHonest}
 use Rattle.ng_rig.proofs.WritesOnlyLemmas.{only_none}
-use Rattle.ng_layout.specs.declared.header.Header.{Header}
-use Rattle.ng_layout.specs.Areas.{is_large_size, spare_area}
 use Rattle.ng_layout.specs.Stored.{HalfModel, StoredModel, DurableState}
 use Rattle.ng_journal.specs.Journal.{JournalModel}
 use Rattle.ng_journal.specs.Loads.{StoresLoad}
@@ -130,14 +128,13 @@ makes_opening seen result r half out old new stores p h program =
 -- what `load_program` writes, with any device
 abbrev pub StoresText : {R T : Type 0} → (R → Device) → Result T Fault → StoredModel → List ℕ → JournalModel R → JournalModel R → Type 0
 StoresText seen result saved text old new = IfHonest (seen old.rig) (seen new.rig)
-    (StoresLoad result (spare_area (is_large_size (seen old.rig).sectors) old.header.area) old.header
-    (record { saved = saved; program = text }) (seen old.rig).trace (seen new.rig).trace)
+    (StoresLoad result (seen old.rig).sectors (ledger_of old) (record { saved = saved; program = text }) (seen old.rig).trace (seen new.rig).trace)
 
-told_load : {T : Type 0} (result : Result T Fault) (r : Reply) (area : ℕ) (header : Header) (loaded : DurableState)
-    (old new : Trace) → StoresLoad result area header loaded old new
-    → StoresLoad (told_as result r) area header loaded old new
-told_load (Ok v) r area header loaded old new p = record { writes = p.writes; text = p.text; laid = p.laid; synced = p.synced }
-told_load (Err e) r area header loaded old new p = record { writes = p.writes; text = tt; laid = tt; synced = tt }
+told_load : {T : Type 0} (result : Result T Fault) (r : Reply) (sectors : ℕ) (ledger : Ledger) (loaded : DurableState)
+    (old new : Trace) → StoresLoad result sectors ledger loaded old new
+    → StoresLoad (told_as result r) sectors ledger loaded old new
+told_load (Ok v) r sectors ledger loaded old new p = record { writes = p.writes; text = p.text; laid = p.laid; synced = p.synced }
+told_load (Err e) r sectors ledger loaded old new p = record { writes = p.writes; text = tt; laid = tt; synced = tt }
 
 -- a program
 pub makes_load : {R T : Type 0} (seen : R → Device) (result : Result T Fault) (r : Reply) (own : StoredModel) (text : List ℕ) (old new : ControllerModel R)
@@ -146,12 +143,12 @@ pub makes_load : {R T : Type 0} (seen : R → Device) (result : Result T Fault) 
 makes_load seen result r own text old new free is p h program =
     let before = seen old.journal.rig in
     let after = (seen new.journal.rig).trace in
-    let area = spare_area (is_large_size before.sectors) old.journal.header.area in
+    let ledger = ledger_of old.journal in
     subst (λ (o : Option Fault). let out : Transition = load_unless program old.session text o in MakesCalls
-    (told_as result r) (stored_for out out.reply) out before.sectors (ledger_of old.journal) before.trace after)
+    (told_as result r) (stored_for out out.reply) out before.sectors ledger before.trace after)
     (sym free)
-    (told_load result r area old.journal.header (record { saved = after_load old.session.stored (length text); program = text }) before.trace after
-    (subst (λ (x : StoredModel). StoresLoad result area old.journal.header (record { saved = x; program = text }) before.trace after) is (p.holds h)))
+    (told_load result r before.sectors ledger (record { saved = after_load old.session.stored (length text); program = text }) before.trace after
+    (subst (λ (x : StoredModel). StoresLoad result before.sectors ledger (record { saved = x; program = text }) before.trace after) is (p.holds h)))
 
 -- ---- what the journal keeps then, with any device
 
@@ -186,11 +183,10 @@ ledger_opening seen half out old new stores p program =
 -- a program
 pub ledger_load : {R : Type 0} (seen : R → Device) (own : StoredModel) (text : List ℕ) (old new : ControllerModel R)
     → load_refusal old.session text ≡ None → own ≡ after_load old.session.stored (length text)
-    → ledger_of new.journal ≡ with_program (spare_area (is_large_size (seen old.journal.rig).sectors) old.journal.header.area) (ledger_of old.journal) own
+    → ledger_of new.journal ≡ with_program (seen old.journal.rig).sectors (ledger_of old.journal) own
     → KeepsLedger seen (λ program. load program old.session text) old new
 ledger_load seen own text old new free is p program =
     let sectors = (seen old.journal.rig).sectors in
     subst (λ (o : Option Fault). let out : Transition = load_unless program old.session text o in IsStoredAfter
     (stored_for out out.reply) sectors (ledger_of old.journal) (ledger_of new.journal)) (sym free)
-    (subst (λ (x : StoredModel). ledger_of new.journal ≡ with_program
-    (spare_area (is_large_size sectors) old.journal.header.area) (ledger_of old.journal) x) is p)
+    (subst (λ (x : StoredModel). ledger_of new.journal ≡ with_program sectors (ledger_of old.journal) x) is p)

@@ -27,5 +27,4 @@ pub mod PowerOnLemmas
 pub mod LivesLemmas
 pub mod SessionStopLemmas
 pub mod ReadAheadLemmas
-pub mod GrownDeviceLemmas
 pub mod LifetimeLemmas

@@ -1,30 +1,23 @@
 -- The lifetime of a device, session by session.
 use Rattle.std.proofs.Common.{◌≡◌, inl, inr, ⊎_elim, ℕ, ℤ, suc, Bool, true, false, Option, None, Some, List, []}
-use Rattle.std.proofs.Common.{◌∷◌, ◌++◌, take, length, Result, Ok, Err, refl, sym, ◌∙◌, ap, subst, append_assoc}
-use Rattle.std.proofs.Common.{arith}
+use Rattle.std.proofs.Common.{◌∷◌, ◌++◌, take, Ok, Err, refl, sym, ◌∙◌, ap, subst, append_assoc}
 use Rattle.std.specs.Prelude.{pos}
 use Rattle.std.proofs.lemmas.List.{append-nil, append_cancel_left}
-use Rattle.ng_num.specs.declared.fault.Fault.{Fault}
-use Rattle.ng_num.specs.declared.fault.Fault.TheVariants.{NotFormatted}
 use Rattle.ng_canon.specs.declared.geometry.Geometry.{Geometry}
 use Rattle.ng_canon.specs.declared.item.Item.{Item}
 use Rattle.ng_rig.specs.Rig.{Device}
 use Rattle.ng_rig.specs.Trace.{Image, reads, items}
 use Rattle.ng_rig.specs.Calls.{IfHonest}
 use Rattle.ng_rig.proofs.ContinuationLemmas.{stop_now}
-use Rattle.ng_layout.specs.declared.header.Format.{Format}
-use Rattle.ng_layout.specs.declared.header.Format.TheVariants.{One, Two}
-use Rattle.ng_layout.specs.declared.header.Header.{Header}
-use Rattle.ng_layout.specs.Stands.{in_force, stands, stands_beside, beside_header, beside_format, recovered, IsModern, IsWritten}
+use Rattle.ng_layout.specs.Stands.{stands, stands_beside, recovered, IsModern, IsWritten}
 use Rattle.ng_layout.specs.Stored.{DurableState}
 use Rattle.ng_layout.proofs.ImageLemmas.{modern-beside}
-use Rattle.ng_journal.specs.AtRest.{IsImageUnder}
-use Rattle.ng_journal.specs.Formatting.{first_header, fresh_standing}
+use Rattle.ng_journal.specs.Formatting.{fresh_standing}
+use Rattle.ng_journal.specs.Growth.{grown_of}
 use Rattle.ng_journal.specs.Journal.{StandsBeside}
 use Rattle.ng_journal.specs.Recovery.{IsEitherBeside, IsTableOver, recovered_of}
-use Rattle.ng_journal.proofs.FoundStateLemmas.{none_found}
-use Rattle.ng_journal.proofs.AtRestLemmas.{at_rest}
-use Rattle.ng_journal.proofs.RestoreLemmas.{beside-under}
+use Rattle.ng_journal.proofs.GrownDeviceLemmas.{grown_stands}
+use Rattle.ng_journal.proofs.FormatTwoLemmas.{any_table, formatted_stands, longer, modern_same, own_tools, table_same}
 use Rattle.ng_session.specs.Entries.{Entry}
 use Rattle.ng_session.specs.Fold.{items_all}
 use Rattle.ng_session.specs.Runs.{CrashState, session_at_power_on, entries_of, under_way, dones, lines_given}
@@ -33,11 +26,10 @@ use Rattle.ng_core.specs.Runs.{tried_events}
 use Rattle.ng_core.specs.Power.{PowerOnResult, PowerOnSpec, PowerOnSpecIfHonest, power_on_rig}
 use Rattle.ng_core.specs.Headline.{IsAccounted, IsPast, IsPoweredOn, Accounts}
 use Rattle.ng_core.specs.Lives.{CommittedSession, state_after_session, items_of_session}
-use Rattle.ng_core.specs.Lifetime.{grown_of, GivenEvents, DeviceSession, EndsSession, IsFoundAs, IsDeviceSession}
+use Rattle.ng_core.specs.Lifetime.{GivenEvents, DeviceSession, EndsSession, IsFoundAs, IsDeviceSession}
 use Rattle.ng_core.specs.Lifetime.{IsLifetime, cut_within, cut_after, KeepsToEntries, state_found, LifetimeHolds}
 use Rattle.ng_core.specs.Lifetime.{KeepsFromFormat, KeepsFromImage}
 use Rattle.ng_core.proofs.AccountLemmas.{accounts}
-use Rattle.ng_core.proofs.GrownDeviceLemmas.{grown_stands}
 use Rattle.ng_core.proofs.LivesLemmas.{IsLived, lived_within, lived_since}
 use Rattle.ng_core.proofs.PastLemmas.{powered_on}
 use Rattle.ng_core.proofs.SessionStopLemmas.{left_synced}
@@ -168,17 +160,28 @@ module _ {A R : Type 0} (seen : R → Device) (tools : List ℤ) (x : DurableSta
 
 -- what power on found stands for what was left, on a grown device with a greater limit
 record IsFoundFor (found left : Image) (tools : List ℤ) (x : DurableState) : Type 0 where
-  force : in_force found ≡ in_force left
+  table : (given table : List ℤ) → IsTableOver given table left → IsTableOver given table found
+  modern : IsModern left → IsModern found
   state : stands_beside tools found ≡ Ok x
   written : IsWritten found
 
 found_for : (found left : Image) (tools : List ℤ) (x : DurableState) → stands_beside tools left ≡ Ok x → IsWritten left
     → (is_grown : Bool) → IsFoundAs is_grown left found → IsFoundFor found left tools (state_found is_grown found x)
 found_for found left tools x state written false same =
-    record { force = ap in_force same; state = ap (stands_beside tools) same ∙ state; written = subst IsWritten (sym same) written }
+    record {
+      table = λ given table over. subst (IsTableOver given table) (sym same) over;
+      modern = λ m. subst IsModern (sym same) m;
+      state = ap (stands_beside tools) same ∙ state;
+      written = subst IsWritten (sym same) written;
+    }
 found_for found left tools x state written true grown =
     let g = grown_stands left found grown in
-    record { force = g.force; state = g.state tools ∙ ap (grown_of found) state; written = g.written written }
+    record {
+      table = λ given table over. table_same found left g given table over;
+      modern = λ m. modern_same found left g m;
+      state = g.state tools ∙ ap (grown_of found) state;
+      written = g.written written;
+    }
 
 module _ {A R : Type 0} (seen : R → Device) (geometry : Geometry) (left : Image) (s : DeviceSession A R) (is : IsDeviceSession seen geometry left s) where
   powers_by : (tools : List ℤ) → IsTableOver s.settings.tools tools (reads (seen s.rig).trace)
@@ -197,46 +200,9 @@ module _ {A R : Type 0} (seen : R → Device) (geometry : Geometry) (left : Imag
   session_holds tools x state written table =
       let found = reads (seen s.rig).trace in
       let f = found_for found left tools x state written s.is_grown is.found in
-      let over : IsTableOver s.settings.tools tools found = λ header force format. table header (sym f.force ∙ force) format in
-      holds_by tools (state_found s.is_grown found x) f.state f.written over s.given is.ends
+      holds_by tools (state_found s.is_grown found x) f.state f.written (f.table s.settings.tools tools table) s.given is.ends
 
 -- ---- format 2 stays
-
-ok_is : {u v : DurableState} → (let a : Result DurableState Fault = Ok u in a) ≡ Ok v → u ≡ v
-ok_is e = cc
-
-no_state : (r : Result DurableState Fault) (y : DurableState) (e : Fault) → r ≡ Ok y → r ≡ Err e → ⊥
-no_state r y e p q = cc
-
--- over format 1 the tools are those of the table
-one_table : (tools : List ℤ) (r : Result DurableState Fault) (h : Header) (y : DurableState)
-    → h.format ≡ One → beside_header tools (Some h) r ≡ Ok y → y.saved.tools ≡ tools
-one_table tools (Ok z) h y one is =
-    ap (λ (u : DurableState). u.saved.tools) (sym (ok_is is)) ∙ ap (λ (f : Format). (beside_format tools f z).saved.tools) one
-one_table tools (Err e) h y one is = absurd (cc)
-
--- so an image with other tools is of format 2
-own_tools : (image : Image) (tools : List ℤ) (y : DurableState) → stands_beside tools image ≡ Ok y → (y.saved.tools ≡ tools → ⊥) → IsModern image
-unfolding stands_beside
-own_tools image tools y is other = go (in_force image) refl
-  where
-    by : (h : Header) → in_force image ≡ Some h → (f : Format) → h.format ≡ f → IsModern image
-    by h some One one = absurd (other (one_table tools (stands image) h y one (sym (beside-under tools image h some) ∙ is)))
-    by h some Two two = record { header = h; force = some; format = two }
-
-    go : (o : Option Header) → in_force image ≡ o → IsModern image
-    go None none =
-        let state : stands image ≡ Ok y = sym (λ i. beside_header tools (none i) (stands image)) ∙ is in
-        absurd (no_state (stands image) y NotFormatted state (none_found image None (sym none) refl))
-    go (Some h) some = by h some h.format refl
-
--- a table with one more slot is another
-longer : (tools : List ℤ) → (tools ≡ pos 0 ∷ tools → ⊥)
-longer tools e = let n : length tools ≡ suc (length tools) = ap (λ (l : List ℤ). length l) e in omega arith
-
--- over format 2 any table may be named
-any_table : (given tools : List ℤ) (image : Image) → IsModern image → IsTableOver given tools image
-any_table given tools image m header force format = absurd (cc (m.force, m.format))
 
 stays_modern : {A R : Type 0} (seen : R → Device) (geometry : Geometry) (left : Image) (s : DeviceSession A R)
     (is : IsDeviceSession seen geometry left s) (x : DurableState) → stands left ≡ Ok x → IsWritten left → IsModern left → IsModern s.image
@@ -249,7 +215,7 @@ stays_modern {A} {R} seen geometry left s is x state written m = by s.given is.e
     found tools = found_for old left tools x (modern-beside tools left m ∙ state) written s.is_grown is.found
 
     is_modern : IsModern old
-    is_modern = record { header = m.header; force = (found []).force ∙ m.force; format = m.format }
+    is_modern = (found []).modern m
 
     powers : (tools : List ℤ) → IfHonest (seen s.rig) (seen (power_on_rig s.answer))
         (PowerOnSpecIfHonest tools s.answer (seen s.rig).trace (seen (power_on_rig s.answer)).trace)
@@ -293,8 +259,7 @@ holds_modern seen geometry tools left x (s ∷ ss) state written m is =
 
 pub holds_from_format : {R : Type 0} (A : Type 0) (seen : R → Device) → KeepsFromFormat A seen
 holds_from_format A seen (Ok v) most old new f = λ geometry tools life is.
-    let r : IsImageUnder new first_header (fresh_standing most) = at_rest new first_header (fresh_standing most) f.at in
-    let m : IsModern (reads new) = record { header = first_header; force = r.force; format = refl } in
-    let state = modern-beside tools (reads new) m ∙ r.stands_for in
-    holds_modern seen geometry tools (reads new) (fresh_standing most) life state r.written m is
+    let r = formatted_stands v most old new f in
+    let state = modern-beside tools (reads new) r.modern ∙ r.state in
+    holds_modern seen geometry tools (reads new) (fresh_standing most) life state r.written r.modern is
 holds_from_format A seen (Err e) most old new f = tt

@@ -1,9 +1,8 @@
 -- What power on returns, from what the journal recovers.
 use Rattle.std.proofs.Common.{◌≡◌, ℕ, ℤ, List, Ok, refl, sym, ◌∙◌, ap, subst}
-use Rattle.ng_rig.specs.Trace.{Trace, reads}
-use Rattle.ng_layout.specs.Stands.{program_under}
+use Rattle.ng_rig.specs.Trace.{Trace}
 use Rattle.ng_layout.specs.Stored.{StoredModel, DurableState}
-use Rattle.ng_journal.specs.Journal.{JournalModel, IsDurablyAt}
+use Rattle.ng_journal.specs.Journal.{JournalModel, IsDurablyAt, program_in_force}
 use Rattle.ng_journal.specs.Recover.{RecoverSpec, IsJournalRecovered}
 use Rattle.ng_canon.specs.declared.geometry.Geometry.{Geometry}
 use Rattle.ng_session.specs.Planned.{KnownModel, IsKnownOf}
@@ -35,5 +34,5 @@ pub powered : {R : Type 0} (tools : List ℤ) (journal : JournalModel R) (saved 
 powered tools journal saved session lines geometry old new stored held known r = record {
   recovers = subst (λ (x : StoredModel). RecoverSpec tools (Ok (journal, x)) old new) (sym stored) r;
   rests = λ written. recovered tools journal session lines geometry old new (stored ∙ sym held) known (r.keeps written).ready;
-  force = (record { synced = r.synced; program_is = refl }, known (program_under journal.header (reads new)));
+  force = (record { synced = r.synced; program_is = refl }, known (program_in_force new journal));
 }

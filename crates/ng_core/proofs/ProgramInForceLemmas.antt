@@ -11,10 +11,9 @@ use Rattle.ng_rig.specs.Trace.{Handed, reads}
 use Rattle.ng_text.specs.LinesBefore.{IsTrueOf}
 use Rattle.ng_text.specs.Percent.{first_kind}
 use Rattle.ng_text.specs.Programs.{ProgramLineModel, program_line_at, lines_before}
-use Rattle.ng_layout.specs.Stands.{program_under}
 use Rattle.ng_layout.specs.Stored.{StoredModel}
-use Rattle.ng_journal.specs.Journal.{JournalModel, HoldsProgram}
-use Rattle.ng_journal.specs.Storing.{Ledger, ledger_of}
+use Rattle.ng_journal.specs.Journal.{JournalModel, HoldsProgram, program_in_force}
+use Rattle.ng_journal.specs.Storing.{ledger_of}
 use Rattle.ng_journal.proofs.ProgramHeldLemmas.{holds_same, holds_handed}
 use Rattle.ng_session.specs.Entries.{after_load}
 use Rattle.ng_session.specs.Planned.{KnownModel, IsKnownOf}
@@ -46,7 +45,7 @@ FindingInForce seen first line known place journal =
 abbrev pub ReadingInForce : {R : Type 0} → (R → Device) → Option ProgramLineModel → ℕ → JournalModel R → Type 0
 ReadingInForce seen line place journal =
     (seen journal.rig).honest
-    → line ≡ program_line_at (program_under journal.header (reads (seen journal.rig).trace)) place
+    → line ≡ program_line_at (program_in_force (seen journal.rig).trace journal) place
 
 module _ {R : Type 0} (seen : R → Device) where
   -- ---- the program in force stays the same
@@ -61,7 +60,7 @@ module _ {R : Type 0} (seen : R → Device) where
       → ledger_of new ≡ ledger_of old → KeepsProgram seen old new
   keeps_unwritten old new unwritten ledger = λ h program held.
       holds_same old new program (seen old.rig).trace (seen new.rig).trace (unwritten h)
-      (ap (λ (l : Ledger). l.header) ledger) held
+      ledger held
 
   -- an item is handed out
   pub keeps_handed : (item : Item) (old new : JournalModel R)
@@ -69,7 +68,7 @@ module _ {R : Type 0} (seen : R → Device) where
       → ledger_of new ≡ ledger_of old → KeepsProgram seen old new
   keeps_handed item old new is ledger = λ h program held.
       holds_handed item old new program (seen old.rig).trace (seen new.rig).trace (is h)
-      (ap (λ (l : Ledger). l.header) ledger) held
+      ledger held
 
   -- ---- an event is answered
 

@@ -8,7 +8,6 @@ use Rattle.ng_rig.specs.Rig.{Device}
 use Rattle.ng_rig.specs.Trace.{Image, Trace, Handed, items}
 use Rattle.ng_rig.specs.Calls.{IfHonest}
 use Rattle.ng_rig.specs.Continuation.{IsContinuation}
-use Rattle.ng_layout.specs.Areas.{is_large_size, spare_area}
 use Rattle.ng_journal.specs.Journal.{StandsFor, IsBrokenBy, CountsFailure}
 use Rattle.ng_journal.specs.Loads.{StoresLoad}
 use Rattle.ng_journal.specs.Storing.{Ledger, Storing, Commit, Open, Load, StoresRecord, IsLedgerAfter, with_program, ledger_of}
@@ -130,7 +129,7 @@ MakesCalls answer None out sectors ledger old new = HandsAll answer out.items ol
 MakesCalls answer (Some (Commit saved)) out sectors ledger old new = StoresRecord answer ledger saved old new
 MakesCalls answer (Some (Open half)) out sectors ledger old new = StoresRecord answer ledger (record ledger.saved { half = Some half }) old new
 MakesCalls answer (Some (Load saved)) out sectors ledger old new =
-    StoresLoad answer (spare_area (is_large_size sectors) ledger.header.area) ledger.header (record { saved = saved; program = out.program }) old new
+    StoresLoad answer sectors ledger (record { saved = saved; program = out.program }) old new
 
 -- What is called for the answer to an outcome. Unless it is answered or the device failed, the device is unchanged.
 pub record CallsFor (answer : Result Reply Fault) (out : Transition) (sectors : ℕ) (ledger : Ledger) (old new : Trace) : Type 0 where
@@ -148,7 +147,7 @@ abbrev pub IsStoredAfter : Option Storing → (sectors : ℕ) → Ledger → Led
 IsStoredAfter None sectors old new = new ≡ old
 IsStoredAfter (Some (Commit saved)) sectors old new = IsLedgerAfter old saved new
 IsStoredAfter (Some (Open half)) sectors old new = IsLedgerAfter old (record old.saved { half = Some half }) new
-IsStoredAfter (Some (Load saved)) sectors old new = new ≡ with_program (spare_area (is_large_size sectors) old.header.area) old saved
+IsStoredAfter (Some (Load saved)) sectors old new = new ≡ with_program sectors old saved
 
 -- With any device, the journal keeps what the outcome stores, which is the same for each program.
 abbrev pub KeepsLedger : {R : Type 0} → (R → Device) → (List ℕ → Transition) → ControllerModel R → ControllerModel R → Type 0

@@ -1,7 +1,7 @@
 -- The lifetime of a device (own): power on after power on, each over what the stop before it left, with the events that
 -- came after each. Of every call its contract is known, and nothing else. And what the plain interpreter makes of it.
-use Rattle.std.specs.Prelude.{◌≡◌, ◌⊎◌, ◌≤◌, ◌<◌, ℕ, ℤ, suc, Bool, true, false, if◌then◌else◌, List, [], ◌∷◌, ◌++◌}
-use Rattle.std.specs.Prelude.{take, Option, Some, None, Result, Ok, Err, OnOk}
+use Rattle.std.specs.Prelude.{◌≡◌, ◌⊎◌, ◌≤◌, ℕ, ℤ, suc, Bool, true, false, if◌then◌else◌, List, [], ◌∷◌, ◌++◌}
+use Rattle.std.specs.Prelude.{take, Option, Some, None, Result, Ok, OnOk}
 use Rattle.ng_num.specs.declared.fault.Fault.{Fault}
 use Rattle.ng_canon.specs.declared.geometry.Geometry.{Geometry}
 use Rattle.ng_canon.specs.declared.item.Item.{Item}
@@ -9,12 +9,11 @@ use Rattle.ng_rig.specs.Rig.{Device}
 use Rattle.ng_rig.specs.Trace.{Image, Trace, reads, items, moment, trace_at, IsStop}
 use Rattle.ng_rig.specs.Continuation.{IsSynced}
 use Rattle.ng_settings.specs.declared.standard.Settings.{Settings}
-use Rattle.ng_layout.specs.Areas.{header_count, least_size}
-use Rattle.ng_layout.specs.Header.{header_in, program_limit_of}
-use Rattle.ng_layout.specs.Stands.{is_large, in_force, stands_beside, recovered, IsWritten}
+use Rattle.ng_layout.specs.Stands.{stands_beside, recovered, IsWritten}
 use Rattle.ng_layout.specs.Stored.{DurableState}
 use Rattle.ng_journal.specs.Formatting.{FormatSpec, fresh_standing}
-use Rattle.ng_journal.specs.Journal.{StandsBeside}
+use Rattle.ng_journal.specs.Growth.{IsGrown, with_limit_of}
+use Rattle.ng_journal.specs.Journal.{StandsBeside, least_size}
 use Rattle.ng_journal.specs.Recovery.{IsTableOver}
 use Rattle.ng_session.specs.Runs.{session_at_power_on, entries_of, under_way, dones, lines_given}
 use Rattle.ng_session.specs.declared.event.Event.{Event}
@@ -25,29 +24,6 @@ use Rattle.ng_core.specs.Runs.{PassesAsSession, tried_events}
 use Rattle.ng_core.specs.AnsweredEvents.{AreAnsweredEvents, answered_at}
 use Rattle.ng_core.specs.Power.{PowerOnResult, PowerOnSpec, power_on_rig}
 use Rattle.ng_core.specs.Lives.{CutSession, CommittedSession, state_after_session, items_of_session, KeepsToFold, SessionKeepsToFold}
-
--- ---- a device that is grown between two sessions
-
--- A small device was lengthened, to a large one or in part: its sectors stay, and its headers are read as before. Zeros
--- after them do that.
-pub record IsGrown (old new : Image) : Type 0 where
-  pub small : is_large old ≡ false
-  pub same : (n : ℕ) → n < least_size → new n ≡ old n
-  pub headers : (k : ℕ) → k < header_count → header_in (is_large new) k (old k) ≡ header_in false k (old k)
-
--- with the program limit of the device with this image
-abbrev pub with_limit_of : Image → DurableState → DurableState
-with_limit_of image x = record x { saved = record x.saved { program_limit = program_limit_of (is_large image) } }
-
-abbrev pub grown_of : Image → Result DurableState Fault → Result DurableState Fault
-grown_of image (Ok x) = Ok (with_limit_of image x)
-grown_of image (Err e) = Err e
-
--- The grown device stands for the same, with any table of the settings, but for the program limit.
-pub record StandsGrown (old new : Image) : Type 0 where
-  pub force : in_force new ≡ in_force old
-  pub state : (tools : List ℤ) → stands_beside tools new ≡ grown_of new (stands_beside tools old)
-  pub written : IsWritten old → IsWritten new
 
 -- ---- what happened
 

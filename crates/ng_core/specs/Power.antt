@@ -6,10 +6,9 @@ use Rattle.ng_rig.specs.Rig.{Device}
 use Rattle.ng_rig.specs.Calls.{IfHonest}
 use Rattle.ng_rig.specs.Trace.{Trace, reads}
 use Rattle.ng_settings.specs.declared.standard.Settings.{Settings}
-use Rattle.ng_layout.specs.Areas.{least_size}
-use Rattle.ng_layout.specs.Stands.{program_under, stands_beside, IsWritten}
+use Rattle.ng_layout.specs.Stands.{stands_beside, IsWritten}
 use Rattle.ng_layout.specs.Storable.{IsStorable}
-use Rattle.ng_journal.specs.Journal.{CountsFailure}
+use Rattle.ng_journal.specs.Journal.{CountsFailure, least_size, program_in_force}
 use Rattle.ng_journal.specs.Recover.{RecoverResult, RecoverSpec, IsRecoveryFault, recover_rig, recover_fault}
 use Rattle.ng_journal.specs.Recovery.{recovered_of, IsTableOver}
 use Rattle.ng_session.specs.Session.{resting}
@@ -44,7 +43,7 @@ pub record IsControllerRecovered {R : Type 0} (tools : List ℤ) (c : Controller
 pub record PowerOnSpecIfHonest {R : Type 0} (tools : List ℤ) (result : PowerOnResult R) (old new : Trace) : Type 0 where
   pub recovers : RecoverSpec tools (journal_result result) old new
   pub rests : IsWritten (reads old) → IfOk result (λ c. IsControllerRecovered tools c old new)
-  pub force : IfOk result (λ c. HasInForce new c (program_under c.journal.header (reads new)))
+  pub force : IfOk result (λ c. HasInForce new c (program_in_force new c.journal))
 
 -- What power on returns, with any device: a whole controller at rest with the stored state, or a fault and the device.
 -- A device of format 1 gets the tools of the settings; with format 2 these aren't used.

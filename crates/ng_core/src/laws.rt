@@ -14,7 +14,7 @@ ghost use Rattle.ng_layout.specs.Stands.{stands_beside, recovered};
 ghost use Rattle.ng_layout.specs.Stored.{DurableState};
 ghost use Rattle.ng_core.specs.Headline.{IsPast, Accounts, AddsToPast, CountsAcknowledged};
 ghost use Rattle.ng_core.specs.Lives.{CutsOfImageHistory, SessionsWithinPowerOn, SessionsAfterPowerOn, SessionsAnew};
-ghost use Rattle.ng_core.specs.Lifetime.{IsGrown, StandsGrown, KeepsFromFormat, KeepsFromImage};
+ghost use Rattle.ng_core.specs.Lifetime.{KeepsFromFormat, KeepsFromImage};
 
 use ng_rig::Rig;
 use std::alloc::Allocator;
@@ -92,9 +92,4 @@ pub fn lifetime<R: Rig, A: Allocator>()
 
     // From any image on that only such a controller wrote, of either format.
     ensures found { KeepsFromImage A R.seen }
-{}
-
-/// A small device that became a large one stands for what it stood for, but for its program limit.
-pub fn grown()
-    ensures { (old new : Image) → IsGrown old new → StandsGrown old new }
 {}

@@ -2,7 +2,7 @@
 ghost use Rattle.std.specs.Prelude.{◌≤◌, List, ℤ};
 ghost use Rattle.ng_rig.specs.Calls.{IfHonest};
 ghost use Rattle.ng_rig.specs.Trace.{reads};
-ghost use Rattle.ng_layout.specs.Areas.{least_size};
+ghost use Rattle.ng_journal.specs.Journal.{least_size};
 ghost use Rattle.ng_journal.specs.Recovery.{IsTableOver};
 ghost use Rattle.ng_core.specs.Headline.{BeginsPast};
 ghost use Rattle.ng_core.specs.Power.{PowerOnSpec, power_on_rig};

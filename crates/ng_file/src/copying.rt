@@ -1,9 +1,9 @@
 //! A copy in memory of the device in a file.
-ghost use Rattle.std.specs.Prelude.{◌≡◌, ◌≢◌, ◌+◌, ◌*◌, ◌≤◌, ◌<◌, ◌^◌, ℕ, IfOk, OnOk, IfSome};
+ghost use Rattle.std.specs.Prelude.{◌≡◌, ◌≢◌, ◌+◌, ◌++◌, ◌*◌, ◌≤◌, ◌<◌, ◌^◌, ℕ, false, [], ◌∷◌, Some, IfOk, OnOk, IfSome};
 ghost use Rattle.ng_rig.specs.Memory.{sector_count, trace_of};
 ghost use Rattle.ng_rig.specs.Trace.{reads};
 ghost use Rattle.ng_file.specs.Bytes.{sector_of};
-ghost use Rattle.ng_file.specs.Copying.{IsCopy, sectors_in};
+ghost use Rattle.ng_file.specs.Copying.{IsCopy, IsReadTwice, reading, sectors_in};
 
 use crate::storage::{SECTOR, Storage};
 use ng_rig::{Failed, MemoryRig, Rig};
@@ -27,11 +27,13 @@ pub fn copied<S: Storage, A: Allocator + Copy + Drop>(
 ) -> io::Result<MemoryRig<A>>
     requires { 512 * most < 2 ^ 64 }
     ensures copy { IfOk result (λ copy. IfSome (S.content file.old) (λ held. IsCopy most held copy)) }
+    ensures twice { IfOk result (λ copy. IfSome (S.gave file.old) (λ before. IsReadTwice copy before (S.gave file.new))) }
     ensures stays { S.content file.new ≡ S.content file.old }
 {
     let sectors = sectors_of(file, most)?;
     let mut copy = MemoryRig::new(alloc, sectors)?;
-    for _ in 0..READINGS {
+    copy_changes(file, &mut copy)?;
+    for _ in 1..READINGS {
         if !copy_changes(file, &mut copy)? {
             return Ok(copy);
         }
@@ -44,6 +46,7 @@ fn sectors_of<S: Storage>(file: &mut S, most: usize) -> io::Result<usize>
     ensures value { IfOk result (λ sectors. IfSome (S.content file.old) (λ held. sectors ≡ sectors_in most held)) }
     ensures most { IfOk result (λ sectors. sectors ≤ most) }
     ensures stays { S.content file.new ≡ S.content file.old }
+    ensures gives { S.gave file.new ≡ S.gave file.old }
 {
     let sectors = file.length()? / SECTOR as u64;
     Ok(sectors.min(most as u64) as usize)
@@ -57,6 +60,10 @@ fn copy_changes<S: Storage, A: Allocator + Copy + Drop>(
     requires { 512 * sector_count copy.old < 2 ^ 64 }
     ensures same { OnOk result (IfSome (S.content file.old) (λ held. (n : ℕ) → n < sector_count copy.old
         → reads (trace_of copy.new) n ≡ sector_of n held)) }
+    ensures gives { OnOk result (IfSome (S.gave file.old) (λ before. S.gave file.new
+        ≡ Some (before ++ reading (sector_count copy.new) (reads (trace_of copy.new))))) }
+    ensures equal { IfOk result (λ differs. differs ≡ false → (n : ℕ) → n < sector_count copy.old
+        → reads (trace_of copy.new) n ≡ reads (trace_of copy.old) n) }
     ensures past { (n : ℕ) → sector_count copy.old ≤ n → reads (trace_of copy.new) n ≡ reads (trace_of copy.old) n }
     ensures size { sector_count copy.new ≡ sector_count copy.old }
     ensures stays { S.content file.new ≡ S.content file.old }
@@ -80,6 +87,10 @@ fn copy_sector<S: Storage, A: Allocator + Copy + Drop>(
     requires fits { 512 * sector < 2 ^ 64 }
     ensures same { OnOk result (IfSome (S.content file.old) (λ held.
         reads (trace_of copy.new) sector ≡ sector_of sector held)) }
+    ensures gives { OnOk result (IfSome (S.gave file.old) (λ before. S.gave file.new
+        ≡ Some (before ++ (512 * sector, reads (trace_of copy.new) sector) ∷ []))) }
+    ensures equal { IfOk result (λ differs. differs ≡ false
+        → reads (trace_of copy.new) sector ≡ reads (trace_of copy.old) sector) }
     ensures others { (n : ℕ) → n ≢ sector → reads (trace_of copy.new) n ≡ reads (trace_of copy.old) n }
     ensures size { sector_count copy.new ≡ sector_count copy.old }
     ensures stays { S.content file.new ≡ S.content file.old }
@@ -97,6 +108,8 @@ fn put_if_new<A: Allocator + Copy + Drop>(
 ) -> io::Result<bool>
     requires { sector < sector_count copy.old }
     ensures same { OnOk result (reads (trace_of copy.new) sector ≡ bytes.now) }
+    ensures equal { IfOk result (λ differs. differs ≡ false
+        → reads (trace_of copy.new) sector ≡ reads (trace_of copy.old) sector) }
     ensures others { (n : ℕ) → n ≢ sector → reads (trace_of copy.new) n ≡ reads (trace_of copy.old) n }
     ensures size { sector_count copy.new ≡ sector_count copy.old }
 {

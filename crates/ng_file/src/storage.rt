@@ -1,5 +1,5 @@
 //! The bytes of a file.
-ghost use Rattle.std.specs.Prelude.{◌≡◌, ◌+◌, ◌<◌, ◌≤◌, ◌^◌, ℕ, List, Option, Some, None, length, slice_range, IfOk, OnOk, OnErr, IfSome, IsSome};
+ghost use Rattle.std.specs.Prelude.{◌≡◌, ◌+◌, ◌++◌, ◌<◌, ◌≤◌, ◌^◌, ℕ, List, [], ◌∷◌, Option, Some, None, length, slice_range, IfOk, OnOk, OnErr, IfSome, IsSome};
 ghost use Rattle.std.specs.Io.KnownBytes.{Appends};
 ghost use Rattle.ng_file.specs.Bytes.{AppendsBeginning, Put, PutInPart};
 ghost use Rattle.ng_file.specs.Promise.{HoldsNothingNew, IfPromised, IsDurable, MayHoldBesides, Promise, no_promise};
@@ -15,6 +15,9 @@ pub trait Storage {
     /// The bytes that it holds, if that is known.
     ghost content: { Self → Option (List ℕ) } = { λ _. None };
 
+    /// What its good reads gave until now, each with its place, if that is known.
+    ghost gave: { Self → Option (List (ℕ × List ℕ)) } = { λ _. None };
+
     /// The bytes that a loss of power leaves, if that is known.
     ghost lasting: { Self → Option (List ℕ) } = { λ _. None };
 
@@ -28,6 +31,7 @@ pub trait Storage {
     fn length(&mut self) -> io::Result<u64>
         ensures value { IfOk result (λ n. IfSome (content self.old) (λ held. n ≡ length held)) }
         ensures bytes { content self.new ≡ content self.old }
+        ensures gives { gave self.new ≡ gave self.old }
         ensures known { (promise self.old).honest → IsSome (content self.old) }
         ensures promised { IfPromised (promise self.old) (promise self.new) (HoldsNothingNew (promise self.old) (promise self.new)) }
         ensures weakly { IfWeaklyPromised (weak_promise self.old) (weak_promise self.new) (HoldsNothingMore (weak_promise self.old) (weak_promise self.new)) };
@@ -36,6 +40,7 @@ pub trait Storage {
     fn read_at(&mut self, place: u64, into: &mut [u8; 512]) -> io::Result<()>
         ensures value { OnOk result (IfSome (content self.old) (λ held. into.new ≡ slice_range held place (place + 512))) }
         ensures bytes { content self.new ≡ content self.old }
+        ensures gives { OnOk result (IfSome (gave self.old) (λ before. gave self.new ≡ Some (before ++ (place, into.new) ∷ []))) }
         ensures promised { IfPromised (promise self.old) (promise self.new) (HoldsNothingNew (promise self.old) (promise self.new)) }
         ensures weakly { IfWeaklyPromised (weak_promise self.old) (weak_promise self.new) (HoldsNothingMore (weak_promise self.old) (weak_promise self.new)) };
 

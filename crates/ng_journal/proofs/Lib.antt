@@ -2,6 +2,8 @@ pub mod FormatLemmas
 pub mod SnapshotAloneLemmas
 pub mod FoundStateLemmas
 pub mod FirstKindReadLemmas
+pub mod FormatTwoLemmas
+pub mod GrownDeviceLemmas
 pub mod WrittenSectorLemmas
 pub mod ProgramLimitLemmas
 pub mod LineReadLemmas

@@ -19,7 +19,7 @@ use Rattle.ng_layout.proofs.ImageLemmas.{area-where, stretch-same}
 use Rattle.ng_log.specs.Records.{LogRecord, BelongsToRecord, size_of}
 use Rattle.ng_journal.specs.AtRest.{next_header}
 use Rattle.ng_journal.specs.Journal.{JournalModel, HoldsProgram}
-use Rattle.ng_journal.specs.Loads.{StoresLoad}
+use Rattle.ng_journal.specs.Loads.{StoresLoadIn}
 use Rattle.ng_journal.specs.Storing.{Ledger, IsLedgerAfter, BelongsToStoring, IsStoredIn, StoresRecord, changes_to}
 use Rattle.ng_journal.specs.Storing.{record_of, renewed, ledger_of}
 use Rattle.ng_journal.proofs.WrittenSectorLemmas.{not_of_epoch, of_epoch}
@@ -93,7 +93,7 @@ holds_record v was journal saved program old new most few stores moves holds = r
 pub holds_load : {R T E : Type 0} (v : T) (area : ℕ) (header : Header) (journal : JournalModel R)
     (loaded : DurableState) (old new : Trace) → loaded.saved.length ≡ length loaded.program
     → length loaded.program ≤ longest_in area
-    → (let ok : Result T E = Ok v in StoresLoad ok area header loaded old new)
+    → (let ok : Result T E = Ok v in StoresLoadIn ok area header loaded old new)
     → journal.header ≡ next_header header area loaded.saved.length → HoldsProgram new journal loaded.program
 holds_load v area header journal loaded old new long short stores is = record {
   synced = stores.synced;
@@ -102,22 +102,22 @@ holds_load v area header journal loaded old new long short stores is = record {
       ∙ text_is area loaded.program (reads new) short stores.text);
 }
 
--- Nothing is written, and the header is the same.
+-- Nothing is written, and what the journal keeps is the same.
 pub holds_same : {R : Type 0} (was journal : JournalModel R) (program : List ℕ) (old new : Trace) → new ≡ old
-    → journal.header ≡ was.header → HoldsProgram old was program → HoldsProgram new journal program
-holds_same was journal program old new same header holds = record {
+    → ledger_of journal ≡ ledger_of was → HoldsProgram old was program → HoldsProgram new journal program
+holds_same was journal program old new same ledger holds = record {
   synced = subst IsSynced (sym same) holds.synced;
-  program_is = (λ i. program_under (header i) (reads (same i))) ∙ holds.program_is;
+  program_is = (λ i. program_under (ledger i).header (reads (same i))) ∙ holds.program_is;
 }
 
 -- An item is handed out.
 pub holds_handed : {R : Type 0} (item : Item) (was journal : JournalModel R) (program : List ℕ) (old new : Trace)
-    → new ≡ Handed item old → journal.header ≡ was.header → HoldsProgram old was program
+    → new ≡ Handed item old → ledger_of journal ≡ ledger_of was → HoldsProgram old was program
     → HoldsProgram new journal program
-holds_handed item was journal program old new same header holds =
+holds_handed item was journal program old new same ledger holds =
     let read : reads (Handed item old) ≡ reads old = λ i n. reads old n in
     record {
       synced = subst IsSynced (sym same) (record { one = λ n c may. holds.synced.one n c may });
-      program_is = (λ i. program_under (header i) (reads (same i)))
+      program_is = (λ i. program_under (ledger i).header (reads (same i)))
           ∙ (ap (λ (image : ℕ → List ℕ). program_under was.header image) read ∙ holds.program_is);
     }

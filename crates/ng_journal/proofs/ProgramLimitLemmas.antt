@@ -25,7 +25,7 @@ use Rattle.ng_log.specs.Records.{LogRecord, size_of, IsPartOf, BelongsToRecord, 
 use Rattle.ng_log.proofs.RecordWriteLemmas.{next_from}
 use Rattle.ng_log.proofs.LogEndLemmas.{IsBlend, IsNext, blend-force, blend-stands, blend-written, blend-ends}
 use Rattle.ng_journal.specs.AtRest.{BelongsToAreas, BelongsTo, IsLaidOut, next_header}
-use Rattle.ng_journal.specs.Loads.{BelongsToLoad, StoresLoad}
+use Rattle.ng_journal.specs.Loads.{BelongsToLoad, StoresLoadIn}
 use Rattle.ng_journal.specs.Private.CheckpointSteps.{WritesAreas}
 use Rattle.ng_journal.specs.Private.Records.{LeadsTo}
 
@@ -74,8 +74,8 @@ areas_limited {T = T} {E = E} most result next saved old new w = record {
 -- ---- a load
 
 pub load_limited : {T E : Type 0} (most : ℕ) (result : Result T E) (area : ℕ) (header : Header) (saved : StoredModel)
-    (text : List ℕ) (old new : Trace) → StoresLoad result area header (record { saved = saved; program = text }) old
-    new → StoresLoad result area header (record { saved = with_limit most saved; program = text }) old new
+    (text : List ℕ) (old new : Trace) → StoresLoadIn result area header (record { saved = saved; program = text }) old
+    new → StoresLoadIn result area header (record { saved = with_limit most saved; program = text }) old new
 load_limited {T = T} {E = E} most result area header saved text old new s = record {
   writes = only_wider (λ n c. BelongsToLoad area header was n c) (λ n c. BelongsToLoad area header now n c) old new to_load s.writes;
   text = s.text;

@@ -13,7 +13,7 @@ use Rattle.ng_log.proofs.LogEndLemmas.{ends-stand}
 use Rattle.ng_journal.specs.declared.storing.Tip.{Tip}
 use Rattle.ng_journal.specs.AtRest.{IsEither, next_header}
 use Rattle.ng_journal.specs.Private.LoadSteps.{LoadSpec}
-use Rattle.ng_journal.specs.Loads.{StoresLoad}
+use Rattle.ng_journal.specs.Loads.{StoresLoadIn}
 use Rattle.ng_journal.specs.Journal.{JournalModel, CommitSpec}
 use Rattle.ng_journal.specs.Private.Records.{tip_of, StoreRecordSpec, StoresNext, IsTipAfter}
 use Rattle.ng_params.specs.Differences.{differences}
@@ -131,15 +131,15 @@ not_loaded e result journal area header end before after old new at l =
 
 -- what a load writes, if its area is this one
 pub loaded_as : {T U E F : Type 0} {v : T} {u : U} (area is : ℕ) (header : Header) (after : DurableState)
-    (old new : Trace) → area ≡ is → StoresLoad {E = F} (Ok u) area header after old new
-    → StoresLoad {E = E} (Ok v) is header after old new
+    (old new : Trace) → area ≡ is → StoresLoadIn {E = F} (Ok u) area header after old new
+    → StoresLoadIn {E = E} (Ok v) is header after old new
 loaded_as {E = E} {v = v} area is header after old new same s =
-    subst (λ (n : ℕ). StoresLoad {E = E} (Ok v) n header after old new) same
+    subst (λ (n : ℕ). StoresLoadIn {E = E} (Ok v) n header after old new) same
     (record { writes = s.writes; text = s.text; laid = s.laid; synced = s.synced })
 
 pub not_loaded_as : {T U E F : Type 0} (area is : ℕ) (e : E) (result : Result U F) (header : Header)
-    (after : DurableState) (old new : Trace) → area ≡ is → StoresLoad result area header after old new
-    → StoresLoad {T = T} (Err e) is header after old new
+    (after : DurableState) (old new : Trace) → area ≡ is → StoresLoadIn result area header after old new
+    → StoresLoadIn {T = T} (Err e) is header after old new
 not_loaded_as {T = T} area is e result header after old new same s =
-    subst (λ (n : ℕ). StoresLoad {T = T} (Err e) n header after old new) same
+    subst (λ (n : ℕ). StoresLoadIn {T = T} (Err e) n header after old new) same
     (record { writes = s.writes; text = tt; laid = tt; synced = tt })

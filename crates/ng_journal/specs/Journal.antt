@@ -9,7 +9,8 @@ use Rattle.ng_layout.specs.declared.header.Header.{Header}
 use Rattle.ng_layout.specs.Header.{program_limit_of, IsValidHeader}
 use Rattle.ng_layout.specs.declared.header.Format.TheVariants.{Two}
 use Rattle.ng_layout.specs.Limits.{greatest_count}
-use Rattle.ng_layout.specs.Areas.{is_large_size, log_size_of, least_size}
+use Rattle.ng_layout.specs.Areas.{is_large_size, log_size_of}
+pub use Rattle.ng_layout.specs.Areas.{least_size}
 use Rattle.ng_layout.specs.Stands.{program_under, stands, stands_beside, IsModern, IsWritten}
 use Rattle.ng_layout.specs.Storable.{IsStorable}
 use Rattle.ng_layout.specs.Stored.{StoredModel, DurableState}
@@ -53,10 +54,14 @@ pub record IsDurablyAt {R : Type 0} (trace : Trace) (journal : JournalModel R) (
   pub at : IsAtEnd trace journal.header standing journal.end
   pub saved_is : standing.saved ≡ journal.saved
 
--- Whatever the device stands for, all of it is synced, and this is the program in force: the header names its bytes.
+-- the program whose bytes the journal's header names on a device
+abbrev pub program_in_force : {R : Type 0} → Trace → JournalModel R → List ℕ
+program_in_force trace journal = program_under journal.header (reads trace)
+
+-- Whatever the device stands for, all of it is synced, and this is the program in force.
 pub record HoldsProgram {R : Type 0} (trace : Trace) (journal : JournalModel R) (program : List ℕ) : Type 0 where
   pub synced : IsSynced trace
-  pub program_is : program_under journal.header (reads trace) ≡ program
+  pub program_is : program_in_force trace journal ≡ program
 
 -- Each stop since stands for the state before or for the state after, and after Ok only for the latter; nothing is
 -- handed out.

@@ -2,6 +2,7 @@ pub mod Area
 pub mod AtRest
 pub mod Failures
 pub mod Formatting
+pub mod Growth
 pub mod Journal
 pub mod Loads
 pub mod Program

@@ -2,7 +2,7 @@
 ghost use Rattle.std.specs.Prelude.{◌≡◌, ◌≤◌, ◌<◌, ◌⊎◌, ◌↔◌, ℤ, List, false, true, [], Some, length, OnOk, IfOk, IfErr, IsSome, IsErrAnd};
 ghost use Rattle.ng_num.specs.declared.fault.Fault.TheVariants.{DeviceFailed, NotFormatted, OutOfMemory};
 ghost use Rattle.ng_rig.specs.Calls.{IfHonest, HandOutSpec};
-ghost use Rattle.ng_layout.specs.Areas.{is_large_size, least_size, spare_area};
+ghost use Rattle.ng_layout.specs.Areas.{least_size};
 ghost use Rattle.ng_layout.specs.Limits.{greatest_count};
 ghost use Rattle.ng_params.specs.Differences.{differences};
 ghost use Rattle.ng_params.specs.Numbers.{parameter_count};
@@ -250,12 +250,12 @@ impl<R: Rig, A: Allocator + Copy + Drop> Journal<R, A> {
         requires whole { self.old.broken ≡ false }
         requires storable { length text.now ≤ self.old.saved.program_limit → IsStorable stored.now }
         requires long { stored.now.length ≡ length text.now }
-        ensures stores { let area = spare_area (is_large_size (R.seen self.old.rig).sectors) self.old.header.area in
-            IfHonest (R.seen self.old.rig) (R.seen self.new.rig)
-            (LoadsProgram result area (record { saved = with_own_limit self.old stored.now; program = text.now }) self.old self.new
+        ensures stores { IfHonest (R.seen self.old.rig) (R.seen self.new.rig)
+            (LoadsProgram result (R.seen self.old.rig).sectors
+            (record { saved = with_own_limit self.old stored.now; program = text.now }) self.old self.new
             (R.seen self.old.rig).trace (R.seen self.new.rig).trace) }
-        ensures keeps { let area = spare_area (is_large_size (R.seen self.old.rig).sectors) self.old.header.area in
-            OnOk result (KeepsLoad area (with_own_limit self.old stored.now) self.old self.new) }
+        ensures keeps { OnOk result
+            (KeepsLoad (R.seen self.old.rig).sectors (with_own_limit self.old stored.now) self.old self.new) }
         ensures fails { FailsToLoad result text.now stored.now self.old self.new }
         ensures call { JournalCall R.seen result self.old self.new }
     {

@@ -10,7 +10,7 @@ ghost use Rattle.ng_layout.specs.declared.header.Format.TheVariants.{Two};
 ghost use Rattle.ng_layout.specs.Storable.{IsStorable};
 ghost use Rattle.ng_journal.specs.Private.CheckpointSteps.{FitsDevice, IsOwnImage};
 ghost use Rattle.ng_journal.specs.Private.LoadSteps.{WritesText, LoadSpec};
-ghost use Rattle.ng_journal.specs.Loads.{StoresLoad};
+ghost use Rattle.ng_journal.specs.Loads.{StoresLoadIn};
 
 use crate::checkpoint::{checkpoint, next_header};
 use ng_layout::{Header, SECTOR_BYTES, Stored, program_first, text_sector};
@@ -57,7 +57,7 @@ pub(crate) fn load<R: Rig, A: Allocator + Copy + Drop>(
         FitsDevice (reads (R.seen rig.old).trace) (next_header header area saved.length) saved
         → LoadSpec result area header (record { saved = saved; program = text.now }) (R.seen rig.old).trace (R.seen rig.new).trace)) }
     ensures stores { IfHonest (R.seen rig.old) (R.seen rig.new)
-        (StoresLoad result area header (record { saved = stored.now; program = text.now }) (R.seen rig.old).trace (R.seen rig.new).trace) }
+        (StoresLoadIn result area header (record { saved = stored.now; program = text.now }) (R.seen rig.old).trace (R.seen rig.new).trace) }
     ensures call { IsCall result (R.seen rig.old) (R.seen rig.new) }
 {
     write_program(rig, area, text)?;

@@ -106,7 +106,7 @@ returns-in-Ok-clause-keeps g c =
       saved =
           c.take_state.new.stored;
     })
-    (with_program (spare_area (is_large_size (g.R.Rig.seen inside.rig).sectors) header.area)
+    (with_program (g.R.Rig.seen inside.rig).sectors
     (ledger inside.tip inside.stored) (with_limit inside.stored.program_limit c.args.stored.now)) = λ i.
     record {
       header = ((c.beginning-self-inside.ensures

@@ -15,7 +15,7 @@ use Rattle.ng_layout.specs.Stands.{stands, stands_beside, beside_header, beside_
 use Rattle.ng_layout.specs.Stored.{DurableState}
 use Rattle.ng_layout.proofs.ImageLemmas.{force-within, log-long, stretch-same, under}
 use Rattle.ng_journal.proofs.FoundStateLemmas.{none_found}
-use Rattle.ng_core.specs.Lifetime.{IsGrown, StandsGrown, with_limit_of, grown_of}
+use Rattle.ng_journal.specs.Growth.{IsGrown, StandsGrown, with_limit_of, grown_of}
 
 module _ (old new : Image) (g : IsGrown old new) where
   header_same : (k : ℕ) → k < 2 → header_in (is_large new) k (new k) ≡ header_in (is_large old) k (old k)
