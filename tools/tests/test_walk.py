@@ -85,6 +85,17 @@ class Told(unittest.TestCase):
                 self.assertAlmostEqual(told, off, 6, (unit, axis))
 
 
+class WaysOn(unittest.TestCase):
+    """What a person touches who wants to get on."""
+
+    def test_stop(self) -> None:
+        """Stop is one, as the page's button is named, before lines in hand are gone on with, which has to be looked at.
+        """
+        named = [{"text": text, "look": False, "pressed": ""} for text in ("Quit", "Recover", "Stopends the job")]
+        seen = Seen(0.0, {"isLost": False, "entries": [], "buttons": named})
+        self.assertEqual(Walk._way_on(SimpleNamespace(done=[]), seen), ("touch", "Stopends the job"))
+
+
 class Killed(InFolder):
     """What comes of kills, by hand."""
 

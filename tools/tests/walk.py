@@ -76,7 +76,7 @@ _WEIGHTS: tuple[tuple[str, float], ...] = (
 _WAYS_ON = (
     r"Take over", r"Yes, give it up", r"Yes: cuts", r"(They|It) stand", r"Tool .* (is in|is out|in)$", r"Home$",
     r"Drop", r"Give up",
-    r"Where is", r"Where the player counts", r"No\b", r"Next", r"Confirm", r"Start ngc again", r"Stop$", r"Yes",
+    r"Where is", r"Where the player counts", r"No\b", r"Next", r"Confirm", r"Start ngc again", r"Stop", r"Yes",
     r"It is done", r"Recover", r"Home all$",
     r"Continue", r"Let go on", r"Go on", r"Back", r"Close", r"Load")
 _FORWARDS, _WAITS = len(_WAYS_ON) - 3, 8
