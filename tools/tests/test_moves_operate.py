@@ -203,11 +203,11 @@ class Moves(Core):
 
         self.link.ask = ask
         self.hold_after(60)
-        with patch("ngc_tools.operator.work.time", SimpleNamespace(monotonic=lambda: float(len(asked)))):
+        with patch("ngc_tools.operator.motors.time", SimpleNamespace(monotonic=lambda: float(len(asked)))):
             said = self.do("G0 X0.3")
         self.assertGreater(len(asked), 40)
-        self.assertEqual([text for text in said if "carried no line out" in text],
-                         ["the player has carried no line out for 10 s, as in a dwell. Enter or Ctrl-C holds"])
+        self.assertEqual([text for text in said if "nothing out" in text],
+                         ["the player has carried nothing out for 10 s, as in a dwell. Enter or Ctrl-C holds"])
 
     def test_half_done(self) -> None:
         """Over a half-done block too; `recover` is still for what the last session left."""

@@ -1,5 +1,6 @@
 """The page's server, without a browser: who may ask, what is asked, what is told, and a loss of power."""
 import http.client
+import itertools
 import json
 import os
 import select
@@ -14,6 +15,7 @@ from collections.abc import Callable
 from dataclasses import replace
 from pathlib import Path
 from types import SimpleNamespace
+from unittest.mock import MagicMock, patch
 
 sys.path.insert(0, str(Path(__file__).resolve().parent))
 
@@ -1103,6 +1105,21 @@ class Shown(unittest.TestCase):
         """Nothing is finished as long as a command is under way."""
         self.assertEqual((self.pictured("", 0, True).is_finished, self.pictured("run", 0, True).is_finished),
                          (True, False))
+
+
+class Moments(unittest.TestCase):
+    """When a state was so."""
+
+    def test_now(self) -> None:
+        """What a state says is at least as new as its `now`, however long the computer took to put it together."""
+        clock = itertools.count(100)
+        face, pages = SimpleNamespace(log=[]), MagicMock(commands=PAGE, on_loss="hold", __len__=lambda _: 1)
+        server = SimpleNamespace(session=SimpleNamespace(face=face), pages=pages)
+        with (patch("ngc_tools.page.server.state_of", lambda *_: {"seen_at": next(clock)}),
+              patch("ngc_tools.page.server.time", SimpleNamespace(time=lambda: next(clock)))):
+            text, _ = server_module.Server.state(server, PAGE, 0)
+        state = json.loads(text)
+        self.assertLess(state["now"], state["seen_at"])
 
 
 class HeldJogs(unittest.TestCase):

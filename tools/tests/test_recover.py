@@ -1,5 +1,6 @@
 """After a loss of power: ways along OUT, in both players; what ngc-operate and ngc-rehearse find; and `recover`."""
 import errno
+import itertools
 import os
 import random
 import shutil
@@ -13,7 +14,8 @@ from contextlib import ExitStack
 from dataclasses import replace
 from functools import partial
 from pathlib import Path
-from unittest.mock import patch
+from types import SimpleNamespace
+from unittest.mock import Mock, patch
 
 sys.path.insert(0, str(Path(__file__).resolve().parent))
 
@@ -39,7 +41,9 @@ from ngc_tools.operator.past import along_out, by_rate
 from ngc_tools.operator.recovery import Looking, OutFound, Recovery
 from ngc_tools.operator.sentences import GO_ON, LOOK, LOOK_AGAIN, LOOK_SWITCHED, SWITCHED_THERE
 from ngc_tools.operator.synced import SyncedLink
+from ngc_tools.operator.way_back import WayBack
 from ngc_tools.link.out_file import OutFile
+from ngc_tools.link.progress import Report
 
 # A path by hand: spindle on, +X +X at 50 us, a wait, +Y at 200 us, +X -Z at 70 us. It leads to 3 1 -1.
 PATH = b"S 1 900.000000 0 0 0 0\nP 1 0 0 50\nP 1 0 0 50\nD 9\nP 0 1 0 200\nP 1 0 -1 70\n"
@@ -575,6 +579,27 @@ class BeyondTheRecord(InFolder):
                          " they make at most 201 lines, 0.349 mm, in that time")
         self.assertEqual(by_rate(Settings.read("first.toml"), 0).words(), "It may be 20 ms and a sync old: they make at"
                          " most 401 lines, 0.695 mm, in 20 ms")
+
+
+class OnTheWay(unittest.TestCase):
+    """Motors that are waited for on a way."""
+
+    def test_still(self) -> None:
+        """Of a player that works, and neither moves nor carries a line out, that is said once, after 10 s; legs carry
+        none out."""
+        still = "the player has carried nothing out for 10 s, as in a dwell. Enter or Ctrl-C holds"
+        for moves, said in ((False, [still]), (True, [])):
+            reports = [Report(3, 8, False, f"{second * moves} 0 0", "out") for second in range(30)]
+            reports.append(Report(8, 8, False, "9 0 0", "out"))
+            left, face = iter(reports), Mock()
+            link = SimpleNamespace(ask=lambda left=left: next(left), release=lambda: None)
+            face.interrupted.return_value = False
+            session = SimpleNamespace(meter=SimpleNamespace(link=link), face=face, take=lambda _: None,
+                                      is_in=lambda *_: False)
+            clock = SimpleNamespace(monotonic=lambda ticks=itertools.count(1): float(next(ticks)))
+            with patch("ngc_tools.operator.motors.time", clock), patch("ngc_tools.operator.way_back._LOOK_S", 0):
+                self.assertTrue(WayBack(session).waits())
+            self.assertEqual(sorted({call.args[0] for call in face.once.mock_calls}), said)
 
 
 class Typing(Yes):

@@ -7,6 +7,7 @@ import time
 import unittest
 from collections.abc import Callable
 from pathlib import Path
+from types import SimpleNamespace
 
 sys.path.insert(0, str(Path(__file__).resolve().parent))
 
@@ -14,8 +15,8 @@ from browser_support import chromium
 from session_support import PATIENCE_S, InFolder
 from walk import Covered, Step, Walk, shortened, told, walked
 from walk_late import Lateness
-from walk_page import Tabs
-from walk_rules import Wrong
+from walk_page import Seen, Tabs
+from walk_rules import Truth, Wrong
 
 WALK_S = float(os.environ.get("NGC_WALK_S", "90"))
 SHORTEN_S = 60.0
@@ -69,6 +70,30 @@ class Late(unittest.TestCase):
         while late.rounds[-1][0] < stood and time.monotonic() < until:
             time.sleep(0.01)
         self.assertGreater(late.slack_s(stood), 0.5)
+
+
+class Told(unittest.TestCase):
+    """What the person of a walk tells."""
+
+    def test_inches(self) -> None:
+        """Where the player counts, by a page that shows inches: what is told is in millimetres, in whole steps."""
+        walk = SimpleNamespace(truth=Truth(), bench=SimpleNamespace(mill=SimpleNamespace(at_mm=(3.3, 5.42, 4.79))))
+        for unit, motors in (("mm", ["3.300", "5.425", "4.790"]), ("in", ["0.1299", "0.2136", "0.1886"])):
+            before = Seen(0.0, {"motors": motors, "units": [unit] * 3, "question": None})
+            Walk._told_place(walk, [{"what": "reference", "body": '{"at": "player"}'}], before)
+            for axis, (told, off) in enumerate(zip(walk.truth.offset, (0.0, 0.005, 0.0))):
+                self.assertAlmostEqual(told, off, 6, (unit, axis))
+
+
+class WaysOn(unittest.TestCase):
+    """What a person touches who wants to get on."""
+
+    def test_stop(self) -> None:
+        """Stop is one, as the page's button is named, before lines in hand are gone on with, which has to be looked at.
+        """
+        named = [{"text": text, "look": False, "pressed": ""} for text in ("Quit", "Recover", "Stopends the job")]
+        seen = Seen(0.0, {"isLost": False, "entries": [], "buttons": named})
+        self.assertEqual(Walk._way_on(SimpleNamespace(done=[]), seen), ("touch", "Stopends the job"))
 
 
 class Killed(InFolder):

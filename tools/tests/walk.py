@@ -31,7 +31,7 @@ from session_support import PATIENCE_S, memory
 from walk_late import Lateness
 from walk_machine import Bench
 from walk_page import Seen, Tabs
-from walk_rules import Judge, Truth, Wrong, changes, number
+from walk_rules import Judge, Truth, Wrong, changes, motors_of, number
 
 STEPS = 50
 BEGINS_S = 1.0
@@ -76,7 +76,7 @@ _WEIGHTS: tuple[tuple[str, float], ...] = (
 _WAYS_ON = (
     r"Take over", r"Yes, give it up", r"Yes: cuts", r"(They|It) stand", r"Tool .* (is in|is out|in)$", r"Home$",
     r"Drop", r"Give up",
-    r"Where is", r"Where the player counts", r"No\b", r"Next", r"Confirm", r"Start ngc again", r"Stop$", r"Yes",
+    r"Where is", r"Where the player counts", r"No\b", r"Next", r"Confirm", r"Start ngc again", r"Stop", r"Yes",
     r"It is done", r"Recover", r"Home all$",
     r"Continue", r"Let go on", r"Go on", r"Back", r"Close", r"Load")
 _FORWARDS, _WAITS = len(_WAYS_ON) - 3, 8
@@ -248,7 +248,7 @@ class Walk:
     def _told_place(self, posts: list[dict], before: Seen) -> None:
         """Where the person told that the machine stands: what is shown is off by as much from then on."""
         truth, at_mm = self.truth, self.bench.mill.at_mm
-        counted = dict(zip("XYZ", map(number, before.motors)))
+        counted = motors_of(before)
         is_asked = _BY_RECORD in (before.question or {}).get("text", "").lower()
         for post in posts:
             body = json.loads(post["body"] or "{}")

@@ -50,6 +50,13 @@ def point(texts: list[str]) -> Point | None:
     return x, y, z
 
 
+def motors_of(seen: Seen) -> dict[str, float]:
+    """Where a page says that the player has the motors, in millimetres, by axes; they are there in whole steps, which
+    inches show less exactly."""
+    shown = [value * _UNITS[unit] for text, unit in zip(seen.motors, seen.units) if (value := number(text)) is not None]
+    return dict(zip("XYZ", (round(mm / STEP_MM) * STEP_MM for mm in shown)))
+
+
 @dataclass
 class Truth:
     """What the person at the machine knows: which tool is in, and since when that was told, by how much the page's

@@ -16,6 +16,9 @@ PERCENTS = range(1, MOST_PERCENTS[-1] + 1)
 WHOLE = 100
 TEN = 10  # percent that a key changes
 
+STILL_S = 10.0  # of a player that works
+STILL = f"the player has carried nothing out for {STILL_S:.0f} s, as in a dwell. Enter or Ctrl-C holds"
+
 _STATES = {"moves": "moving", "waits spindle": "waiting for the spindle's speed", ALARM: "ALARM: not to be trusted",
            BROKEN: "broken off: no more line is carried out"}
 _REST_S = 10.0  # how long motors may take to come to rest
@@ -60,6 +63,23 @@ def live(report: Report, settings: Settings) -> list[str]:
     """The same, and what a loss of power would cost, as short as can be."""
     tenths = way_nm(report, settings) // 100_000 + 1
     return manner(report) + ([f"{count(report)}, <{tenths // 10}.{tenths % 10} mm"] if report.behind else [])
+
+
+class Stillness:
+    """How long a player that works has carried nothing out, where nothing that it says tells why. A dwell may take
+    hours: so that is waited for without a bound, and said."""
+
+    def __init__(self) -> None:
+        self._seen: tuple[int, str] | None = None
+        self._since = 0.0
+
+    def is_long(self, report: Report) -> bool:
+        """Whether that is more than STILL_S, by this report and those before."""
+        now, seen = time.monotonic(), (report.carried, report.at)
+        is_told_why = report.is_held or report.waits or report.word != "works" or not report.behind
+        if is_told_why or seen != self._seen:
+            self._seen, self._since = seen, now
+        return now > self._since + STILL_S
 
 
 class Motors:

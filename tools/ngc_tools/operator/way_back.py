@@ -9,8 +9,9 @@ from ngc_tools.formats.position import Position, distance, millimetres, nanometr
 from ngc_tools.formats.record import machine_nm
 from ngc_tools.job.figures import millimetres as rounded
 from ngc_tools.operator.display import on_words
-from ngc_tools.operator.face import REFUSED, WARNING, axes
+from ngc_tools.operator.face import REFUSED, WARNING, WHERE, axes
 from ngc_tools.operator.modes import trimmed
+from ngc_tools.operator.motors import STILL, Stillness
 from ngc_tools.operator.outputs import comes_on_agreed
 from ngc_tools.operator.sentences import LOOK, LOOK_AGAIN, LOOK_SWITCHED
 from ngc_tools.operator.session import ALARM, BROKEN, Session
@@ -116,12 +117,14 @@ class WayBack:
     def waits(self) -> bool:
         """Waits until the player stands, and lets it go on first; whether it does. Somebody who holds is asked, and so
         it is where the player holds by itself, as for a door. Raises NoAnswer."""
-        link, held = self.session.meter.link, 0
+        link, held, still = self.session.meter.link, 0, Stillness()
         link.release()
         while (report := link.ask()).behind:
             self.session.take(report)
             if self.session.is_in(ALARM, BROKEN):
                 return False
+            if still.is_long(report):
+                self.session.face.once(STILL, WHERE)
             if report.waits and not self._has_tool(report.tool):
                 return False
             held = held + 1 if report.is_held else 0

@@ -9,7 +9,7 @@ from ngc_tools.ngc.console import Status
 from ngc_tools.operator.display import short_words, work_words
 from ngc_tools.operator.face import MESSAGE, WARNING, WHERE, UnderWay
 from ngc_tools.operator.meter import AT_ONCE
-from ngc_tools.operator.motors import Motors, live
+from ngc_tools.operator.motors import STILL, Motors, Stillness, live
 from ngc_tools.operator.session import ALARM, BROKEN, DOOR, OTHER, SPINDLE, WAITS_SPINDLE, Session
 from ngc_tools.operator.timeline import Timeline
 from ngc_tools.link.progress import NoAnswer, Report
@@ -20,7 +20,6 @@ SINGLE = "single"
 FIRST_TICKS, MOST_TICKS = 20, 1000
 _HELD_S = 0.5  # of motors that are let go: so long after it they may still say that they are held
 _ASKED_S = 0.1  # of what holds them it asks about so often
-_STILL_S = 10.0  # of a player that works, and carries no line out
 _HELD = {
     DOOR: "the door is open, and the motors are held: once it is closed, release lets them go on",
     SPINDLE: "the spindle didn't come to its speed, and the motors are held: release waits for it again",
@@ -28,7 +27,6 @@ _HELD = {
 }
 _SILENT = ". Once it answers again, run goes on; if it is gone, quit, and start a player and this again"
 _SPINDLE = "the player waits until the spindle has its speed"
-_STILL = f"the player has carried no line out for {_STILL_S:.0f} s, as in a dwell. Enter or Ctrl-C holds"
 
 
 def clock(us: int) -> str:
@@ -82,7 +80,7 @@ class Work:
         self._is_within = False  # a line is under way that hands something out
         self._free_at = 0.0  # when the motors weren't held last, or were held from here
         self._asked_at = 0.0  # when it was asked last what holds them
-        self._carried, self._carried_at = -1, 0.0  # the lines that were carried out, and when that was seen at first
+        self._still = Stillness()
         self.is_amid = False  # a command is done that was given while something runs
 
     def go(self) -> str | None:
@@ -93,7 +91,8 @@ class Work:
         self.session.gone = False
         self._waited = None
         self._shown = _NOTHING_SHOWN
-        self._free_at = self._carried_at = time.monotonic()
+        self._free_at = time.monotonic()
+        self._still = Stillness()
         ended = self._ticks()
         if ended in ("idle", "stopped", "held", SINGLE):
             self.await_motors()
@@ -195,8 +194,9 @@ class Work:
         """Says what else the motors wait for."""
         if report.word == WAITS_SPINDLE:
             self.session.face.once(_SPINDLE, WHERE)
+        if self._still.is_long(report):
+            self.session.face.once(STILL, WHERE)
         now = time.monotonic()
-        self._tell_still(report, now)
         if not report.is_held or self.motors.is_told:
             self._free_at = now
             return
@@ -205,15 +205,6 @@ class Work:
             self.session.ask_machine()
         if now > self._free_at + _HELD_S:
             self.session.face.once(_HELD[self.session.held_by])
-
-    def _tell_still(self, report: Report, now: float) -> None:
-        """Says once that nothing was carried out for a while, where nothing tells why: a dwell may take hours, so that
-        isn't waited for with a bound."""
-        is_told_why = report.is_held or report.waits or report.word != "works"
-        if is_told_why or report.carried != self._carried or not report.behind:
-            self._carried, self._carried_at = report.carried, now
-        elif now > self._carried_at + _STILL_S:
-            self.session.face.once(_STILL, WHERE)
 
     def _show_messages(self, status: Status, is_done: bool) -> None:
         """Shows the messages of the lines that the place has passed. `is_done`: a line of the program was carried out;

@@ -195,11 +195,12 @@ class Server:
         return packed(said)[:-1] + b',"job":' + job + b"}"
 
     def state(self, page: str, told: int) -> tuple[bytes, int]:
-        """What a page shows, with the entries of the log behind the one that it was told last, and the last one now."""
+        """What a page shows, with the entries of the log behind the one that it was told last, and the last one now. All
+        of it is at least as new as its `now`."""
         log = [asdict(entry) for entry in list(self.session.face.log) if entry.id > told]
         pages = {"yours": self.pages.commands == page, "pages": len(self.pages), "on_loss": self.pages.on_loss,
-                 "stamp": str(self.pages.stamp())}
-        said = state_of(self.session, page) | pages | {"log": log, "now": time.time()}
+                 "stamp": str(self.pages.stamp()), "log": log, "now": time.time()}
+        said = state_of(self.session, page) | pages
         return packed(said), log[-1]["id"] if log else told
 
     async def changed(self, seen: int) -> int:
