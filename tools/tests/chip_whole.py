@@ -18,16 +18,16 @@ from chip_parts import BOARDS
 from session_support import TOOLS
 
 OF_EACH_CHIP = ("stm32f103", "stm32f411", "pico")
+"""A board of each chip: those whose firmware has planted faults."""
 PATIENCE_S = "900"
 
 
-def parts(board: str) -> list[tuple[str, list[str]]]:
+def parts(board: str) -> dict[str, list[str]]:
     """What is run for a board, and its words for Python."""
     planted = ["tests/pico_planted.py"] if board == "pico" else ["tests/chip_planted.py", board]
-    scenarios = ["tests/chip_scenarios.py", board]
-    tests = [[f"tests.{name}", ["-m", "unittest", f"tests.{name}"]] for name in ("test_sink", "test_sink_player")]
-    has_faults = board in OF_EACH_CHIP
-    return [("scenarios and planted faults", planted) if has_faults else ("scenarios", scenarios), *map(tuple, tests)]
+    firmware = planted if board in OF_EACH_CHIP else ["tests/chip_scenarios.py", board]
+    return {"firmware": firmware,
+            **{name: ["-m", "unittest", f"tests.{name}"] for name in ("test_sink", "test_sink_player")}}
 
 
 def processor_s() -> float:
@@ -53,7 +53,7 @@ def main(*boards: str) -> int:
     """Runs all of it, and returns the exit status."""
     if unknown := set(boards) - set(BOARDS):
         sys.exit(f"no board: {' '.join(sorted(unknown))}")
-    failed = [what for board in boards or OF_EACH_CHIP for what, words in parts(board)
+    failed = [what for board in boards or OF_EACH_CHIP for what, words in parts(board).items()
               if not holds(board, words, what)]
     print(f"{time.monotonic() - BEGUN:.0f} s, {processor_s():.0f} s of processor time; parts that failed: {len(failed)}")
     return 1 if failed else 0

@@ -1,5 +1,7 @@
 """tools/player over a step sink: what the sink makes, when, and what the record says of it."""
+import os
 import random
+import re
 import signal
 import sys
 import time
@@ -22,6 +24,8 @@ MOTION = "[motion]\naccel_mm_s2 = [500, 500, 500]\n"
 LONG = "P 1 0 0 50\n" * 4000  # 10 mm at 3,000 mm a minute: 20,000 steps a second, from which a stop takes 1,000
 PATIENT_MS, HASTY_MS = 20_000, 1 if IS_CHIP else 2
 RUNS = 16
+FEEDS = int(os.environ.get("NGC_FEEDS", "1"))
+"""The examples are played with feeds so many times as fast: over a chip on a slow computer they take that long."""
 LOST = ("player: position: a lost step sink stopped the motors, and where they are isn't known: --at X Y Z tells it\n")
 
 
@@ -71,6 +75,13 @@ class OverSink(PlayerTest):
         return len(lines)
 
 
+def sped_up(program: str) -> str:
+    """A program with its feeds FEEDS times as fast."""
+    if FEEDS == 1:
+        return program
+    return re.sub(r"(?m)^([^(;\n]*)F([\d.]+)", lambda match: f"{match[1]}F{FEEDS * float(match[2]):g}", program)
+
+
 class Whole(OverSink, unittest.TestCase):
     """Over a good line."""
 
@@ -117,7 +128,7 @@ class Whole(OverSink, unittest.TestCase):
     def check_example(self, example: Path) -> None:
         """Plays one, and looks at all that the sink made."""
         sink = self.serve()
-        self.hand_out(example.read_text())
+        self.hand_out(sped_up(example.read_text()))
         done = self.run_player(*self.words("--times", "times"))
         self.assertEqual(done.returncode, 0, done.stderr)
         self.assertNotIn("ran dry", done.stderr + done.stdout)
