@@ -11,10 +11,9 @@
 #include "home.h"
 #include "inputs.h"
 #include "manual.h"
+#include "manual_moves.h"
+#include "motors.h"
 #include "off.h"
-#include "play_parts.h"
-#include "sink_link.h"
-#include "sink_play.h"
 #include "waits.h"
 
 static const char *const record_words[] = {"", "emergency", "limit", "lost"};
@@ -77,13 +76,14 @@ bool alarm_take_over(struct player *player, const struct options *options, struc
         || alarm_take(player, options, alarm, why);
 }
 
-bool alarm_begin(const struct player *player, const struct options *options, struct cause *why) {
-    const struct machine *machine = player->machine;
+bool alarm_begin(const struct play *play, struct cause *why) {
+    const struct machine *machine = play->player->machine;
+    const struct options *options = play->options;
     uint32_t on = 0;
     if (machine == NULL || !machine->inputs.are_there) {
         return true;
     }
-    int error = inputs_read(&machine->inputs, &on);
+    int error = play->motors->inputs(&machine->inputs, &on);
     if (error != 0) {
         return because(why, "%s: inputs: %s", options->machine,
                        error == ENOTSUP ? "the pins of this player have none" : strerror(error));
@@ -103,10 +103,8 @@ static void begin_alarm(struct play *play, uint32_t hits) {
         const char *limit = inputs_limit_name(inputs, hits);
         snprintf(what, sizeof what, limit[0] != '\0' ? "the limit %s" : "a limit", limit);
     }
-    if (sink_is_moving()) {
-        link_stop(true);
-    }
-    switch_off(play);
+    play->motors->stop_dead();
+    play->motors->switch_off(play);
     off_forget(player);
     player_lock(player);
     player->alarm = is_stop ? EMERGENCY_STOP : LIMITS;
@@ -135,14 +133,14 @@ bool alarm_look(struct play *play) {
     if (!play->machine.inputs.are_there) {
         return false;
     }
-    int error = inputs_read(&play->machine.inputs, &on);
+    int error = play->motors->inputs(&play->machine.inputs, &on);
     if (error != 0) {
         note_stop(play, "pins");
         return !because(&play->why, "the inputs: %s, after line %" PRIu64 ";", strerror(error), play->player->lines);
     }
     atomic_store(&play->player->on, on);
     look_at_door(play, on);
-    if ((on & play->stops_at) != 0 || (play->stops_at != 0 && sink_is_stopped_by_input())) {
+    if ((on & play->stops_at) != 0 || (play->stops_at != 0 && play->motors->are_stopped_by_input())) {
         begin_alarm(play, on & play->stops_at);
         return true;
     }
@@ -219,7 +217,7 @@ bool alarm_wait(struct play *play) {
     while (!goes_on && !is_over(play)) {
         alarm_drop_lines(player);
         look_at_rest(play);
-        enum end end = manual_is_there(player) ? do_manual(play) : AT_OUTS_END;
+        enum end end = manual_is_there(player) ? make_manual_move(play) : CONTINUES;
         if (end == FAILED) {
             return false;
         }

@@ -25,7 +25,7 @@ bool alarm_is_doubtful(const char *word);
 bool alarm_take(struct player *player, const struct options *options, enum alarm alarm, struct cause *why);
 
 /* Looks whether the pins have the inputs of the machine's file. Returns false, with the cause. */
-bool alarm_begin(const struct player *player, const struct options *options, struct cause *why);
+bool alarm_begin(const struct play *play, struct cause *why);
 
 /* Looks at the inputs. Whether the motors have to stop at once: then an alarm stands, and the play knows why. An open
  * door holds them. */

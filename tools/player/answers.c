@@ -1,6 +1,6 @@
-/* Answers whoever asks how far the player is, as tools/ngc_tools/link/progress.py has it: in a thread of its own, so
- * that a player which waits for a person, a spindle or its pins isn't taken for gone. */
 #define _GNU_SOURCE
+#include "answers.h"
+
 #include <errno.h>
 #include <inttypes.h>
 #include <poll.h>
@@ -16,7 +16,6 @@
 #include "home.h"
 #include "off.h"
 #include "orders.h"
-#include "player.h"
 #include "scan.h"
 #include "schedule.h"
 

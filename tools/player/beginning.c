@@ -7,6 +7,7 @@
 #include <stdlib.h>
 #include <string.h>
 
+#include "answers.h"
 #include "pins.h"
 #include "schedule.h"
 #include "times.h"

@@ -7,7 +7,7 @@
 #include <strings.h>
 #include <unistd.h>
 
-#include "play_parts.h"
+#include "errand_moves.h"
 #include "way.h"
 
 enum { ANSWER_ROOM = 80 };

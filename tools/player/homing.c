@@ -1,13 +1,14 @@
-/* Homing: each axis goes to its switch fast, away from it, then slowly to it and away again, twice. */
+#include "homing.h"
+
 #include <inttypes.h>
 #include <stdio.h>
 #include <string.h>
 
+#include "axis_moves.h"
 #include "home.h"
 #include "inputs.h"
-#include "jog.h"
-#include "sink_play.h"
-#include "travel.h"
+#include "manual_moves.h"
+#include "motors.h"
 
 enum { NM_PER_UM = 1000, NM_PER_MM = 1000000, BACKS_OFF = 10 /* times the pull-off, until the switch is off */ };
 
@@ -64,7 +65,7 @@ static bool is_at_limit(const struct play *play, const struct course *course, in
     return limit != course->input && input_is_on(atomic_load(&play->player->on), limit);
 }
 
-/* Goes so many steps; AT_OUTS_END with `how` set where it may not, or came to rest before. */
+/* Goes so many steps; CONTINUES with `how` set where it may not, or came to rest before. */
 static enum end go(struct play *play, struct course *course, int sign, int64_t steps, int64_t mm_per_min,
                    bool is_blind) {
     struct travel way = {course->axis, sign, steps, mm_per_min * NM_PER_MM, is_blind ? goes_on_blindly : goes_on,
@@ -72,17 +73,17 @@ static enum end go(struct play *play, struct course *course, int sign, int64_t s
     if (is_at_limit(play, course, sign)) {
         because(course->how, "%c: the limit %c%c is on", axis_names[course->axis], axis_names[course->axis],
                 sign > 0 ? '+' : '-');
-        return AT_OUTS_END;
+        return CONTINUES;
     }
     heed(play, course);
     course->is_met = false;
     uint32_t halts = is_blind ? 0 : input_bit(course->input);
-    if (!sink_begin_anew(play, play->stops_at, halts, course->waits_on ? 0 : halts)) {
+    if (!play->motors->begin_anew(play, play->stops_at, halts, course->waits_on ? 0 : halts)) {
         return STOPPED;
     }
     enum end end = travel(play, &way);
     int64_t touched[3];
-    if (!is_blind && sink_is_touched(touched)) {
+    if (!is_blind && play->motors->are_touched(touched)) {
         course->is_met = true;
         course->at = touched[course->axis];
     }
@@ -107,7 +108,7 @@ static enum end go_to_switch(struct play *play, struct course *course, int64_t s
     const struct home *home = &play->machine.home;
     course->waits_on = true;
     enum end end = go(play, course, (int)home->direction[course->axis], steps, mm_per_min, false);
-    if (end == AT_OUTS_END && is_well(course) && !course->is_met) {
+    if (end == CONTINUES && is_well(course) && !course->is_met) {
         int64_t nm = steps * play->player->step_nm[course->axis];
         because(course->how, "%c: its switch isn't on within %" PRId64 ".%03" PRId64 " mm", axis_names[course->axis],
                 nm / NM_PER_MM, nm % NM_PER_MM / 1000);
@@ -123,7 +124,7 @@ static enum end go_away(struct play *play, struct course *course, const int64_t 
     int64_t pull_off = pull_off_of(play, axis);
     course->waits_on = false;
     enum end end = go(play, course, away, BACKS_OFF * pull_off, home->fast_mm_min[axis], false);
-    if (end != AT_OUTS_END || !is_well(course)) {
+    if (end != CONTINUES || !is_well(course)) {
         return end;
     }
     bool was_off = course->is_met;
@@ -132,7 +133,7 @@ static enum end go_away(struct play *play, struct course *course, const int64_t 
     if (was_off && left != 0) {
         end = go(play, course, left > 0 ? away : -away, left > 0 ? left : -left, home->fast_mm_min[axis], true);
     }
-    if (end == AT_OUTS_END && is_well(course) && (!was_off || is_on(play, course))) {
+    if (end == CONTINUES && is_well(course) && (!was_off || is_on(play, course))) {
         because(course->how, "%c: its switch stays on", axis_names[axis]);
     }
     return end;
@@ -142,14 +143,14 @@ static enum end go_away(struct play *play, struct course *course, const int64_t 
 static enum end touch_twice(struct play *play, struct course *course, int64_t fast_at, int64_t touches[2]) {
     const struct home *home = &play->machine.home;
     int axis = course->axis;
-    enum end end = AT_OUTS_END;
+    enum end end = CONTINUES;
     int64_t last = fast_at;
-    for (int touch = 0; touch < 2 && end == AT_OUTS_END && is_well(course); touch++) {
+    for (int touch = 0; touch < 2 && end == CONTINUES && is_well(course); touch++) {
         int64_t back = (last - axis_place(play, axis)) * home->direction[axis];
         int64_t steps = (back > 0 ? back : 0) + pull_off_of(play, axis);
         end = go_to_switch(play, course, steps, home->slow_mm_min[axis]);
         touches[touch] = last = course->at;
-        if (end == AT_OUTS_END && is_well(course)) {
+        if (end == CONTINUES && is_well(course)) {
             end = go_away(play, course, touch == 1 ? &touches[1] : NULL);
         }
     }
@@ -187,22 +188,22 @@ static enum end home_axis(struct play *play, struct course *course) {
     const struct home *home = &play->machine.home;
     int axis = course->axis;
     int64_t touches[2] = {0, 0};
-    enum end end = AT_OUTS_END;
+    enum end end = CONTINUES;
     if (is_on(play, course)) {
         end = go_away(play, course, NULL);
     }
-    if (end == AT_OUTS_END && is_well(course)) {
+    if (end == CONTINUES && is_well(course)) {
         end = go_to_switch(play, course, steps_of(play, axis, home->way_mm[axis] * NM_PER_MM),
                            home->fast_mm_min[axis]);
     }
     int64_t fast_at = course->at;
-    if (end == AT_OUTS_END && is_well(course)) {
+    if (end == CONTINUES && is_well(course)) {
         end = go_away(play, course, NULL);
     }
-    if (end == AT_OUTS_END && is_well(course)) {
+    if (end == CONTINUES && is_well(course)) {
         end = touch_twice(play, course, fast_at, touches);
     }
-    if (end == AT_OUTS_END && is_well(course) && do_agree(play, course, touches)) {
+    if (end == CONTINUES && is_well(course) && do_agree(play, course, touches)) {
         set_place(play, axis);
     }
     return end;
@@ -230,10 +231,10 @@ enum end home_axes_now(struct play *play, unsigned axes, struct cause *how) {
     const struct home *home = &play->machine.home;
     struct player *player = play->player;
     struct course course = {.how = how, .excused = inputs_limits(&play->machine.inputs)};
-    enum end end = AT_OUTS_END;
+    enum end end = CONTINUES;
     unsigned wanted = axes != 0 ? axes : home_axes(home);
     how->text[0] = '\0';
-    for (int place = 1; place <= 3 && end == AT_OUTS_END && is_well(&course); place++) {
+    for (int place = 1; place <= 3 && end == CONTINUES && is_well(&course); place++) {
         course.axis = axis_of(home, wanted, place);
         if (course.axis >= 0) {
             player_lock(player);
@@ -245,10 +246,10 @@ enum end home_axes_now(struct play *play, unsigned axes, struct cause *how) {
         }
     }
     play->stops_at = inputs_stops(&play->machine.inputs);
-    if (end == AT_OUTS_END && !sink_begin_anew(play, play->stops_at, 0, 0)) {
+    if (end == CONTINUES && !play->motors->begin_anew(play, play->stops_at, 0, 0)) {
         return STOPPED;
     }
-    if (end == AT_OUTS_END && is_well(&course)) {
+    if (end == CONTINUES && is_well(&course)) {
         end_alarm(player);
         because(how, "done");
     }

@@ -3,10 +3,6 @@
 #include <stdio.h>
 #include <string.h>
 
-#include "pins.h"
-#include "sink_link.h"
-#include "sink_play.h"
-
 static const char *const limit_words[AXIS_ENDS][3] = {
     {"limit_x_low", "limit_y_low", "limit_z_low"},
     {"limit_x_high", "limit_y_high", "limit_z_high"},
@@ -19,17 +15,6 @@ uint32_t input_bit(int input) {
 
 bool input_is_on(uint32_t on, int input) {
     return (on & input_bit(input)) != 0;
-}
-
-int inputs_read(const struct inputs *inputs, uint32_t *on) {
-    uint32_t levels = 0;
-    if (link_is_there()) {
-        *on = sink_inputs_on(inputs);
-        return 0;
-    }
-    int error = pins_inputs(&levels);
-    *on = error == 0 ? (levels ^ inputs->low) & ((UINT32_C(1) << MOST_INPUTS) - 1) : 0;
-    return error;
 }
 
 uint32_t inputs_limits(const struct inputs *inputs) {

@@ -27,9 +27,6 @@ struct inputs {
 /* Whether one of them is among those that are on. */
 bool input_is_on(uint32_t on, int input);
 
-/* Reads which are on. Returns 0, or the number of an error: ENOTSUP where the pins have no inputs. */
-int inputs_read(const struct inputs *inputs, uint32_t *on);
-
 /* The bit of an input; 0 where there is none. */
 uint32_t input_bit(int input);
 

@@ -16,11 +16,11 @@
 #include <sys/prctl.h>
 #include <unistd.h>
 
+#include "answers.h"
 #include "beginning.h"
 #include "going.h"
+#include "motors.h"
 #include "play.h"
-#include "sink_link.h"
-#include "sink_play.h"
 #include "times.h"
 #include "version.h"
 #include "waits.h"
@@ -156,7 +156,7 @@ static int run(struct play *play, const struct options *options) {
     if (!begin_threads(&keeper, &answers, &why)) {
         return fail(&why);
     }
-    schedule_start(&play->schedule, !options->is_untimed && !link_is_there(), options->machine == NULL);
+    schedule_start(&play->schedule, !options->is_untimed && play->motors->keep_time, options->machine == NULL);
     int status = play_out(play);
     atomic_store(&player.over, true);
     pthread_join(keeper, NULL);
@@ -164,7 +164,7 @@ static int run(struct play *play, const struct options *options) {
         pthread_join(answers, NULL);
     }
     bool is_kept = keep_last(options->position);
-    sink_end();
+    play->motors->end();
     return end_times(options->times) && is_kept && tell(play) ? status : 2;
 }
 
@@ -188,9 +188,10 @@ int main(int count, char **given) {
     play.player = &player;
     play.options = &options;
     play.least_us = (uint64_t)settings.period_us;
-    has_begun = has_begun && sink_open(&play, &why) && alarm_begin(&player, &options, &why)
+    motors_choose(&play);
+    has_begun = has_begun && play.motors->open(&play, &why) && alarm_begin(&play, &why)
         && (!options.goes || going_prepare(&play, &settings, &why))
-        && player_keep_first(&player, &why) && sink_begin(&play, &why);
+        && player_keep_first(&player, &why) && play.motors->begin(&play, &why);
     int status = has_begun ? run(&play, &options) : fail(&why);
     if (player.socket >= 0) {
         unlink(options.socket);

@@ -9,6 +9,7 @@
 #include "home.h"
 #include "inputs.h"
 #include "machine.h"
+#include "manual_words.h"
 #include "player.h"
 #include "scan.h"
 #include "schedule.h"

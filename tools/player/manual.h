@@ -69,12 +69,4 @@ int64_t manual_room(const struct player *player, int axis, int sign);
 /* Sets why it goes no farther. */
 void manual_say_end(const struct player *player, int axis, int sign, struct cause *why);
 
-/* manual_words.c: what a datagram says. */
-enum reading { OTHER_WORDS, WRONG_WORDS, WISH_WORDS };
-
-/* Reads one that begins a move. Of wrong words of such a one the number is read. */
-enum reading manual_read(const char *text, size_t size, struct manual_wish *wish);
-
-extern const char *const manual_verbs[];
-
 #endif

@@ -1,6 +1,7 @@
+#include "manual_words.h"
+
 #include <string.h>
 
-#include "manual.h"
 #include "record.h"
 #include "scan.h"
 

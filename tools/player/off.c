@@ -6,8 +6,7 @@
 #include <sys/eventfd.h>
 
 #include "inputs.h"
-#include "sink_link.h"
-#include "spindle.h"
+#include "motors.h"
 #include "waits.h"
 
 /* Whether the motors stand, and go on only once somebody says so, a line comes, or the spindle has its time. The lock
@@ -29,11 +28,6 @@ void off_take(struct player *player) {
     eventfd_write(player->wake, 1);
 }
 
-/* What is on, also amid a switch that isn't counted yet. */
-static struct outputs outputs_set(const struct play *play) {
-    return link_is_there() ? link_outputs() : play->set;
-}
-
 bool off_heed(struct play *play) {
     struct player *player = play->player;
     if (!atomic_exchange(&player->wants_off, false)) {
@@ -42,11 +36,11 @@ bool off_heed(struct play *play) {
     player_lock(player);
     bool is_still = stands(player);
     player_unlock(player);
-    const struct outputs set = outputs_set(play);
+    const struct outputs set = play->motors->outputs(play);
     if (!is_still || !outputs_are_on(&set)) {
         return true;
     }
-    if (!switch_off(play)) {
+    if (!play->motors->switch_off(play)) {
         return because(&play->why, "spindle and coolant can't be switched off, after line %" PRIu64 ";",
                        player->lines);
     }
@@ -77,7 +71,7 @@ enum end off_is_over(struct play *play, const struct line *line, bool *is_back) 
     struct outputs again;
     *is_back = false;
     if (!take_again(play->player, &again) || line->kind == 'S') {
-        return AT_OUTS_END;
+        return CONTINUES;
     }
     *is_back = true;
     return switch_on(play, &again);
@@ -85,26 +79,7 @@ enum end off_is_over(struct play *play, const struct line *line, bool *is_back) 
 
 bool off_ends_in_wait(struct play *play) {
     struct line line = {.kind = 'S'};
-    char text[OUTPUTS_ROOM + 1];
-    if (!take_again(play->player, &line.outputs)) {
-        return true;
-    }
-    if (link_is_there()) {
-        const struct move move = {true, line, play->player->lines, play->player->bytes, false};
-        link_give(&move, 0, 0, true);
-        return true;
-    }
-    size_t size = outputs_print(text, OUTPUTS_ROOM, &line.outputs);
-    text[size] = '\n';
-    int error = spindle_set_pins(play, &line, text, size + 1);
-    if (error != 0) {
-        note_stop(play, "pins");
-        return because(&play->why, "the pins: %s, after line %" PRIu64 ";", strerror(error), play->player->lines);
-    }
-    player_lock(play->player);
-    play->player->outputs = line.outputs;
-    player_unlock(play->player);
-    return true;
+    return !take_again(play->player, &line.outputs) || play->motors->set_again(play, &line);
 }
 
 void anew_take(struct player *player) {
@@ -136,8 +111,8 @@ static void drop_all(struct player *player) {
 bool anew_begin(struct play *play) {
     struct player *player = play->player;
     const struct machine *machine = player->machine;
-    const struct outputs set = outputs_set(play);
-    if ((outputs_are_on(&set) || outputs_are_on(&player->outputs)) && !switch_off(play)) {
+    const struct outputs set = play->motors->outputs(play);
+    if ((outputs_are_on(&set) || outputs_are_on(&player->outputs)) && !play->motors->switch_off(play)) {
         return false;
     }
     player_lock(player);

@@ -4,7 +4,7 @@
 
 #include <stdbool.h>
 
-#include "play_parts.h"
+#include "play.h"
 
 /* Takes the wish that spindle and coolant go off, if the motors stand. */
 void off_take(struct player *player);

@@ -8,6 +8,7 @@
 #include "off.h"
 #include "scan.h"
 #include "spindle.h"
+#include "told.h"
 
 /* What stands in OUT now is all that comes for now. */
 static void note_last(struct player *player) {

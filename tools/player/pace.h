@@ -17,18 +17,21 @@ enum {
     PACE_BYTES = 512  /* a handle takes no more */
 };
 
-/* A pacer, all 0 before it is begun for the first time. It stays where it is. */
+/* A pacer, all 0 before it is begun for the first time. It stays where it is. One that is plain makes no ramps: it has
+ * room for one line, which lasts as long as OUT says. */
 struct pace {
     uint64_t first;  /* the next line to be given, counted from 0 .. */
     uint64_t known;  /* .. and the first that isn't known */
     uint64_t ramp;   /* how much the square may change behind the line that was given last .. */
     bool is_at_rest; /* .. and whether everything stands still there */
     bool is_made;    /* the handle is */
+    bool is_plain;
+    uint64_t plain_ns; /* of its line */
     _Alignas(16) unsigned char handle[PACE_BYTES];
 };
 
 /* At rest, with no line. The limits are in the ranges that pace_limits has, as those that `machine_read` gives: with
- * others the program ends, and says so. */
+ * others the program ends, and says so. Without limits, NULL, it is plain. */
 void pace_begin(struct pace *pace, const struct pace_limits *limits);
 
 /* Whether there is no room for a line. */

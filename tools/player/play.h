@@ -15,8 +15,24 @@ struct counts {
     uint64_t dry; /* times that motors came to rest in the midst of a path, as OUT had no more lines for them */
 };
 
+/* How a piece of a play ends. */
+enum end {
+    CONTINUES, /* it is through, and the play goes on */
+    STOPPED,   /* the play has to stop: it knows why */
+    FAILED     /* the pins failed: it knows why */
+};
+
+/* Behind so many lines and bytes of OUT. */
+struct place_in_out {
+    uint64_t lines;
+    uint64_t bytes;
+};
+
+struct motors;
+
 struct play {
     struct player *player;
+    const struct motors *motors;
     const struct options *options;
     uint64_t least_us;
     struct machine machine; /* with --machine */

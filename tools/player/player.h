@@ -120,19 +120,6 @@ int64_t in_steps(int64_t nm, int64_t step_nm);
 /* How many microseconds a step of an axis takes at such a rate, rounded up: none is above that of traverses. */
 uint64_t player_step_us(const struct player *player, int axis, int64_t nm_per_min);
 
-/* Takes where the machine stands, as after its axes were moved by hand, if nothing is behind. In an alarm it tells
- * where the axes are that can't be homed. */
-void told_place(struct player *player, const int64_t nm[3]);
-
-/* The socket of --progress. Returns false, with the cause. */
-bool answers_open(struct player *player, const char *path, struct cause *why);
-
-/* Heeds what has come before now. */
-void answers_catch_up(struct player *player);
-
-/* The thread that answers; `player` is a struct player. */
-void *answers_give(void *player);
-
 /* The thread that keeps the record, each 20 ms. */
 void *record_keep(void *player);
 

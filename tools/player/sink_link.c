@@ -21,10 +21,6 @@ enum {
 static struct link *const shared = &sink_link;
 static unsigned seen; /* changes that link_await has told of */
 
-bool link_is_there(void) {
-    return shared->line >= 0;
-}
-
 /* A number that no other sender has: by the clock, and not 0. */
 static uint32_t new_token(void) {
     struct timespec moment;
@@ -119,15 +115,11 @@ bool link_wants(void) {
     return wants;
 }
 
-static void give(const struct move *move, uint64_t ns, uint64_t ramp, bool is_rest, bool is_line) {
+void link_give(const struct move *move, uint64_t ns, uint64_t ramp, bool is_rest, bool is_of_out) {
     pthread_mutex_lock(&shared->lock);
-    words_give(&shared->words, &shared->sender, move, ns, ramp, is_rest, is_line);
+    words_give(&shared->words, &shared->sender, move, ns, ramp, is_rest, is_of_out);
     shared->now.is_done = false;
     pthread_mutex_unlock(&shared->lock);
-}
-
-void link_give(const struct move *move, uint64_t ns, uint64_t ramp, bool is_rest) {
-    give(move, ns, ramp, is_rest, false);
 }
 
 bool link_speed(uint64_t speed) {
@@ -138,22 +130,12 @@ bool link_speed(uint64_t speed) {
     return is_given;
 }
 
-void link_give_line(const struct line *of, size_t size, uint64_t ns, uint64_t ramp, bool is_rest) {
-    struct move move = {true, *of, shared->words.lines + 1, shared->words.bytes + size, false};
-    give(&move, ns, ramp, is_rest, true);
-}
-
-void link_give_extra(const struct line *of, uint64_t ns, uint64_t ramp, bool is_rest) {
-    struct move move = {true, *of, shared->words.lines, shared->words.bytes, true};
-    give(&move, ns, ramp, is_rest, false);
-}
-
 struct outputs link_outputs(void) {
     return shared->words.outputs;
 }
 
-uint64_t link_lines(void) {
-    return shared->words.lines;
+struct place_in_out link_place(void) {
+    return (struct place_in_out){shared->words.lines, shared->words.bytes};
 }
 
 void link_await(int ms) {

@@ -8,6 +8,7 @@
 
 #include "../sink/wire.h"
 #include "cause.h"
+#include "motors.h"
 #include "play.h"
 #include "way.h"
 
@@ -39,29 +40,20 @@ uint64_t link_mark(const struct player *player);
  * be on: then the session is over at once. */
 bool link_begin(const struct sink_inputs *inputs, struct cause *why);
 
-/* Whether there is a link: the machine's file has [sink]. */
-bool link_is_there(void);
-
 /* Whether more is to be given now, so that the sink doesn't have to slow down. */
 bool link_wants(void);
 
 /* Gives a move that lasts so many nanoseconds before the next one; where it isn't to be done it is counted in its turn.
  * `ramp` is by how much its square may change, as of a line of the pacer; behind one that `is_rest` the motors stand. A
- * wait is a line D; a line S is outputs, and then a rest. link_wants was true. */
-void link_give(const struct move *move, uint64_t ns, uint64_t ramp, bool is_rest);
+ * wait is a line D; a line S is outputs, and then a rest. `is_of_out`: it is a line of OUT. link_wants was true. */
+void link_give(const struct move *move, uint64_t ns, uint64_t ramp, bool is_rest, bool is_of_out);
 
 /* Gives another speed of the spindle, in millionths, amid what moves; false where there is no room for now. */
 bool link_speed(uint64_t speed);
 
-/* Gives the next line of OUT, which has so many bytes. */
-void link_give_line(const struct line *line, size_t size, uint64_t ns, uint64_t ramp, bool is_rest);
-
-/* Gives an extra pulse, which is no line of OUT. */
-void link_give_extra(const struct line *line, uint64_t ns, uint64_t ramp, bool is_rest);
-
-/* The outputs, and how many lines of OUT, as they will be once all that was given is made. */
+/* The outputs, and behind how much of OUT, as it will be once all that was given is made. */
 struct outputs link_outputs(void);
-uint64_t link_lines(void);
+struct place_in_out link_place(void);
 
 /* Waits until something has changed since the last call, and at most so many milliseconds. */
 void link_await(int ms);

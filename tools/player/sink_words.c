@@ -2,6 +2,7 @@
 
 #include <string.h>
 
+#include "motors.h"
 #include "spindle.h"
 
 enum { TICK_NS = 125, PIECE_TICKS = 8000000, MOST_STEP_TICKS = 16000000 };
@@ -114,25 +115,6 @@ void words_switch_off(struct words *words, struct sender *sender) {
     switch_to(words, sender, &off, false);
 }
 
-/* Counts a move that is made. */
-static void count(struct play *play, const struct move *move) {
-    struct player *player = play->player;
-    const struct line *line = &move->line;
-    for (int axis = 0; axis < 3 && move->is_done && !move->is_extra; axis++) {
-        player->steps[axis] += line->kind == 'P' ? line->step[axis] : 0;
-    }
-    if (move->is_done && line->kind == 'P') {
-        backlash_take(&player->backlash, player->screws, line, move->is_extra);
-    }
-    if (move->is_done && line->kind == 'S') {
-        player->outputs = line->outputs;
-    }
-    player_count(player, move->lines, move->bytes);
-    play->counts.pulses += move->is_done && line->kind == 'P' && !move->is_extra;
-    play->counts.waits += move->is_done && line->kind == 'D';
-    play->counts.switches += move->is_done && line->kind == 'S';
-}
-
 void words_count(struct words *words, struct play *play, uint32_t made) {
     if (words->first == words->end) {
         return;
@@ -140,7 +122,7 @@ void words_count(struct words *words, struct play *play, uint32_t made) {
     player_lock(play->player);
     const struct given *given = &words->moves[words->first % SENDER_ROOM];
     while (words->first != words->end && made - given->words < 0x80000000) {
-        count(play, &given->move);
+        motors_count(play, &given->move);
         words->first++;
         given = &words->moves[words->first % SENDER_ROOM];
     }

@@ -7,9 +7,9 @@
 #include <string.h>
 
 #include "inputs.h"
+#include "motors.h"
 #include "off.h"
 #include "pins.h"
-#include "sink_link.h"
 #include "waits.h"
 
 enum { LOOKS_MS = 5 };
@@ -49,12 +49,13 @@ bool spindle_heed(struct play *play) {
     if (percent == play->set_percent) {
         return true;
     }
-    struct outputs now = link_is_there() ? link_outputs() : play->set;
+    struct outputs now = play->motors->outputs(play);
     now.speed = spindle_speed(play, now.speed);
-    if (now.spindle != 0 && link_is_there() && !link_speed(now.speed)) {
-        return true; /* later */
+    bool is_later = false;
+    int error = now.spindle != 0 ? play->motors->set_speed(&now, &is_later) : 0;
+    if (is_later) {
+        return true;
     }
-    int error = now.spindle != 0 && !link_is_there() ? pins_speed(&now) : 0;
     if (error != 0) {
         note_stop(play, "pins");
         return because(&play->why, "the pins: %s, after line %" PRIu64 ";", strerror(error), play->player->lines);
@@ -69,7 +70,7 @@ static bool wait_held(struct play *play) {
     while (atomic_load(&player->is_held)) {
         atomic_store(&player->stands_held, true);
         poll(NULL, 0, LOOKS_MS);
-        if (has_to_stop(play) || is_left_held(play)) {
+        if (heed_stops(play) || is_left_held(play)) {
             return false;
         }
     }
@@ -102,12 +103,12 @@ static bool stay_off(struct play *play) {
 static bool wait_at_speed(struct play *play) {
     const struct inputs *inputs = &play->machine.inputs;
     int64_t until = schedule_now() + inputs->at_speed_ns;
-    bool goes_on = !has_to_stop(play);
+    bool goes_on = !heed_stops(play);
     while (goes_on
            && (play->player->has_again
                || !input_is_on(atomic_load(&play->player->on), inputs->spindle_at_speed))) {
         poll(NULL, 0, LOOKS_MS);
-        goes_on = !has_to_stop(play);
+        goes_on = !heed_stops(play);
         bool is_off = play->player->has_again;
         if (goes_on && (is_off || schedule_now() >= until)) {
             goes_on = is_off ? stay_off(play) : give_up(play);

@@ -1,10 +1,10 @@
-/* Takes where a person or the console says that the machine stands. */
 #define _GNU_SOURCE
+#include "told.h"
+
 #include <string.h>
 #include <sys/eventfd.h>
 
 #include "alarm.h"
-#include "player.h"
 
 /* Whether it may be told that the machine stands at these steps: where it does anyhow also with lines in hand, which
  * wait for that. The lock is held. */
@@ -30,8 +30,6 @@ static void take_place(struct player *player, const int64_t steps[3]) {
     }
 }
 
-/* Takes where the machine stands, as after its axes were moved by hand, if nothing is behind. In an alarm it tells
- * where the axes are that can't be homed. */
 void told_place(struct player *player, const int64_t nm[3]) {
     int64_t steps[3];
     for (int axis = 0; axis < 3; axis++) {

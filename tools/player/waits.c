@@ -8,10 +8,9 @@
 #include <time.h>
 
 #include "askers.h"
+#include "motors.h"
 #include "off.h"
 #include "person.h"
-#include "play_parts.h"
-#include "sink_play.h"
 #include "spindle.h"
 
 enum { SLICE_NS = SLICE_MS * 1000000 };
@@ -39,17 +38,17 @@ bool is_rest_asked(const struct play *play) {
     return atomic_load(&stops) > 0 || atomic_load(&play->player->record_error) != 0 || source_error() != 0;
 }
 
-bool has_to_stop(struct play *play) {
+bool heed_stops(struct play *play) {
     int asked = atomic_load(&stops);
-    if (alarm_look(play) || sink_has_stopped(play) || !spindle_heed(play)) {
+    if (alarm_look(play) || play->motors->have_stopped(play) || !spindle_heed(play)) {
         return true;
     }
-    if ((play->is_moving || sink_is_moving()) && asked < 2) {
+    if ((play->is_moving || play->motors->are_moving()) && asked < 2) {
         atomic_store(&play->player->wants_off, false);
         return false;
     }
     if (asked > 0) {
-        note_stop(play, sink_stop() ? "signal" : "deaf");
+        note_stop(play, play->motors->stop() ? "signal" : "deaf");
         return !because(&play->why, "stopped after line %" PRIu64 ";", play->player->lines);
     }
     if (atomic_load(&play->player->record_error) != 0) {
@@ -70,14 +69,14 @@ bool has_to_stop(struct play *play) {
 /* Waits until a moment; false where the play has to stop before. */
 static bool wait_until(struct play *play, int64_t due) {
     int64_t now = schedule_now();
-    while (now < due && !has_to_stop(play)) {
+    while (now < due && !heed_stops(play)) {
         int64_t rest = due - now;
         int64_t until = rest > SLICE_NS ? now + SLICE_NS : due;
         struct timespec moment = {(time_t)(until / 1000000000), (long)(until % 1000000000)};
         clock_nanosleep(CLOCK_MONOTONIC, TIMER_ABSTIME, &moment, NULL);
         now = schedule_now();
     }
-    return !has_to_stop(play);
+    return !heed_stops(play);
 }
 
 bool wait_until_due(struct play *play) {
@@ -150,7 +149,7 @@ static void break_off(struct player *player) {
 
 bool await_record(struct play *play) {
     struct player *player = play->player;
-    if (player->socket < 0 || strcmp(player->stopped, "record") != 0 || atomic_load(&stops) > 0 || !switch_off(play)) {
+    if (player->socket < 0 || strcmp(player->stopped, "record") != 0 || atomic_load(&stops) > 0 || !play->motors->switch_off(play)) {
         return false;
     }
     say("%s: %s %s: %s; spindle and coolant off. Once it can, another session goes on", play->options->out,
@@ -194,7 +193,7 @@ bool await_look(struct play *play) {
         " there, anything else ends");
     while (answer == NO_ANSWER) {
         answer = person_answers(SLICE_MS);
-        if (has_to_stop(play)) {
+        if (heed_stops(play)) {
             return false;
         }
     }
@@ -220,7 +219,7 @@ bool await_tool(struct play *play, unsigned slot) {
     while (atomic_load(&play->player->tool) != NO_TOOL) {
         if (person_has_pressed(SLICE_MS)) {
             atomic_store(&play->player->tool, NO_TOOL);
-        } else if (is_nobody_there(play, what) || has_to_stop(play) || is_console_gone(play, what)) {
+        } else if (is_nobody_there(play, what) || heed_stops(play) || is_console_gone(play, what)) {
             return false;
         }
     }
@@ -228,7 +227,7 @@ bool await_tool(struct play *play, unsigned slot) {
     return true;
 }
 
-bool is_tool_in(struct play *play, const struct line *line) {
+bool await_tool_of(struct play *play, const struct line *line) {
     bool changes_tool = line->kind == 'S' && line->outputs.slot != play->player->outputs.slot;
     return !changes_tool || play->options->asks_no_tool || await_tool(play, line->outputs.slot);
 }

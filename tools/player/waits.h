@@ -14,8 +14,9 @@ void note_stop(struct play *play, const char *word);
 /* Whether the play is to come to rest and stop then: somebody asks for it, or the record can't be kept. */
 bool is_rest_asked(const struct play *play);
 
-/* Whether the play has to stop now: for an alarm; and where it moves only if it is asked for once more. Notes why. */
-bool has_to_stop(struct play *play);
+/* Looks at all that stops a play, and heeds what people ask for at rest; whether the play has to stop now: for an
+ * alarm; and where it moves only if it is asked for once more. Notes why. */
+bool heed_stops(struct play *play);
 
 /* Waits for so many nanoseconds; false where the play has to stop before. */
 bool wait_for(struct play *play, int64_t ns);
@@ -31,6 +32,9 @@ bool have_seconds_passed(struct play *play);
 
 /* Waits until a person says that the tool is in, by Enter or over the socket; false where the play has to stop. */
 bool await_tool(struct play *play, unsigned slot);
+
+/* Waits for the tool that a line changes to, if a person has to put it in; false where the play has to stop. */
+bool await_tool_of(struct play *play, const struct line *line);
 
 /* Waits until a person says that what is switched on is as it should be; false where that isn't said, or the play has
  * to stop. */

@@ -1,10 +1,12 @@
-#include "sink_play.h"
+/* The motors by a step sink: tools/sink. */
+#define _GNU_SOURCE
 
 #include <inttypes.h>
 #include <poll.h>
 #include <string.h>
 
 #include "beginning.h"
+#include "motors.h"
 #include "sink_catch_up.h"
 #include "sink_link.h"
 #include "spindle.h"
@@ -42,12 +44,8 @@ static bool take_loss(struct play *play, struct cause *why) {
         || alarm_take(player, play->options, SINK_LOST, why);
 }
 
-bool sink_open(struct play *play, struct cause *why) {
+static bool open_sink(struct play *play, struct cause *why) {
     struct sink_answer left;
-    const struct sink_settings *settings = &play->machine.sink;
-    if (settings->line[0] == '\0') {
-        return true;
-    }
     if (play->options->pins != NULL) {
         return because(why, "--pins goes without [sink] of %s: the sink has the pins", play->options->machine);
     }
@@ -57,11 +55,8 @@ bool sink_open(struct play *play, struct cause *why) {
     return is_place_sure(play, &left) || take_loss(play, why);
 }
 
-bool sink_begin(struct play *play, struct cause *why) {
+static bool begin(struct play *play, struct cause *why) {
     session = inputs_of(play, inputs_stops(&play->machine.inputs), 0, 0);
-    if (!link_is_there()) {
-        return true;
-    }
     play->player->is_over_sink = link_begin(&session, why);
     return play->player->is_over_sink && player_keep_first(play->player, why);
 }
@@ -69,7 +64,7 @@ bool sink_begin(struct play *play, struct cause *why) {
 /* Waits until the record on the disk has where the motors stand; false where it has to stop before. */
 static bool await_kept(struct play *play) {
     while (!player_is_kept(play->player)) {
-        if (has_to_stop(play)) {
+        if (heed_stops(play)) {
             return false;
         }
         poll(NULL, 0, KEPT_MS);
@@ -77,11 +72,8 @@ static bool await_kept(struct play *play) {
     return true;
 }
 
-bool sink_begin_anew(struct play *play, uint32_t stops, uint32_t halts, uint32_t turned) {
+static bool begin_anew(struct play *play, uint32_t stops, uint32_t halts, uint32_t turned) {
     struct player *player = play->player;
-    if (!link_is_there()) {
-        return true;
-    }
     /* else the next player, after a loss of power, would take the record for where this session began */
     if (!await_kept(play)) {
         return false;
@@ -97,14 +89,12 @@ bool sink_begin_anew(struct play *play, uint32_t stops, uint32_t halts, uint32_t
     return true;
 }
 
-uint32_t sink_inputs_on(const struct inputs *inputs) {
-    return link_look().inputs ^ (uint32_t)(session.low ^ inputs->low);
+static int inputs_on(const struct inputs *inputs, uint32_t *on) {
+    *on = link_look().inputs ^ (uint32_t)(session.low ^ inputs->low);
+    return 0;
 }
 
-bool sink_is_touched(int64_t steps[3]) {
-    if (!link_is_there()) {
-        return false;
-    }
+static bool are_touched(int64_t steps[3]) {
     struct link_state state = link_look();
     if (state.state == SINK_RUNS || (state.fault != FAULT_TOUCHED && !state.is_touched)) {
         return false;
@@ -113,22 +103,22 @@ bool sink_is_touched(int64_t steps[3]) {
     return true;
 }
 
-bool sink_is_stopped_by_input(void) {
+static bool are_stopped_by_input(void) {
     const char *word = NULL;
     const char *text = NULL;
-    return link_is_there() && link_is_over(&word, &text) && link_look().fault == FAULT_INPUT;
+    return link_is_over(&word, &text) && link_look().fault == FAULT_INPUT;
 }
 
-bool sink_is_moving(void) {
+static bool are_moving(void) {
     const char *word = NULL;
     const char *text = NULL;
-    return link_is_there() && !link_look().is_done && !link_is_over(&word, &text);
+    return !link_look().is_done && !link_is_over(&word, &text);
 }
 
-bool sink_has_stopped(struct play *play) {
+static bool have_stopped(struct play *play) {
     const char *word = NULL;
     const char *text = NULL;
-    if (!link_is_there() || !link_is_over(&word, &text)) {
+    if (!link_is_over(&word, &text)) {
         return false;
     }
     struct link_state state = link_look();
@@ -146,8 +136,8 @@ bool sink_has_stopped(struct play *play) {
                     is_lost ? ": where the motors are isn't sure" : "");
 }
 
-bool sink_stop(void) {
-    if (!sink_is_moving()) {
+static bool stop(void) {
+    if (!are_moving()) {
         return true;
     }
     link_stop(false);
@@ -155,43 +145,102 @@ bool sink_stop(void) {
     return state == SINK_STOPPED || state == SINK_BROKEN;
 }
 
-bool sink_await_room(struct play *play) {
-    while (!link_wants()) {
-        if (has_to_stop(play)) {
+static void stop_dead(void) {
+    if (are_moving()) {
+        link_stop(true);
+    }
+}
+
+static void doze(void) {
+    link_await(SLICE_MS / 4);
+}
+
+static enum end await_next(struct play *play, bool *is_time) {
+    if (heed_stops(play)) {
+        return STOPPED;
+    }
+    *is_time = link_wants();
+    if (!*is_time) {
+        doze();
+    }
+    return CONTINUES;
+}
+
+static bool await_rest(struct play *play) {
+    while (are_moving()) {
+        if (heed_stops(play)) {
             return false;
         }
         link_await(SLICE_MS);
     }
-    return !has_to_stop(play);
+    return !heed_stops(play);
 }
 
-bool sink_await_rest(struct play *play) {
-    while (sink_is_moving()) {
-        if (has_to_stop(play)) {
-            return false;
-        }
-        link_await(SLICE_MS);
-    }
-    return !has_to_stop(play);
-}
-
-bool sink_is_at_speed(struct play *play, const struct outputs *before, const struct outputs *outputs) {
+/* Waits, behind a switch that was given, until the spindle is at its speed; false where the play has to stop before. */
+static bool await_speed(struct play *play, const struct outputs *before, const struct outputs *outputs) {
     return !spindle_has_to_speed_up(play, before, outputs)
-        || (sink_await_rest(play) && spindle_wait_at_speed(play, before, outputs));
+        || (await_rest(play) && spindle_wait_at_speed(play, before, outputs));
 }
 
-enum end sink_carry_out(struct play *play, const struct line *line, const char *text, size_t size, uint64_t ns,
-                        uint64_t ramp) {
-    struct schedule *schedule = &play->schedule;
+static enum end make(struct play *play, const struct timed *timed) {
     const struct outputs before = link_outputs();
-    bool turns = line->kind == 'S' && line->outputs.spindle != before.spindle;
-    times_add(schedule->due - schedule->begun, text, size);
-    schedule_begin(schedule, ns);
-    link_give_line(line, size, turns ? (uint64_t)play->machine.spindle_ns : ns, ramp, !play->is_moving);
-    return line->kind != 'S' || sink_is_at_speed(play, &before, &line->outputs) ? AT_OUTS_END : STOPPED;
+    const struct line *line = &timed->move->line;
+    bool is_of_out = timed->size > 0;
+    bool is_switch = timed->move->is_done && line->kind == 'S';
+    bool turns = is_switch && line->outputs.spindle != before.spindle;
+    if (is_of_out) {
+        times_add(play->schedule.due - play->schedule.begun, timed->text, timed->size);
+        schedule_begin(&play->schedule, timed->ns);
+    }
+    link_give(timed->move, turns ? (uint64_t)play->machine.spindle_ns : timed->ns, timed->ramp, timed->is_rest,
+              is_of_out);
+    return !is_switch || await_speed(play, &before, &line->outputs) ? CONTINUES : STOPPED;
 }
 
-bool sink_switch_off(struct play *play) {
+static struct place_in_out place(const struct play *play) {
+    (void)play;
+    return link_place();
+}
+
+static struct outputs outputs(const struct play *play) {
+    (void)play;
+    return link_outputs();
+}
+
+/* Gives outputs, at rest: no line of OUT says so. */
+static void give_outputs(const struct line *line, uint64_t ns) {
+    const struct place_in_out at = link_place();
+    const struct move move = {true, *line, at.lines, at.bytes, false};
+    link_give(&move, ns, 0, true, false);
+}
+
+static enum end switch_sink_on(struct play *play, const struct line *line) {
+    const struct outputs before = play->player->outputs;
+    bool turns = line->outputs.spindle != before.spindle;
+    bool is_time = false;
+    enum end end = CONTINUES;
+    while (!is_time && end == CONTINUES) {
+        end = await_next(play, &is_time);
+    }
+    if (end != CONTINUES || heed_stops(play)) {
+        return STOPPED;
+    }
+    give_outputs(line, turns ? (uint64_t)play->machine.spindle_ns : 0);
+    return await_rest(play) && await_speed(play, &before, &line->outputs) ? CONTINUES : STOPPED;
+}
+
+static bool set_again(struct play *play, const struct line *line) {
+    (void)play;
+    give_outputs(line, 0);
+    return true;
+}
+
+static int set_speed(const struct outputs *now, bool *is_later) {
+    *is_later = !link_speed(now->speed);
+    return 0;
+}
+
+static bool switch_off(struct play *play) {
     bool is_off = link_switch_off();
     player_lock(play->player);
     outputs_stop(&play->player->outputs);
@@ -203,10 +252,7 @@ bool sink_switch_off(struct play *play) {
     return is_off;
 }
 
-void sink_end(void) {
-    if (!link_is_there()) {
-        return;
-    }
+static void end(void) {
     uint64_t dry = link_look().dry;
     link_close();
     if (dry > 0) {
@@ -214,3 +260,29 @@ void sink_end(void) {
             dry > 1 ? "s" : "");
     }
 }
+
+const struct motors sink_motors = {
+    .keep_time = false,
+    .room = LINK_LINES,
+    .open = open_sink,
+    .begin = begin,
+    .begin_anew = begin_anew,
+    .await_next = await_next,
+    .make = make,
+    .await_rest = await_rest,
+    .are_moving = are_moving,
+    .doze = doze,
+    .place = place,
+    .outputs = outputs,
+    .switch_on = switch_sink_on,
+    .set_again = set_again,
+    .set_speed = set_speed,
+    .switch_off = switch_off,
+    .inputs = inputs_on,
+    .are_touched = are_touched,
+    .are_stopped_by_input = are_stopped_by_input,
+    .have_stopped = have_stopped,
+    .stop = stop,
+    .stop_dead = stop_dead,
+    .end = end,
+};

@@ -1,13 +1,14 @@
 /* Jog and seek: one axis goes with ramps, until it is to rest. */
 #define _GNU_SOURCE
-#include "jog.h"
+#include "manual_moves.h"
 
 #include <stdio.h>
 #include <string.h>
 
+#include "axis_moves.h"
+#include "homing.h"
 #include "inputs.h"
-#include "sink_play.h"
-#include "travel.h"
+#include "motors.h"
 #include "waits.h"
 
 #define KEPT_UP_NS INT64_C(250000000)
@@ -76,17 +77,17 @@ static bool goes_on(struct play *play, void *context) {
 static enum end travel_until_probe(struct play *play, const struct travel *way) {
     struct player *player = play->player;
     int64_t touched[3];
-    if (!sink_begin_anew(play, play->stops_at, input_bit(play->machine.inputs.probe), 0)) {
+    if (!play->motors->begin_anew(play, play->stops_at, input_bit(play->machine.inputs.probe), 0)) {
         return STOPPED;
     }
     enum end end = travel(play, way);
-    if (sink_is_touched(touched)) {
+    if (play->motors->are_touched(touched)) {
         player_lock(player);
         memcpy(player->manual.touched, touched, sizeof touched);
         player->manual.has_touched = true;
         player_unlock(player);
     }
-    return end == AT_OUTS_END && !sink_begin_anew(play, play->stops_at, 0, 0) ? STOPPED : end;
+    return end == CONTINUES && !play->motors->begin_anew(play, play->stops_at, 0, 0) ? STOPPED : end;
 }
 
 /* Why a travel ended that went to its end. */
@@ -118,7 +119,7 @@ static enum end go(struct play *play, const struct manual_wish *wish, struct cau
     };
     how->text[0] = '\0';
     enum end end = course.seeks ? travel_until_probe(play, &way) : travel(play, &way);
-    if (end == AT_OUTS_END && how->text[0] == '\0') {
+    if (end == CONTINUES && how->text[0] == '\0') {
         because(how, "done");
         say_end(play, wish, how);
     }
@@ -134,7 +135,7 @@ static void note_end(struct play *play, const struct cause *how) {
     player_unlock(player);
 }
 
-enum end do_manual(struct play *play) {
+enum end make_manual_move(struct play *play) {
     static struct cause how;
     struct player *player = play->player;
     player_lock(player);
@@ -143,7 +144,7 @@ enum end do_manual(struct play *play) {
     because(&how, "done");
     enum end end = wish.kind == HOMES ? home_axes_now(play, wish.axes, &how) : go(play, &wish, &how);
     play->is_moving = false;
-    if (end != AT_OUTS_END) {
+    if (end != CONTINUES) {
         because(&how, "%.*s", (int)strcspn(play->why.text, ";"), play->why.text);
     }
     note_end(play, &how);

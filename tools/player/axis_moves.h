@@ -1,8 +1,8 @@
 /* One axis, moved with ramps, without lines of OUT. */
-#ifndef TRAVEL_H
-#define TRAVEL_H
+#ifndef AXIS_MOVES_H
+#define AXIS_MOVES_H
 
-#include "play_parts.h"
+#include "play.h"
 
 struct travel {
     int axis;
@@ -14,7 +14,7 @@ struct travel {
 };
 
 /* Moves it, and returns once it stands. STOPPED, perhaps in the midst of a motion, where the play has to stop; FAILED
- * where the pins fail; else AT_OUTS_END. */
+ * where the pins fail. */
 enum end travel(struct play *play, const struct travel *travel);
 
 #endif
