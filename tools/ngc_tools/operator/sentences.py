@@ -13,6 +13,13 @@ seek Z- 60 within 10   until the probe is on, at most 10 mm
 zero X Y Z         here is X0, Y0, Z0 of the work; zero Z 10: here is Z10
 touch tool N       slot N has the length of the tool on the setter
 probe              behind zero and touch: where it was touched
+probe edge X+      until the probe touches an edge; also outside,
+                   inside, surface, bore, boss, pocket, web
+measure            the tool in the spindle, on the setter; measure off:
+                   tool changes don't ask for it
+above              Z up, and over to X0 Y0 of the work
+park               spindle and coolant off, Z up, and over to X and Y of home
+macro NAME         the lines of a macro; macro says which there are
 undo               put back what zero or touch set last
 hold               Enter or Ctrl-C while something runs
 stop               end the job: spindle and coolant off, then lines, jog

@@ -21,9 +21,12 @@ _HELD = {
 }
 _OFF = "Spindle and coolant were switched off by hand. Go on asks before they come on again"
 _HELD_BY_OTHER = "Somebody else holds the motors. Go on carries on"
-_MOVES = {"home": "Homing", "jog": "Jogging", "seek": "Seeking"}
+_MOVES = {"home": "Homing", "jog": "Jogging", "seek": "Seeking", "probe": "Probing",
+          "measure": "Measuring"}
+_ROUTINES = ("probe", "measure")
+"""The commands that make several of them."""
 _SEEKS = "until the probe is touched"
-_TYPED = ("mdi", "restore")
+_TYPED = ("mdi", "restore", "above", "park", "macro")
 """The commands that do lines of one's own: before one has begun, and after it, no line of the program runs."""
 _STARTS = "ngc looks at the program first; nothing moves yet"
 _APART = "The motors aren't where the last line ended: tell which of the two is so, or home"
@@ -102,7 +105,7 @@ class Standing:
             return None
         if command.word in WITHOUT_LINES:
             word, _, axis = self.does.partition(" ")
-            word = word if word in _MOVES else command.word
+            word = word if word in _MOVES and command.word not in _ROUTINES else command.word
             return _MOVES[word], "run", f"{axis} {_SEEKS}" if word == "seek" else axis
         if command.word not in MOVES and self.status.does != "running":
             return None

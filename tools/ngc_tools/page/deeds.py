@@ -10,6 +10,7 @@ from ngc_tools.formats.device import SLOTS
 from ngc_tools.formats.position import nanometres
 from ngc_tools.job.cam_homes import HomeAnswers
 from ngc_tools.operator.motors import PERCENTS, SPINDLE_PERCENTS
+from ngc_tools.operator.routines import ROUTINES
 from ngc_tools.page.aside import Wanted
 from ngc_tools.page.http import RequestRefused
 from ngc_tools.page.pages import Pages, Stamp
@@ -18,7 +19,12 @@ from ngc_tools.page.session import PageSession
 from ngc_tools.page.state import LOOKED_AT
 
 _NUMBER = re.compile(r"[-+]?(?:[0-9]{1,7}\.?[0-9]{0,6}|\.[0-9]{1,6})")
+_WAYS = re.compile(r"(?:[XY][-+]?(?: [XY][-+]?)?)?")
 _LONGEST_LINE = 256
+_MOST_SPEED = 1_000_000  # turns a minute
+SWITCHES = {"clockwise": "M3 S{}", "counter-clockwise": "M4 S{}", "spindle off": "M5", "flood": "M8", "mist": "M7",
+            "coolant off": "M9"}
+"""Lines that switch an output, by their names."""
 _LONGEST_ANSWER = 64
 _MOST_PRESSES = 1000  # that are numbered before the server hears of one
 _MOST_KEPT = 2  # programs that were looked at and may be loaded
@@ -188,6 +194,31 @@ def _seek(given: Given) -> None:
     given.session.type(f"seek {_way(given)} {given.number('rate')} within {given.number('within')}")
 
 
+def _probe(given: Given) -> None:
+    name, ways = given.words.get("routine"), given.words.get("ways")
+    lengths = given.words.get("lengths")
+    if name not in ROUTINES or not isinstance(ways, str) or not _WAYS.fullmatch(ways):
+        raise BadWords('routine: one of the probe\'s; ways: as "X+ Y-"')
+    if not isinstance(lengths, dict) or not set(lengths) <= set(ROUTINES[name].lengths):
+        raise BadWords("lengths: those of the routine, in millimetres")
+    said = [f"{length} {number_of(number)}mm" for length, number in lengths.items()]
+    given.session.type(" ".join(["probe", name, ways, *said]))
+
+
+def _turn(given: Given) -> None:
+    """Switches the spindle or the coolant by a line, which the log shows."""
+    line = SWITCHES.get(str(given.words.get("name")))
+    if line is None:
+        raise BadWords(f"name: one of {', '.join(SWITCHES)}")
+    if "{}" in line:
+        line = line.format(given.count("speed", _MOST_SPEED))
+    given.session.line(line)
+
+
+def _macro(given: Given) -> None:
+    given.session.type(f"macro {given.line('name', _LONGEST_ANSWER)}")
+
+
 def _zero(given: Given) -> None:
     words = " ".join(f"{axis}{number}mm" for axis, number in sorted(given.axes("axes").items()))
     given.session.type(f"zero {words}{_by_probe(given)}{given.anyway()}")
@@ -224,7 +255,12 @@ def _rehearse(given: Given) -> dict:
 DEEDS: dict[str, Callable[[Given], dict | None]] = {
     "load": _load, "mdi": _mdi, "reference": _reference, "stands": _stands, "tool": _tool, "switch": _switch,
     "answer": _answer, "rehearse": _rehearse, "home": _home, "jog": _jog, "seek": _seek, "zero": _zero, "touch": _touch,
-    "recover": _recover,
+    "recover": _recover, "probe": _probe,
+    "turn": _turn, "macro": _macro,
+    "above": lambda given: given.session.type("above"),
+    "park": lambda given: given.session.type("park"),
+    "measure": lambda given: given.session.type("measure"),
+    "measures": lambda given: given.session.tell(f"measure {'on' if given.flag('on') else 'off'}"),
     "jogstop": lambda given: given.session.jogs.let_go(given.press()),
     "undo": lambda given: given.session.type("undo"),
     "stop": lambda given: given.session.stop(given.pages.commands),
@@ -245,5 +281,5 @@ DEEDS: dict[str, Callable[[Given], dict | None]] = {
 }
 """What the page that commands may ask for."""
 WAITING = {"load", "rehearse", "reference", "stands", "tool", "switch", "abandon", "go", "percent", "spindle",
-           "restart", "off", "rewind"}
+           "restart", "off", "rewind", "measures"}
 """Those that wait for what they ask for; the others only give it to the session's thread."""

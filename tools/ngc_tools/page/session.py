@@ -36,8 +36,8 @@ from ngc_tools.page.stand import Kept, Stand, recovery_of
 from ngc_tools.link.machine import read_machine
 from ngc_tools.link.progress import Link, NoAnswer
 
-WITHOUT_LINES = {"home", "jog", "seek"}
-MOVES = {"run", "mdi", "resume", "recover", "restore", "release", *WITHOUT_LINES}
+WITHOUT_LINES = {"home", "jog", "seek", "probe", "measure"}
+MOVES = {"run", "mdi", "resume", "recover", "restore", "release", "above", "park", "macro", *WITHOUT_LINES}
 """The commands that move the machine, and those of them that the player makes without lines of OUT."""
 LOST = "lost"
 """Stands for the page that held, where that was nobody: the one that commands was lost."""
@@ -242,6 +242,14 @@ class PageSession:
     def type(self, line: str) -> None:
         """Does a command of the operator's core, as a person types it. Raises Busy."""
         self.give(line.removeprefix("anyway ").split()[0], lambda: self.operator.do(line))
+
+    def line(self, line: str) -> None:
+        """Does a line of G-code that a button stands for, and shows it. Raises Busy."""
+        def does() -> None:
+            """By the operator's core."""
+            self.face.say(line)
+            self.operator.do(f"mdi {line}")
+        self.give("mdi", does)
 
     def tell(self, line: str, holds: int | None = None) -> None:
         """Does a short command, and waits for it; one that may come while something runs is given then. It was asked
