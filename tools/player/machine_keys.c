@@ -20,7 +20,7 @@ static const struct table tables[TABLES] = {
     [TURNS] = {"spindle", "max_rpm"}, [BACKLASH] = {"backlash", "steps"},
     [SINK] = {"sink", "line, baud or debounce_us"},
     [INPUTS] = {"inputs", "one of its eight"}, [HOME] = {"home", "one of its nine"},
-    [SETTER] = {"setter", "height_um"}};
+    [SETTER] = {"setter", "one of its eight"}};
 
 struct key {
     int table;
@@ -64,6 +64,13 @@ static const struct key keys[KEYS] = {
     [AGREE] = {HOME, "agree_um", 1, 0, 1000000, "a whole number from 0 to 1000000"},
     [HEIGHT] = {SETTER, "height_um", 1, -FARTHEST_UM, FARTHEST_UM,
                 "a whole number of micrometres from -10000000 to 10000000"},
+    [OVER] = {SETTER, "at_um", 3, -FARTHEST_UM, FARTHEST_UM, "three whole numbers from -10000000 to 10000000"},
+    [PROBE_TOOL] = {SETTER, "probe_tool", 1, 1, 128, "a whole number from 1 to 128"},
+    [RADIUS] = {SETTER, "probe_radius_um", 1, 0, 50000, "a whole number from 0 to 50000"},
+    [TOUCH_FAST] = {SETTER, "fast_mm_min", 1, 1, 100000, "a whole number from 1 to 100000"},
+    [TOUCH_SLOW] = {SETTER, "slow_mm_min", 1, 1, 100000, "a whole number from 1 to 100000"},
+    [RETRACT] = {SETTER, "retract_um", 1, 1, 50000, "a whole number from 1 to 50000"},
+    [TOUCH_AGREE] = {SETTER, "agree_um", 1, 0, 1000000, "a whole number from 0 to 1000000"},
 };
 
 /* The number of a table; TABLES, with the cause, for one that isn't known. */
@@ -133,7 +140,7 @@ static bool is_missing(const struct content *content, int key) {
 }
 
 static bool check_missing(const char *path, const struct content *content, struct cause *why) {
-    static const int needed[] = {ACCEL, LINE, ORDER, SWITCH, DIRECTION, FAST, SLOW, PULL_OFF, AT, HEIGHT};
+    static const int needed[] = {ACCEL, LINE, ORDER, SWITCH, DIRECTION, FAST, SLOW, PULL_OFF, AT};
     if (!content->is_found[MOTION]) {
         return because(why, "%s: the table [motion] is missing: it says what the motors allow", path);
     }

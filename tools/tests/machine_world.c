@@ -3,6 +3,7 @@
 #define _GNU_SOURCE
 #include <errno.h>
 #include <fcntl.h>
+#include <math.h>
 #include <string.h>
 #include <sys/mman.h>
 #include <time.h>
@@ -10,7 +11,9 @@
 
 #include "pins.h"
 
-enum { SWITCHES = 8, LAST_PULSES = 1 << 17 };
+enum { SWITCHES = 8, LAST_PULSES = 1 << 17, SOLIDS = 6, TOOLS = 4 };
+
+enum { BOX = 1, POST, HOLE };
 
 /* On where `sign` times the axis is at least as far as `sign` times `at`; within `bounces` steps of it by chance. Each
  * time that it goes off it moves by `drifts` steps. */
@@ -23,6 +26,29 @@ struct toggle {
     int64_t bounces;
     int64_t drifts;
     int64_t was_on;
+};
+
+/* A body that what is in the spindle can touch: a box from `low` to `high`; a round post, or a round hole in a block
+ * that ends nowhere: about `low` of X and Y, with the radius `high` of X, and the top `high` of Z. */
+struct solid {
+    int64_t kind; /* 0 for none */
+    int64_t low[3];
+    int64_t high[3];
+};
+
+/* What the spindle carries, by its slot, the work, and how far all went. The end of a tool is a ball, whose lowest
+ * point hangs `length` below the spindle. While it touches, `input` is high; within `bounces` steps of it by chance. */
+struct work {
+    int64_t input;
+    int64_t bounces;
+    int64_t is_dumb; /* the input doesn't come on */
+    int64_t slot;
+    int64_t length[TOOLS];
+    int64_t radius[TOOLS];
+    int64_t deepest; /* how far a ball went into a body, in steps; less than 0: how near it came */
+    int64_t least[3];
+    int64_t greatest[3];
+    struct solid solids[SOLIDS];
 };
 
 struct world {
@@ -38,6 +64,7 @@ struct world {
     struct toggle toggles[SWITCHES];
     int64_t backlash[3]; /* so many steps a screw turns before the table follows .. */
     int64_t turned_up[3]; /* .. of which so many were turned up */
+    struct work work;
 };
 
 /* What the pins were set to: outputs, when the spindle began to turn, and the last pulses, each with when it was made
@@ -136,17 +163,71 @@ static void turn(int axis, int step) {
     world->turned_up[axis] += does_follow ? 0 : step;
 }
 
+static double beyond(double at, double low, double high) {
+    return at < low ? low - at : at > high ? at - high : 0;
+}
+
+/* How far a point is from a body; 0 within it. */
+static double distance_to(volatile const struct solid *solid, const double at[3]) {
+    double away = hypot(at[0] - (double)solid->low[0], at[1] - (double)solid->low[1]);
+    double radius = (double)solid->high[0];
+    double above = fmax(0, at[2] - (double)solid->high[2]);
+    double from[3];
+    switch (solid->kind) {
+    case BOX:
+        for (int axis = 0; axis < 3; axis++) {
+            from[axis] = beyond(at[axis], (double)solid->low[axis], (double)solid->high[axis]);
+        }
+        return sqrt(from[0] * from[0] + from[1] * from[1] + from[2] * from[2]);
+    case POST:
+        return hypot(fmax(0, away - radius), above);
+    default:
+        return hypot(fmax(0, radius - away), above);
+    }
+}
+
+/* How far what is in the spindle is in some body, in steps; less than 0: how far from the nearest. */
+static double depth_now(void) {
+    volatile const struct work *work = &world->work;
+    int tool = (int)(work->slot % TOOLS);
+    double radius = (double)work->radius[tool];
+    double at[3] = {(double)world->place[0], (double)world->place[1],
+                    (double)(world->place[2] - work->length[tool]) + radius};
+    double depth = -1e12;
+    for (int number = 0; number < SOLIDS; number++) {
+        if (work->solids[number].kind != 0) {
+            depth = fmax(depth, radius - distance_to(&work->solids[number], at));
+        }
+    }
+    return depth;
+}
+
+static void tell_reached(void) {
+    volatile struct work *work = &world->work;
+    int64_t depth = (int64_t)floor(depth_now());
+    work->deepest = depth > work->deepest ? depth : work->deepest;
+    for (int axis = 0; axis < 3; axis++) {
+        int64_t at = world->place[axis];
+        work->least[axis] = at < work->least[axis] ? at : work->least[axis];
+        work->greatest[axis] = at > work->greatest[axis] ? at : work->greatest[axis];
+    }
+}
+
 int pins_set(const struct line *line, const char *text, size_t size) {
     (void)text;
     (void)size;
     if (line->kind == 'S') {
         world->is_on = outputs_are_on(&line->outputs);
+        world->work.slot = (int64_t)line->outputs.slot;
         tell_outputs(&line->outputs);
     }
     for (int axis = 0; axis < 3 && line->kind == 'P'; axis++) {
         turn(axis, line->step[axis]);
     }
     world->pulses += line->kind == 'P';
+    if (line->kind == 'P') {
+        tell_reached();
+    }
     if (line->kind == 'P') {
         tell_pulse(line);
     }
@@ -181,6 +262,15 @@ static uint32_t level(volatile struct toggle *toggle) {
     return is_on ? UINT32_C(1) << toggle->input : 0;
 }
 
+/* The input of what touches the work. */
+static uint32_t touching(void) {
+    volatile const struct work *work = &world->work;
+    double depth = depth_now();
+    bool is_near = fabs(depth) < (double)work->bounces;
+    bool is_on = is_near ? is_by_chance() : depth >= 0;
+    return is_on && !work->is_dumb && depth > -1e11 ? UINT32_C(1) << work->input : 0;
+}
+
 int pins_inputs(uint32_t *levels) {
     *levels = (uint32_t)(world->inputs | (world->is_on ? world->speed_high : 0));
     if (world->at_pulse != 0 && world->pulses >= world->at_pulse) {
@@ -191,5 +281,6 @@ int pins_inputs(uint32_t *levels) {
             *levels |= level(&world->toggles[at]);
         }
     }
+    *levels |= touching();
     return (int)world->error;
 }

@@ -18,7 +18,9 @@ from ngc_tools.ngc.console import Status
 from ngc_tools.operator.commands import BY_WORD, COMMANDS, Asked, Taken, help_text, words_taken
 from ngc_tools.operator.face import is_aside, is_override
 from ngc_tools.page.able import able
+from ngc_tools.page.band import MOVING, OWN_LINES
 from ngc_tools.page.deeds import DEEDS, SWITCHES, WAITING
+from ngc_tools.page.session import WITHOUT_LINES
 
 PAGE = (TOOLS.parent / "docs" / "TOOLS.md").read_text().partition("## ngc-operate: ")[2].partition("\n## ")[0]
 STATIC = TOOLS / "ngc_tools" / "page" / "static"
@@ -44,7 +46,7 @@ class Pages(unittest.TestCase):
         """So has what `help` says, and no line of it is longer than a terminal of old."""
         forms = [form for command in COMMANDS for form, _ in command.forms]
         words = {part.split()[0] for form in forms for part in form.split(", ") if part.islower() or " " in part}
-        self.assertEqual(words - {"anyway", "probe", "G0"}, BY_WORD.keys() - UNSAID)
+        self.assertEqual(words - {"anyway", "G0"}, BY_WORD.keys() - UNSAID)
         self.assertTrue(all(re.search(rf"(?m)^{re.escape(form)}  ", help_text()) for form in forms))
         self.assertLessEqual(max(map(len, help_text().splitlines())), 78)
 
@@ -81,10 +83,10 @@ class Asks(unittest.TestCase):
         """
         asked = {command.word for command in COMMANDS if command.asked is not Asked.NEVER}
         self.assertEqual(asked - DEEDS.keys(), SWITCHES)
-        self.assertEqual(DEEDS.keys() - asked, {"stands", "switch", "answer", "jogstop", "loss", "restart"})
+        self.assertEqual(DEEDS.keys() - asked, {"stands", "switch", "turn", "answer", "jogstop", "loss", "restart"})
         self.assertEqual(WAITING - {"stands", "switch", "restart"},
                          {command.word for command in COMMANDS if command.asked is Asked.AWAITED} - SWITCHES)
-        self.assertEqual(SWITCHES, {"single", "optional", "delete"})
+        self.assertEqual(SWITCHES, {"single", "optional", "delete", "measures"})
 
     def test_scripts(self) -> None:
         """What the scripts of the page ask for is done, and what enables their buttons is told."""
@@ -123,13 +125,22 @@ def told(standing: Standing) -> dict[str, bool]:
     return able(session, status, report, standing.machine, report.outputs if report else OFF, standing.is_apart)
 
 
+class Words(unittest.TestCase):
+    """What the page says while a command is under way."""
+
+    def test_moves(self) -> None:
+        """Each that moves without lines has its word; lines of one's own are those that no program has."""
+        self.assertEqual(MOVING.keys(), WITHOUT_LINES)
+        self.assertEqual(OWN_LINES, {"mdi", "restore", "above", "park", "macro"})
+
+
 class Buttons(unittest.TestCase):
     """Which buttons are enabled."""
 
-    SETTING_UP = {"load", "mdi", "tool", "zero", "touch", "undo", "restore"}
-    MOVES = {"home", "jog", "seek"}
+    SETTING_UP = {"load", "mdi", "tool", "zero", "touch", "undo", "restore", "above", "park", "macro"}
+    MOVES = {"home", "jog", "seek", "probe", "measure"}
     ALWAYS = {"hold", "release", "rehearse"}
-    CHOICES = {"single", "optional", "delete", "percent", "spindle"}
+    CHOICES = {"single", "optional", "delete", "measures", "percent", "spindle"}
 
     def check(self, standing: Standing, *enabled: set[str]) -> None:
         """These and no others are."""
@@ -142,8 +153,9 @@ class Buttons(unittest.TestCase):
         first = Standing()
         first.status = replace(first.status, place=0)
         self.check(first, self.ALWAYS, self.CHOICES, self.SETTING_UP, self.MOVES, going - {"rewind"})
-        self.assertFalse(told(Standing(is_apart=True))["zero"])
-        self.assertTrue(told(Standing(is_apart=True))["load"])
+        apart = told(Standing(is_apart=True))
+        self.assertFalse(any(apart[word] for word in ("zero", "above", "park", "probe", "measure")))
+        self.assertTrue(apart["load"] and apart["macro"])
 
     def test_while_it_runs(self) -> None:
         """What is taken meanwhile; a jog goes on by its own button."""

@@ -71,6 +71,13 @@ agree_um = 20
 
 [setter]
 height_um = -81250
+at_um = [-140000, 90000, -5_000]
+probe_tool = 9
+probe_radius_um = 1000
+fast_mm_min = 300
+slow_mm_min = 30
+retract_um = 1000
+agree_um = 50
 """
 KEYS = re.findall(r"^(?:\[(\w+)\]|(\w+) =)", MACHINE, re.MULTILINE)
 PIECES = (" ", "\t", "\n", "\r\n", "\r", "#", '"', "'", '"""', "'''", ".", ",", "=", "[", "]", "[[", "]]", "{", "}",
@@ -161,7 +168,7 @@ NAMED = {
     "[inputs]\nDoor = 0\n": "motion.toml: inputs has a key that isn't one of its eight: Door",
     "[inputs]\ndoor.x = 0\n": None,
     "[inputs]\ndoor = '0'\n": "motion.toml: inputs: door takes a whole number from -1 to 15",
-    "[setter]\nheight = 1\n": "motion.toml: setter has a key that isn't height_um: height",
+    "[setter]\nheight = 1\n": "motion.toml: setter has a key that isn't one of its eight: height",
     "[sink]\nline = 1\n": "motion.toml: sink: line takes the path of the sink's serial line in \"quotes\", of at most"
                           " 255 bytes",
     "[inputs]\nprobe = 16\n": "motion.toml: inputs: probe takes a whole number from -1 to 15",

@@ -47,6 +47,9 @@ agree_um = 20
 """
 _HEAD, _TOGGLE = struct.Struct("=8Q3q"), struct.Struct("=4i4q")
 _BACKLASH = _HEAD.size + 8 * _TOGGLE.size
+_WORK = _BACKLASH + 6 * 8
+_DEEPEST, _SOLIDS = _WORK + 12 * 8, _WORK + 19 * 8
+BOX, POST, HOLE = 1, 2, 3
 _INPUTS, _PULSES, _AT_PULSE, _TURNED, _IS_ON, _SPEED, _ERROR, _CHANCE = range(8)
 
 
@@ -56,7 +59,7 @@ class World:
     def __init__(self) -> None:
         """Has switches of X and Y at -10 mm of its own, and of Z at 5 mm; the emergency stop isn't pressed: high."""
         with open("world", "wb") as file:
-            file.write(bytes(_BACKLASH + 6 * 8))
+            file.write(bytes(_SOLIDS + 6 * 7 * 8))
         with open("world", "r+b") as file:
             self._bytes = mmap.mmap(file.fileno(), 0)
         self.set(_INPUTS, 1 << STOP)
@@ -98,6 +101,32 @@ class World:
     def loosen(self, backlash: tuple[int, int, int], turned_up: tuple[int, int, int]) -> None:
         """Gives screws backlash, of which so many steps were turned up."""
         struct.pack_into("=6q", self._bytes, _BACKLASH, *backlash, *turned_up)
+
+    def solid(self, number: int, kind: int, low: tuple[int, ...], high: tuple[int, ...]) -> None:
+        """Places a body, in steps: a box from `low` to `high`; a post or a hole about `low`, `high` being its radius
+        and its top."""
+        ends = (*low, 0)[:3], high if kind == BOX else (high[0], 0, high[1])
+        struct.pack_into("=7q", self._bytes, _SOLIDS + 56 * number, kind, *ends[0], *ends[1])
+
+    def tool(self, slot: int, length: int, radius: int = 0) -> None:
+        """What hangs in the spindle with that slot in it, in steps."""
+        struct.pack_into("=q", self._bytes, _WORK + 8 * (4 + slot), length)
+        struct.pack_into("=q", self._bytes, _WORK + 8 * (8 + slot), radius)
+
+    def touching(self, number: int, bounces: int = 0, is_dumb: bool = False) -> None:
+        """Which input is high while that touches a body; within `bounces` steps by chance."""
+        struct.pack_into("=3q", self._bytes, _WORK, number, bounces, is_dumb)
+
+    def forget_reached(self) -> None:
+        """From now on it is noted anew where the table was."""
+        struct.pack_into("=7q", self._bytes, _DEEPEST, -10**12, *self.place, *self.place)
+
+    @property
+    def reached(self) -> tuple[int, tuple[int, ...], tuple[int, ...]]:
+        """Since then: how far what is in the spindle went into a body, less than 0 where it didn't, and the least and
+        the greatest place of each axis."""
+        deepest, *ends = struct.unpack_from("=7q", self._bytes, _DEEPEST)
+        return deepest, tuple(ends[:3]), tuple(ends[3:])
 
     def close(self) -> None:
         """Lets go of its file."""

@@ -71,7 +71,7 @@ _WEIGHTS: tuple[tuple[str, float], ...] = (
     (r"^(Set |Undo|Tool \d+ stands|Where the probe|[XYZ]([+\u2212]|$| @))", 2),
     (r"^(Back|No|Later|Close)", 2),
     (r"^(Program|Setup|Tools|Log)$", 1.2),
-    (r"^(Top|3-D|Fit|Light|Dark|All that)", 0.2), (r"^Quit", 0.25), (r"^(Load\u2026|Hold|Do$)", 0),
+    (r"^(Top|3-D|Fit|Light|Dark|All that)", 0.2), (r"^Quit", 0.25), (r"^(Load\u2026|Hold|Do$|Read the macros)", 0),
 )
 _WAYS_ON = (
     r"Take over", r"Yes, give it up", r"Yes: cuts", r"(They|It) stand", r"Tool .* (is in|is out|in)$", r"Home$",
@@ -83,7 +83,7 @@ _FORWARDS, _WAITS = len(_WAYS_ON) - 3, 8
 """What a person touches who wants to get on, the first of these that there is; the last three once nothing else comes.
 """
 _MOVING = re.compile(r"^(Run|Continue|Let go on|Tool .* (in|out)$|Yes|It is done|Go on|Recover|Home|Restore|Resume"
-                     r"|Go along|Go by|Resume|[XYZ]([+\u2212]| @|$))")
+                     r"|Go along|Go by|Resume|Above work zero|Park|[XYZ]([+\u2212]| @|$))")
 _BY_RECORD = "by the record"
 """A yes to a question with these words says that the motors stand where the player has them."""
 _AXIS = re.compile(r"^([XYZ])([+\u2212]?)( @.*)?$")

@@ -168,7 +168,7 @@ def session(ngc: str, args: argparse.Namespace, meter: Meter | None, pipe: int |
                 operator.recover.most_percent = limits.most_percent
                 operator.loading.times_command = line_times.command(ngc, args.settings, args.machine)
             stack.callback(operator.loading.close)
-            operator.touch.know(setter)
+            operator.know(setter)
             operator.keys = screen.keys if screen.is_terminal else None
             said = bound(args, meter, pipe)
             if pipe is not None:

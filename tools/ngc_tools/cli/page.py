@@ -187,7 +187,7 @@ class Opener:
         operator = Operator(console, face, meter)
         operator.recover.found = out
         if self.args.machine:
-            operator.touch.know(Setter.read(self.args.machine))
+            operator.know(Setter.read(self.args.machine))
             limits = read_limits(self.args.machine, operator.session.settings.step_nm)
             operator.recover.most_percent = limits.most_percent
         said = bound(self.args, meter, pipe)

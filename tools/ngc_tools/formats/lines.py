@@ -5,6 +5,7 @@ from dataclasses import dataclass
 from ngc_tools.formats.text import shown, shown_line
 
 _COMMENT = re.compile(rb"\(([^()]*)\)")
+_CHANGE = re.compile(rb"M[ \t]*0*[ \t]*6(?![ \t]*[0-9.])", re.IGNORECASE)
 _MESSAGE = re.compile(rb"[ \t]*M[ \t]*S[ \t]*G[ \t]*,(.*)", re.IGNORECASE | re.DOTALL)
 
 
@@ -38,6 +39,15 @@ class Program:
                 found.append((number, shown(match[1]).strip()))
         return found
 
+
+    def changes(self) -> tuple[int, ...]:
+        """Where the lines begin that have M6, as far as that is written with digits."""
+        found, place = [], 0
+        for line in self.text.split(b"\n"):
+            if _CHANGE.search(_COMMENT.sub(b"", line)):
+                found.append(place)
+            place += len(line) + 1
+        return tuple(found)
 
     def remark(self, place: int) -> tuple[int, str] | None:
         """The plain comment of the line that ends at a place, or of one of comments alone right above it, with its

@@ -69,11 +69,14 @@ _TABLES: Mapping[str, Mapping[str, _Key]] = {
              "direction": _Key(range(-1, 2), 3, "three whole numbers, -1 or 1"), "fast_mm_min": _Key(_MM_PER_MIN, 3),
              "slow_mm_min": _Key(_MM_PER_MIN, 3), "pull_off_um": _Key(range(1, 1_000_001), 3), "at_um": _Key(_UM, 3),
              "way_mm": _Key(range(1, 100_001), 3), "agree_um": _Key(range(1_000_001))},
-    "setter": {"height_um": _Key(_UM, words=f"a whole number of micrometres from {_UM[0]} to {_UM[-1]}")},
+    "setter": {"height_um": _Key(_UM, words=f"a whole number of micrometres from {_UM[0]} to {_UM[-1]}"),
+               "at_um": _Key(_UM, 3), "probe_tool": _Key(range(1, 129)), "probe_radius_um": _Key(range(50_001)),
+               "fast_mm_min": _Key(_MM_PER_MIN), "slow_mm_min": _Key(_MM_PER_MIN), "retract_um": _Key(range(1, 50_001)),
+               "agree_um": _Key(range(1_000_001))},
 }
 _KEYS = {"motion": "one of its five", "sink": "line, baud or debounce_us", "inputs": "one of its eight",
-         "home": "one of its nine"}
-_NEEDED = {"motion": ("accel_mm_s2",), "sink": ("line",), "setter": ("height_um",),
+         "home": "one of its nine", "setter": "one of its eight"}
+_NEEDED = {"motion": ("accel_mm_s2",), "sink": ("line",),
            "home": ("order", "switch", "direction", "fast_mm_min", "slow_mm_min", "pull_off_um", "at_um")}
 
 

@@ -8,6 +8,7 @@ from dataclasses import dataclass
 from enum import Enum, Flag, auto
 from typing import TYPE_CHECKING
 
+from ngc_tools.operator.routines import ROUTINES
 from ngc_tools.operator.typed import Typed
 
 if TYPE_CHECKING:
@@ -102,9 +103,10 @@ _SOUND = _THERE | Needs.DEVICE | Needs.NO_ALARM
 _WELL = _SOUND | Needs.CARRIES
 _LINE = _WELL | Needs.NOT_BUSY | Needs.NOTHING_HALF | Needs.NOTHING_LEFT
 _SETTING = _LINE | Needs.IDLE
-_TOUCH_OFF = _SETTING | Needs.ONE_PLACE
+_FROM_PLACE = _SETTING | Needs.ONE_PLACE
 _MOVE = _THERE | Needs.MAKES_MOVES | Needs.TAKES_MOVES | Needs.DOOR_SHUT
 _TOWARDS = _MOVE | Needs.ALL_OFF | Needs.NOT_BUSY
+_ROUTINE = _TOWARDS | _FROM_PLACE
 
 
 @dataclass(frozen=True, slots=True)
@@ -162,15 +164,38 @@ COMMANDS = (
     Command("zero", lambda operator, typed: operator.touch.zero(typed.rest, typed.anyway),
             (("zero X Y Z", "here is X0, Y0, Z0 of the work; zero Z 10: here is Z10"),),
             usage="zero X Y Z: which axes are 0 here? zero Z 10 for another coordinate than 0",
-            brings=Brings.HANDS_OUT, asked=Asked.GIVEN, needs=_TOUCH_OFF),
+            brings=Brings.HANDS_OUT, asked=Asked.GIVEN, needs=_FROM_PLACE),
     Command("touch", lambda operator, typed: operator.touch.tool(typed.rest, typed.anyway),
             (("touch tool N", "slot N has the length of the tool on the setter"),
              ("probe", "behind zero and touch: where it was touched")),
             usage="touch tool N: which slot's tool stands on the setter? touch tool 3, or touch tool 3 HEIGHT",
-            asked=Asked.GIVEN, needs=_TOUCH_OFF),
+            asked=Asked.GIVEN, needs=_FROM_PLACE),
+    Command("probe", lambda operator, typed: operator.probing.do(typed.rest),
+            (("probe edge X+", "until the probe touches an edge; also outside,\n"
+              "inside, surface, bore, boss, pocket, web"),),
+            usage=f"probe {', '.join(ROUTINES)}: which routine? probe outside X+ Y+ within 10 along 10",
+            brings=Brings.MOVES | Brings.HANDS_OUT, asked=Asked.GIVEN, needs=_ROUTINE),
+    Command("measure", lambda operator, typed: operator.measuring.do(typed.rest),
+            (("measure", "the tool in the spindle, on the setter"),),
+            usage="measure: the tool in the spindle; measure from Z within MM: it goes down to that machine Z, and"
+            " seeks the setter from there by at most so many mm", brings=Brings.MOVES, asked=Asked.GIVEN,
+            needs=_ROUTINE),
+    Command("measures", lambda operator, typed: operator.measuring.switch(typed.rest),
+            (("measures on, off", "whether each tool change asks for that"),),
+            usage="measures on, or measures off: whether each tool change asks whether its tool is measured",
+            taken=Taken.AMID, brings=Brings.SWITCH, asked=Asked.AWAITED, needs=_WELL),
+    Command("above", lambda operator, _: operator.ways.above(),
+            (("above", "Z up, and over to X0 Y0 of the work"),), brings=_OWN_LINES, asked=Asked.GIVEN,
+            needs=_FROM_PLACE),
+    Command("park", lambda operator, _: operator.ways.park(),
+            (("park", "spindle and coolant off, Z up, and over to X and Y of home"),), brings=_OWN_LINES,
+            asked=Asked.GIVEN, needs=_FROM_PLACE),
+    Command("macro", lambda operator, typed: operator.macros.do(typed.rest),
+            (("macro NAME", "the lines of a macro; macro says which there are"),), brings=_OWN_LINES,
+            asked=Asked.GIVEN, needs=_SETTING),
     Command("undo", lambda operator, _: operator.touch.undo(),
-            (("undo", "put back what zero or touch set last"),), brings=Brings.HANDS_OUT, asked=Asked.GIVEN,
-            needs=_TOUCH_OFF),
+            (("undo", "put back what zero, touch, probe or measure set last"),), brings=Brings.HANDS_OUT,
+            asked=Asked.GIVEN, needs=_FROM_PLACE),
     Command("hold", lambda operator, typed: operator.hold_all(typed),
             (("hold", "Enter or Ctrl-C while something runs"),), taken=Taken.BROKEN_OFF, needs=Needs.SESSION),
     Command("stop", lambda operator, _: operator.stopping.stop(),

@@ -124,23 +124,32 @@ class Moves:
 
     def _go(self, name: str, begin: Callable[[Link], MoveAnswer], keep: Callable[[int], None] | None = None) -> None:
         """Makes a move, and says how it ended. `keep` is called with its number as long as it goes."""
-        self.touched, is_sure = None, self._is_sure()
-        try:
-            number, why = begin(self.session.meter.link)
-            if why:
-                self._refuse(f"{name}: {why}")
-                return
-            machine = self._ended(number, name, keep)
-        except NoAnswer as error:
-            self.say_silent(error)
+        is_sure = self.is_sure()
+        machine = self.make(name, begin, keep)
+        if machine is None:
             return
-        finally:
-            self.session.face.live(None)
         if keep is None or machine.how not in USUAL:
             self._say(name, machine)
         self.tell(is_sure or machine.homed == "XYZ")
 
-    def _is_sure(self) -> bool:
+    def make(self, name: str, begin: Callable[[Link], MoveAnswer],
+             keep: Callable[[int], None] | None = None) -> MoveReport | None:
+        """Makes a move, and waits until it is over: how it ended; None, which is said, where it isn't taken, or the
+        player is gone. `ngc` isn't told."""
+        self.touched = None
+        try:
+            number, why = begin(self.session.meter.link)
+            if why:
+                self._refuse(f"{name}: {why}")
+                return None
+            return self._ended(number, name, keep)
+        except NoAnswer as error:
+            self.say_silent(error)
+            return None
+        finally:
+            self.session.face.live(None)
+
+    def is_sure(self) -> bool:
         """Whether `ngc` knows where the machine is, and the player counts it there."""
         status, report = self.session.console.status(), self.session.report()
         return (status.known and report is not None and report.word not in (ALARM, BROKEN)

@@ -24,6 +24,8 @@ from ngc_tools.operator.jog_keys import Keys, jog_by_keys
 from ngc_tools.operator.left import Left, dropped_g92
 from ngc_tools.operator.loading import Loading
 from ngc_tools.operator.look import Look
+from ngc_tools.operator.macros import Macros
+from ngc_tools.operator.measuring import Measuring
 from ngc_tools.operator.meter import Meter
 from ngc_tools.operator.motors import Motors
 from ngc_tools.operator.moves import Moves
@@ -32,16 +34,19 @@ from ngc_tools.operator.opening import say_opening
 from ngc_tools.operator.next_session import NextSession
 from ngc_tools.operator.outputs import comes_on_agreed, outputs_agree
 from ngc_tools.operator.places import Places, stops_outputs
+from ngc_tools.operator.probing import Probing
 from ngc_tools.operator.recover import Recover
 from ngc_tools.operator.rehearsing import rehearse
 from ngc_tools.operator.sentences import (GO_ON, NOT_MOVED, SWITCHED, SWITCHED_THERE, TAKEN_UP,
                                           TAKEN_UP_THERE)
 from ngc_tools.operator.session import ALARM, BROKEN, Nothing, Session, place
+from ngc_tools.operator.setter import Setter
 from ngc_tools.operator.stopping import Stopping
 from ngc_tools.operator.slots import fill_below
 from ngc_tools.operator.touch import Touch, is_slot
 from ngc_tools.operator.typed import ANYWAY, Typed
-from ngc_tools.operator.work import SINGLE, Work
+from ngc_tools.operator.ways import Ways
+from ngc_tools.operator.work import CHANGE, SINGLE, Work
 from ngc_tools.link.progress import NoAnswer, Report
 
 
@@ -76,6 +81,11 @@ class Operator:
         self.stopping = Stopping(self.session, self.motors, self.ending, self.following,
                                  lambda line: self._line_done(line, True))
         self.touch = Touch(self.session, self.places, self.moves, self._line_done)
+        self.probing = Probing(self.session, self.moves, self.touch)
+        self.measuring = Measuring(self.session, self.moves, self.touch)
+        self.ways = Ways(self.session, self.left, self._line_done)
+        self.macros = Macros(self.session, self.left, self._line_done)
+        self.work.waits_at_change = lambda: self.measuring.is_on and self.measuring.can
         self.keys: Callable[[], AbstractContextManager[Keys]] | None = None
         self.over = False
         self.taken_up: TakenUp | None = None
@@ -85,6 +95,11 @@ class Operator:
         self.face.say(bound)
         self._open(found)
         self.choices.give_back(self.console.status())
+
+    def know(self, setter: Setter) -> None:
+        """Takes what the machine's file says of touching off, and of home."""
+        self.touch.know(setter)
+        self.ways.know(setter)
 
     def _open(self, found: Device | None) -> None:
         """Says what a session of `ngc` begins with, and sees how it stands."""
@@ -486,9 +501,31 @@ class Operator:
             self._hold()
             return None
         self.session.own = ""
-        if ended == SINGLE:
-            ended = self.console.ask("hold")[0]
+        if ended in (SINGLE, CHANGE):
+            is_change, ended = ended == CHANGE, self.console.ask("hold")[0]
+            if is_change and ended == "held":
+                return self._measured(ended)
         return ended
+
+    def _measured(self, ended: str) -> str | None:
+        """Behind a tool change, where the program is held: the tool is measured, if a person wants that, and the
+        program goes on. Returns what ended its work then, None for a hold."""
+        report = self.session.report()
+        device = self.stored()
+        probe = self.touch.setter.probe
+        if report is None or report.behind or report.is_held or not device.slot:
+            return ended
+        if not (probe and probe.slot == device.slot):
+            line, self.session.own = f"(tool {device.slot} is in)", ""
+            if self._line_done(line, True) is None:
+                return None
+            if self.measuring.at_change(device.slot) is False:
+                self.face.say("the program waits behind the tool change: measure, and run goes on", WARNING)
+                return "stopped"
+        self.left.forget()
+        if refused(self.session, self.console.ask("continue")[0], "continue"):
+            return "stopped"
+        return self._work()
 
     def _say_stand(self, ended: str) -> None:
         """Says how all stands once work has ended so."""

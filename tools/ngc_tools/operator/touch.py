@@ -2,10 +2,9 @@
 
 `ngc` does each as a line of G-code, or a command, that is shown. What is in force is read from the device."""
 import re
-from collections.abc import Callable
+from collections.abc import Callable, Collection
 from dataclasses import dataclass
 
-from ngc_tools.failure import Failure
 from ngc_tools.formats.device import Device, State
 from ngc_tools.job.figures import millimetres as rounded
 from ngc_tools.formats.in_force import in_force_on
@@ -21,6 +20,7 @@ from ngc_tools.operator.places import Places
 from ngc_tools.operator.session import Session
 from ngc_tools.operator.setter import Setter
 from ngc_tools.operator.slots import fill_below
+from ngc_tools.operator.touching import CannotTouch
 from ngc_tools.operator.typed import ANYWAY
 
 Point = tuple[int, int, int]
@@ -37,10 +37,6 @@ FAR_NM = 5_000_000
 _OTHER_TOOL = ("the probe was touched with {then} in the spindle, and there is {now} now: seek Z- RATE within MM again,"
                " or without the word probe from where the machine stands")
 _INCHES = "inches are in force (G20): write {text}in, or {text}mm"
-
-
-class CannotTouch(Failure):
-    """Why nothing is set; the text is for people."""
 
 
 @dataclass(frozen=True, slots=True)
@@ -111,11 +107,12 @@ class Touch:
         self.session, self.places, self.moves, self.line_done = session, places, moves, line_done
         self.setter_nm: int | None = None
         self.has_probe = False
+        self.setter = Setter()
         self._back: Back | None = None
 
     def know(self, setter: Setter) -> None:
         """Takes what the machine's file says."""
-        self.setter_nm, self.has_probe = setter.height_nm, setter.has_probe
+        self.setter, self.setter_nm, self.has_probe = setter, setter.height_nm, setter.has_probe
 
     @property
     def undoes(self) -> str:
@@ -152,18 +149,39 @@ class Touch:
             self.session.face.say(_tip(device.state), WHERE)
         for text in _dangers(device, wanted):
             self.session.face.say(text, WARNING)
-        here, system = in_force_on(device.state).to_program(at), device.state.system
+        here = in_force_on(device.state).to_program(at)
         origin = {axis: device.state.origin_nm[axis] + here[axis] - nm for axis, nm in wanted.items()}
         if not anyway and (question := _far_zero(device.state, origin)) and not self._agrees(question):
             return
+        if self._set_origin(device, origin):
+            self._use_up(by_probe)
+
+    def zero_at(self, at: dict[int, int], name: str) -> None:
+        """Asks whether the machine coordinates of some axes, in nm, become 0 of the system in force; `name` is what was
+        found there. Raises CannotTouch where nothing can be set."""
+        status, device = self._found()
+        here = self._at("probe", status, device, False)
+        x, y, z = (at.get(axis, nm) for axis, nm in enumerate(here))
+        work = in_force_on(device.state).to_program((x, y, z))
+        for text in _dangers(device, list(at)):
+            self.session.face.say(text, WARNING)
+        names = " ".join(f"{_AXES[axis]}0" for axis in sorted(at))
+        where = " ".join(f"{_AXES[axis]}{trimmed(nm)}" for axis, nm in sorted(at.items()))
+        if self._agrees(f"{name}: machine {where}\nyes makes it {names} of {SYSTEMS[device.state.system - 1]},"
+                        " anything else leaves the zero: "):
+            self._set_origin(device, {axis: device.state.origin_nm[axis] + work[axis] for axis in at})
+
+    def _set_origin(self, device: Device, origin: dict[int, int]) -> bool:
+        """Sets axes of the origin of the system in force, and says it; whether that was taken."""
+        system = device.state.system
         if not self._line(origin_line(system, origin, device.state.unit)):
-            return
-        self._use_up(by_probe)
+            return False
         now, before = self._device(), dict(enumerate(device.state.origin_nm))
         self._back = Back(SYSTEMS[system - 1], lambda unit: origin_line(system, before, unit), origin_of(now, system),
                           lambda device: origin_of(device, system))
         Look(self.session).after_work()
         self._say_back(point_words(now.state.origin_nm), point_words(device.state.origin_nm))
+        return True
 
     def _tool(self, rest: str, anyway: bool) -> None:
         """Raises CannotTouch."""
@@ -187,6 +205,20 @@ class Touch:
         if not anyway and (question := _far_length(slot, z - height, before, by_probe)) and not self._agrees(question):
             return
         self._set_length(slot, z - height, before, by_probe)
+
+    def measured(self, slot: int, at: int) -> bool:
+        """Gives a slot the length by which a tool touched the setter at a machine Z in nm, which is asked where that is
+        far from the one before; whether it has it now. Raises CannotTouch."""
+        if self.setter_nm is None:
+            raise CannotTouch(_HEIGHT.format(slot=slot))
+        before = length_in(self._device(), slot)
+        nm = at - self.setter_nm
+        self.session.face.say(f"the setter was touched at machine Z {trimmed(at)}, and its top is at"
+                              f" {trimmed(self.setter_nm)}", WHERE)
+        if (question := _far_length(slot, nm, before, True)) and not self._agrees(question):
+            return False
+        self._set_length(slot, nm, before, False)
+        return length_in(self._device(), slot) == (nm,)
 
     def _set_length(self, slot: int, nm: int, before: tuple[int, ...], by_probe: bool) -> None:
         """Gives a slot its length; it had that `before`, or none."""
@@ -328,7 +360,7 @@ def _tip(state: State) -> str:
     return f"Z is that of the tool's tip, by the tool length in force, {trimmed(state.tool_length_nm)} mm"
 
 
-def _dangers(device: Device, wanted: dict[int, int]) -> list[str]:
+def _dangers(device: Device, wanted: Collection[int]) -> list[str]:
     """What moves the zero point of these axes later."""
     state, said = device.state, []
     if any(state.g92_nm[axis] for axis in wanted):

@@ -15,8 +15,8 @@ from ngc_tools.operator.timeline import Timeline
 from ngc_tools.link.progress import NoAnswer, Report
 
 ENDS = ("idle", "stopped", "held", "refused")
-SINGLE = "single"
-"""What ended the work where it is to hold after each line."""
+SINGLE, CHANGE = "single", "change"
+"""What ended the work where it is to hold after each line, and where it is to behind a tool change."""
 FIRST_TICKS, MOST_TICKS = 20, 1000
 _HELD_S = 0.5  # of motors that are let go: so long after it they may still say that they are held
 _ASKED_S = 0.1  # of what holds them it asks about so often
@@ -82,19 +82,21 @@ class Work:
         self._asked_at = 0.0  # when it was asked last what holds them
         self._still = Stillness()
         self.is_amid = False  # a command is done that was given while something runs
+        self.waits_at_change: Callable[[], bool] = lambda: False
+        self._changes: tuple[bytes, tuple[int, ...]] = (b"", ())  # of a program, where its lines with M6 begin
 
     def go(self) -> str | None:
         """Gives ticks until there is nothing to do, or somebody wants to hold.
 
-        It returns what ended them: idle, stopped, held, refused or SINGLE; None for a wish to hold, or a player that is
-        gone. After all but a refusal it waits until the motors are through."""
+        It returns what ended them: idle, stopped, held, refused, SINGLE or CHANGE; None for a wish to hold, or a player
+        that is gone. After all but a refusal it waits until the motors are through."""
         self.session.gone = False
         self._waited = None
         self._shown = _NOTHING_SHOWN
         self._free_at = time.monotonic()
         self._still = Stillness()
         ended = self._ticks()
-        if ended in ("idle", "stopped", "held", SINGLE):
+        if ended in ("idle", "stopped", "held", SINGLE, CHANGE):
             self.await_motors()
         self._status = None
         self.session.face.live(None)
@@ -105,7 +107,8 @@ class Work:
         while count := self.room():
             begun = time.monotonic()
             is_single = session.single and not session.own
-            replies = session.console.ask(f"tick {1 if is_single else count}")
+            ahead = self._lines_to_change()
+            replies = session.console.ask(f"tick {1 if is_single else min(count, max(1, ahead))}")
             self.chunk.lasted(time.monotonic() - begun)
             status = self._status = session.console.status()
             session.passed(status)
@@ -113,12 +116,29 @@ class Work:
             if ended := self._ended(replies, status):
                 self._shown = _Shown(status.place, "all is handed out", None, ())
                 return ended
-            if self._is_line_done(replies, status) and is_single:
+            is_done = self._is_line_done(replies, status)
+            if ahead == 0 and any(reply.startswith("done") for reply in replies):
+                return CHANGE
+            if is_done and is_single:
                 return SINGLE
             self._show()
             if not self._wanted():
                 return None
         return None
+
+    def _lines_to_change(self) -> int:
+        """How many lines of the program, at least, come before the next tool change, each of which takes a tick; 0 in
+        its line; as many as there may be where none is waited at."""
+        session = self.session
+        if session.own or not self.waits_at_change():
+            return MOST_TICKS
+        status, text = self._status or session.console.status(), session.program.text
+        if self._changes[0] is not text:
+            self._changes = text, session.program.changes()
+        place = next((place for place in self._changes[1] if place >= status.place), None)
+        if place is None or session.delete and text[place:place + 1] == b"/":
+            return MOST_TICKS
+        return sum(1 for line in text[status.place:place].split(b"\n") if line.strip())
 
     def _is_line_done(self, replies: list[str], status: Status) -> bool:
         """Whether a line that handed something out is done, by the replies of a tick."""

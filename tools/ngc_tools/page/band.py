@@ -22,10 +22,11 @@ _HELD = {
 }
 _OFF = "Spindle and coolant were switched off by hand. Go on asks before they come on again"
 _HELD_BY_OTHER = "Somebody else holds the motors. Go on carries on"
-_MOVES = {"home": "Homing", "jog": "Jogging", "seek": "Seeking"}
+MOVING = {"home": "Homing", "jog": "Jogging", "seek": "Seeking", "probe": "Probing", "measure": "Measuring"}
+"""What is said while one of WITHOUT_LINES is under way."""
 _SEEKS = "until the probe is touched"
 _TAKE_UP = words_that_bring(Brings.TAKES_UP)
-_TYPED = ("mdi", "restore")
+OWN_LINES = words_that_bring(Brings.LINES) & words_that_bring(Brings.HANDS_OUT) - words_that_bring(Brings.PROGRAM)
 """The commands that do lines of one's own: before one has begun, and after it, no line of the program runs."""
 _STARTS = "ngc looks at the program first; nothing moves yet"
 _APART = "The motors aren't where the last line ended: tell which of the two is so, or home"
@@ -103,9 +104,8 @@ class Standing:
         if command is None or self._holds() and session.face.interrupted():
             return None
         if command.word in WITHOUT_LINES:
-            word, _, axis = self.does.partition(" ")
-            word = word if word in _MOVES else command.word
-            return _MOVES[word], "run", f"{axis} {_SEEKS}" if word == "seek" else axis
+            _, _, axis = self.does.partition(" ")
+            return MOVING[command.word], "run", f"{axis} {_SEEKS}" if command.word == "seek" else axis
         if command.word not in MOVES and self.status.does != "running":
             return None
         if self.held_by not in ("", "here"):
@@ -115,7 +115,7 @@ class Standing:
         if session.under and session.under.word in _TAKE_UP and not session.face.has_looked:
             return "On the way", "run", "To where the line was cut off. Hold stops it"
         waits = ": the spindle isn't at its speed yet" if self.report and self.report.word == WAITS_SPINDLE else ""
-        line = session.operator.session.own or ("" if command.word in _TYPED else self.here)
+        line = session.operator.session.own or ("" if command.word in OWN_LINES else self.here)
         return "Running", "run", line + waits
 
     def _is_in_hand(self) -> bool:

@@ -16,6 +16,7 @@ from ngc_tools.page import websocket
 from ngc_tools.page.deeds import BadWords
 from ngc_tools.page.http import RequestRefused, Request, head_of, read_body, read_request
 from ngc_tools.page.pages import LOST_S, Stamp
+from ngc_tools.page.routines import routines
 from ngc_tools.page.session import Busy
 
 if TYPE_CHECKING:
@@ -106,6 +107,10 @@ class Connection:
         name = path.partition("?")[0]
         if name in ("program", "job"):
             return self.server.program() if name == "program" else self.server.job(), _JSON
+        if name == "macros":
+            return packed(self.server.macros()), _JSON
+        if name == "routines":
+            return packed(routines()), _JSON
         return self.server.static(name)
 
     async def _posted(self, request: Request, path: str, body: bytes) -> bytes:

@@ -11,7 +11,9 @@ from ngc_tools.formats.device import SLOTS
 from ngc_tools.formats.position import nanometres
 from ngc_tools.job.cam_homes import HomeAnswers
 from ngc_tools.operator.commands import BY_WORD, COMMANDS, Asked, Brings, words_that_bring
+from ngc_tools.operator.macros import LONGEST_NAME
 from ngc_tools.operator.motors import PERCENTS, SPINDLE_PERCENTS
+from ngc_tools.operator.routines import ROUTINES
 from ngc_tools.page.aside import Wanted
 from ngc_tools.page.http import RequestRefused
 from ngc_tools.page.pages import Pages, Stamp
@@ -20,11 +22,16 @@ from ngc_tools.page.session import PageSession
 from ngc_tools.page.state import LOOKED_AT
 
 _NUMBER = re.compile(r"[-+]?(?:[0-9]{1,7}\.?[0-9]{0,6}|\.[0-9]{1,6})")
+_WAYS = re.compile(r"(?:[XY][-+]?(?: [XY][-+]?)?)?")
 _LONGEST_LINE = 256
+_MOST_SPEED = 1_000_000  # turns a minute
 _LONGEST_ANSWER = 64
 _MOST_PRESSES = 1000  # that are numbered before the server hears of one
-SWITCHES = words_that_bring(Brings.SWITCH)
 _MOST_KEPT = 2  # programs that were looked at and may be loaded
+SWITCHES = words_that_bring(Brings.SWITCH)
+_OUTPUT_LINES = {"clockwise": "M3 S{}", "counter-clockwise": "M4 S{}", "spindle off": "M5", "flood": "M8", "mist": "M7",
+                 "coolant off": "M9"}
+"""Lines of G-code by what they do to the spindle or the coolant; `S{}` takes a speed."""
 
 
 class BadWords(ValueError):
@@ -153,7 +160,7 @@ def _stands(given: Given) -> dict:
 
 
 def _switch(given: Given) -> None:
-    if given.words.get("name") not in SWITCHES:
+    if str(given.words.get("name")) not in SWITCHES:
         raise BadWords(f"name: one of {', '.join(sorted(SWITCHES))}")
     given.session.tell(f"{given.words['name']} {'on' if given.flag('on') else 'off'}")
 
@@ -192,6 +199,27 @@ def _zero_words(given: Given) -> str:
     return axes + _by_probe(given)
 
 
+def _probe_words(given: Given) -> str:
+    """A routine, the ways to the work, and lengths by their names."""
+    name, ways, lengths = (given.words.get(word) for word in ("routine", "ways", "lengths"))
+    if not isinstance(name, str) or name not in ROUTINES or not isinstance(ways, str) or not _WAYS.fullmatch(ways):
+        raise BadWords('routine: one of the probe\'s; ways: as "X+ Y-"')
+    if not isinstance(lengths, dict) or not set(lengths) <= set(ROUTINES[name].lengths):
+        raise BadWords("lengths: those of the routine, in millimetres")
+    said = [f"{length} {number_of(number)}mm" for length, number in lengths.items()]
+    return " ".join([name, *ways.split(), *said])
+
+
+def _turn(given: Given) -> None:
+    """Switches the spindle or the coolant by a line, which the log shows."""
+    line = _OUTPUT_LINES.get(str(given.words.get("name")))
+    if line is None:
+        raise BadWords(f"name: one of {', '.join(_OUTPUT_LINES)}")
+    if "{}" in line:
+        line = line.format(given.count("speed", _MOST_SPEED))
+    given.session.line(line)
+
+
 def _touch_words(given: Given) -> str:
     height = f" {given.number('height')}mm" if given.words.get("height") is not None else ""
     return f"tool {given.count('slot', SLOTS)}{height}{_by_probe(given)}"
@@ -222,6 +250,7 @@ def _rehearse(given: Given) -> dict:
 
 _WORDS: dict[str, Callable[[Given], str]] = {
     "home": _home_words, "seek": _seek_words, "zero": _zero_words, "touch": _touch_words,
+    "probe": _probe_words, "macro": lambda given: given.line("name", LONGEST_NAME),
     "tool": lambda given: f"{given.count('slot', SLOTS)} {given.number('length')}",
     "percent": lambda given: str(given.count("percent", PERCENTS[-1])),
     "spindle": lambda given: f"percent {given.count('percent', SPINDLE_PERCENTS[-1])}",
@@ -251,7 +280,7 @@ _OWN: dict[str, Callable[[Given], dict | None]] = {
 """The commands by which the page does more than a console, or asks for more."""
 
 _OF_PAGES: dict[str, Callable[[Given], dict | None]] = {
-    "stands": _stands, "switch": _switch, "answer": _answer,
+    "stands": _stands, "switch": _switch, "turn": _turn, "answer": _answer,
     "jogstop": lambda given: given.session.jogs.let_go(given.press()),
     "loss": lambda given: given.pages.choose(given.flag("goes")),
     "restart": lambda given: given.session.restart(),

@@ -19,6 +19,7 @@ from pathlib import Path
 from typing import Any
 
 from ngc_tools.formats.text import shown, shown_lines
+from ngc_tools.operator.macros import BadMacros
 from ngc_tools.page.aside import Wanted
 from ngc_tools.page.connection import Connection, packed
 from ngc_tools.page.deeds import DEEDS, WAITING, Given, cam_answers, keep_checked
@@ -184,6 +185,15 @@ class Server:
         session = self.session
         text = shown_lines(session.operator.session.program.text)
         return packed({"id": session.program_id, "name": session.name, "text": text})
+
+    def macros(self) -> dict:
+        """The macros that there are now, each with its lines, or why their file can't be used."""
+        macros = self.session.operator.macros
+        try:
+            return {"path": str(macros.path.name), "macros": [{"name": name, "lines": lines}
+                                                              for name, lines in macros.read().items()], "failed": ""}
+        except BadMacros as error:
+            return {"path": str(macros.path.name), "macros": [], "failed": str(error)}
 
     def job(self) -> bytes:
         """What is drawn of it."""

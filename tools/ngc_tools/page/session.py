@@ -248,6 +248,14 @@ class PageSession:
         """Does a command of the operator's core, as a person types it. Raises Busy."""
         self.give(line.removeprefix("anyway ").split()[0], lambda: self.operator.do(line))
 
+    def line(self, line: str) -> None:
+        """Does a line of G-code that a button stands for, and shows it. Raises Busy."""
+        def does() -> None:
+            """By the operator's core."""
+            self.face.say(line)
+            self.operator.do(f"mdi {line}")
+        self.give("mdi", does)
+
     def tell(self, line: str, holds: int | None = None) -> None:
         """Does a short command, and waits for it; one that may come while something runs is given then. It was asked
         for now, or when there had been so many wishes to hold. Raises Busy."""

@@ -281,7 +281,9 @@ class Pictured:
                 "given_back": self.operator.choices.given, "not_given_back": self.operator.choices.lost,
                 "left_at": session.opened.left_at, "broken": self.stand.is_broken, "undo": self.operator.touch.undoes,
                 "setter": None if setter_nm is None else millimetres(setter_nm),
-                "has_probe": self.operator.touch.has_probe,
+                "has_probe": self.operator.touch.has_probe, "has_ball": self.operator.touch.setter.probe is not None,
+                "has_park": None not in self.operator.ways.home_nm[:2],
+                "measures": self.operator.measuring.is_on if self.operator.measuring.can else None,
                 "typed": self.stand.typed, "restore": self.stand.restore, "version": session.version}
 
     def _moves(self) -> bool:

@@ -1,8 +1,10 @@
 // Setting up: home, jog, the probe, work zero, touch-off, and what becomes of a job whose page is lost.
 import { $, AXES, el, may, mm, point, systemName, text, typedNumber } from './dom.js';
 import { Jog } from './jog.js';
+import { Probing } from './probing.js';
 import { button } from './sheet.js';
 import { means } from './steady.js';
+import { Switches } from './switches.js';
 
 const SEEKS = [['X', 1], ['X', -1], ['Y', 1], ['Y', -1], ['Z', -1]];
 const SIGNS = { 1: '+', [-1]: '\u2212' };
@@ -18,6 +20,9 @@ export class Setup {
     const changed = () => { if (this.shown) this.show(this.shown); };
     this.within = entry('10', 'How far the probe is sought, in mm', changed);
     this.seeks = SEEKS.map(([axis, sign]) => button(axis + SIGNS[sign], () => this.seek(axis, sign)));
+    this.probing = new Probing(asks);
+    this.work = button('Probe the work\u2026', () => this.probing.open());
+    this.switches = new Switches(asks);
     this.system = el('span');
     this.value = entry('0', 'Work coordinate of this place, in mm', changed);
     this.byProbe = toggle('Where the probe was touched', () => { flip(this.byProbe); changed(); });
@@ -27,10 +32,13 @@ export class Setup {
     this.length = el('p', { class: 'hint' });
     this.setter = el('label', { class: 'entry-row' }, 'Setter at machine Z', this.height, 'mm');
     this.touch = button('', () => this.touchOff());
+    this.measure = button('', () => asks('measure', {}));
+    this.measures = toggle('Measure at tool changes', () => asks('switch', { name: 'measures',
+      on: !isChosen(this.measures) }));
     this.undo = button('', () => asks('undo', {}));
     this.inches = toggle('Readout in inches', () => { readout.choose(!readout.isInch); this.showUnit(); });
     this.loss = toggle('Job goes on if this page is lost', () => asks('loss', { goes: !isChosen(this.loss) }));
-    for (const one of [this.touch, this.undo]) one.className = 'wide';
+    for (const one of [this.touch, this.undo, this.work, this.measure]) one.className = 'wide';
     this.why = el('p', { class: 'hint why' });
     this.parts = {
       home: part('Home', this.homed, el('div', { class: 'four' }, ...this.home)),
@@ -38,12 +46,16 @@ export class Setup {
       zero: part('Work zero', this.system, el('label', { class: 'entry-row' }, 'This place is', this.value, 'mm'),
         this.byProbe, this.used, el('div', { class: 'four' }, ...this.zero), this.undo),
       probe: part('Seek the probe', this.touched, el('label', { class: 'entry-row' }, 'At most', this.within, 'mm'),
-        el('div', { class: 'five' }, ...this.seeks)),
-      tool: part('Touch off a tool', null, this.setter, this.length, this.touch),
+        el('div', { class: 'five' }, ...this.seeks), this.work),
+      tool: part('Touch off a tool', null, this.setter, this.length, this.touch,
+        this.measure, this.measures),
+      switches: part('Switches', null, ...this.switches.box),
+      macros: part('Macros', null, ...this.switches.macros),
       page: part('This page', null, this.loss, this.inches),
     };
     $('tab-setup').append(this.why, ...Object.values(this.parts));
     this.showUnit();
+    this.switches.fetch();
   }
 
   show(s) {
@@ -61,11 +73,14 @@ export class Setup {
     this.jog.enable(may(s, 'jog'));
     this.within.disabled = !may(s, 'seek');
     for (const one of this.seeks) one.disabled = this.within.disabled || typed(this.within) === null;
+    this.work.disabled = !may(s, 'probe');
+    this.work.hidden = !s.has_ball;
     for (const one of [this.value, this.byProbe]) one.disabled = !may(s, 'zero');
     for (const one of this.zero) one.disabled = !may(s, 'zero') || typed(this.value) === null;
     text(this.touched, s.touched ? `touched: ${point(s.touched)} mm` : '');
     this.showUsed(s);
     this.showTool(s);
+    this.switches.show(s);
     this.undo.hidden = !s.undo;
     this.undo.disabled = !may(s, 'undo');
     text(this.undo, `Undo: ${s.undo ?? ''}`);
@@ -99,7 +114,19 @@ export class Setup {
     this.touch.disabled = !may(s, 'touch') || !s.slot || !isHigh || s.has_probe && !s.touched;
     text(this.touch, s.slot ? `Tool ${s.slot} stands on the setter` : 'No tool is in the spindle');
     means(this.touch, this.touch.textContent);
+    this.showMeasure(s);
     this.showLength(s);
+  }
+
+  // The setter is gone to by itself, where the machine's file says where it is.
+  showMeasure(s) {
+    const hasSetter = s.measures !== null && s.measures !== undefined;
+    for (const one of [this.measure, this.measures]) one.hidden = !hasSetter;
+    this.measure.disabled = !may(s, 'measure') || !s.slot;
+    text(this.measure, s.slot ? `Measure tool ${s.slot}\u2026` : 'Measure the tool');
+    means(this.measure, this.measure.textContent);
+    this.measures.setAttribute('aria-checked', String(Boolean(s.measures)));
+    this.measures.disabled = !may(s, 'measures');
   }
 
   // The length that a touch-off would give, and by which machine point.

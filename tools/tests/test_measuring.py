@@ -1,0 +1,213 @@
+"""A tool measured on the setter, by itself and at a tool change: nothing moves past what was said, by the machine's
+model."""
+import sys
+import unittest
+from pathlib import Path
+
+sys.path.insert(0, str(Path(__file__).resolve().parent))
+
+from bench_support import REST, Bench
+from test_moves import BOX
+
+from ngc_tools.formats.lines import Program
+from ngc_tools.operator.setter import Setter
+
+TOP = -30_000
+"""The setter's top, in steps of 1 um: a tool of length 0 touches it at machine Z-30."""
+SETTER = ((38_000, 28_000, -60_000), (42_000, 32_000, TOP))
+FROM = "measure from 5 within 25"
+"""From machine Z5 to Z-20: tools of 10 to 35 mm."""
+JOB = """G21 G90 G17 G54 G94
+G0 X1 Y1
+
+(a remark)
+G0 X2
+T2 M6 (end mill)
+G43 H2
+G0 X3 Z1
+M2
+"""
+
+
+class Measured(Bench):
+    """The setter stands where the machine's file says; the tools 2 and 3 are 15 and 30 mm long, which nobody told."""
+
+    words = ("--untimed",)
+    SAYS = ("measure tool {slot}: from machine X0 Y0 Z0 up to Z35, over to X40 and then to Y30, down to Z5, where the"
+            " setter is sought to Z-20 at most, and back the same way. No move leaves that; measure from Z within MM"
+            " says it otherwise\n")
+    YES = "yes measures, anything else moves nothing: "
+
+    def setUp(self) -> None:
+        """Its setter, and what is kept of it."""
+        super().setUp()
+        self.world.solid(0, BOX, *SETTER)
+        self.do(FROM)
+
+    def lengths(self) -> list[int]:
+        """Those of the table, in um."""
+        return [nm // 1000 for nm in self.operator.stored().tools_nm]
+
+    def rests_at_setter(self) -> None:
+        """It stands over the setter, not below what was said."""
+        self.stays_within((0, 0, -20_000), (40_000, 30_000, 35_000))
+
+    def test_by_itself(self) -> None:
+        """Up, over, down, a touch, and back; the length is that of the tool, and `undo` puts back the one before."""
+        self.do("tool 3 28", "T3 M6")
+        self.world.forget_reached()
+        said = self.do("measure", answers=("yes",))
+        self.assertEqual(self.face.asked, [self.SAYS.format(slot=3) + self.YES])
+        self.assertIn("the setter was touched at machine Z 0, and its top is at -30", said)
+        self.assertEqual(self.lengths()[2], 30_000)
+        self.assertEqual((self.world.place, self.status().at), ((0, 0, 0), ("0.000000",) * 3))
+        self.stays_within((0, 0, -REST), (40_000, 30_000, 35_000))
+        self.do("undo")
+        self.assertEqual(self.lengths()[2], 28_000)
+
+    def test_far(self) -> None:
+        """A length that is by more than 5 mm another one is asked."""
+        self.do("tool 3 12", "T3 M6")
+        said = self.do("measure", answers=("yes", "no"))
+        self.assertEqual(self.face.asked[1], "tool 3 has 12 mm, and would get 30 mm, 18.000 mm longer\nyes sets it: ")
+        self.assertEqual((said[-1], self.lengths()[2]), ("nothing is set", 12_000))
+
+    def test_asked_once(self) -> None:
+        """Where nothing is kept the height is asked, and kept; what can't be gone isn't."""
+        Path("mill.dev.measure").unlink()
+        self.do("T2 M6")
+        self.world.forget_reached()
+        for answers in (("",), ("x",), ("40", "3"), ("5", "0"), ("-40", "20")):
+            self.assertIn("nothing moves: from a machine Z of at most 35", self.do("measure", answers=answers)[-1])
+        self.assertFalse(Path("mill.dev.measure").exists())
+        self.stays_within((0, 0, 0), (0, 0, 0))
+        self.do("measure", answers=("5", "25", "yes"))
+        self.assertEqual(self.lengths()[1], 15_000)
+        self.do("measure", answers=("yes",))
+        self.assertEqual(self.lengths()[1], 15_000)
+        Path("mill.dev.measure").write_text("something else")
+        self.assertIn("isn't written over", self.do(FROM)[0])
+
+    def test_longer(self) -> None:
+        """A tool that is longer than was said: it is touched on the way down, and nothing goes on."""
+        self.world.tool(2, 38_000)
+        self.do("T2 M6")
+        self.world.forget_reached()
+        said = self.do("measure", answers=("yes",))
+        self.assertEqual(said[0], "measure: the probe was touched on the way, at Z 8, where nothing may be: nothing"
+                         " more moves")
+        self.stays_within((0, 0, 0), (40_000, 30_000, 35_000))
+        self.assertEqual((self.lengths()[1], self.world.place[:2]), (15_000, (40_000, 30_000)))
+        self.assertGreaterEqual(self.world.place[2], 8_000 - REST)
+
+    def test_missed(self) -> None:
+        """A setter that isn't there, one that isn't plugged in, and a tool that is shorter than was said: it stops
+        where that was said."""
+        for change in (lambda: self.world.tool(2, 5_000), lambda: self.world.solid(0, 0, (0, 0, 0), (0, 0, 0))):
+            change()
+            self.do("T2 M6")
+            self.world.forget_reached()
+            self.assertEqual(self.do("measure", answers=("yes",))[0], "measure: the probe isn't touched within"
+                             " 25.000000 mm: nothing more moves")
+            self.rests_at_setter()
+            self.assertEqual(self.lengths()[1], 15_000)
+            self.do("jog Z+ 3000 for 20", "jog X- 3000 for 40", "jog Y- 3000 for 30")
+
+    def test_in_the_way(self) -> None:
+        """Something stands on the way over, as a clamp that the setter's wire is on: it stops there."""
+        self.world.solid(1, BOX, (20_000, -5_000, -60_000), (22_000, 5_000, 25_000))
+        self.do("T2 M6")
+        self.world.forget_reached()
+        self.assertIn("touched on the way, at X 20,", self.do("measure", answers=("yes",))[0])
+        self.stays_within((0, 0, 0), (20_000 + 700, 0, 35_000), 700)  # from 1,500 mm a minute: 0.63 mm
+
+    def test_not_begun(self) -> None:
+        """What isn't known isn't used."""
+        self.assertEqual(self.do("measure", answers=("no",)), [])
+        self.assertEqual(self.do("measures on"), ["measures on"])
+        self.assertIn("measure from Z within MM", self.do("measure x")[0])
+        self.assertIn("measures on, or measures off", self.do("measures x")[0])
+        self.assertTrue(self.operator.measuring.is_on)
+        self.do("T0 M6")
+        self.assertEqual(self.do("measure"), ["no tool is in the spindle, by its last M6: T1 M6 first"])
+        self.operator.touch.know(Setter(None, True))
+        self.assertEqual(self.do("measure"), ["the machine's file doesn't say where its setter is: height_um and at_um"
+                                              " in its [setter]"])
+        self.stays_within((0, 0, 0), (0, 0, 0))
+
+
+class AtChange(Measured):
+    """Within a program, behind its M6."""
+
+    test_by_itself = test_far = test_asked_once = test_longer = test_missed = test_in_the_way = test_not_begun = None
+    ASKS = "yes measures, anything else goes on with its length of {} mm: "
+
+    def load(self) -> None:
+        """The job, whose tool 2 is 15 mm long by the table."""
+        self.assertTrue(self.operator.load("part.ngc", JOB.encode()), self.face.said)
+        self.do("G49", "tool 2 12")
+        self.world.forget_reached()
+
+    def z(self) -> str:
+        """Where the program ended: Z1 of the work, by the length in force."""
+        return self.status().at[2]
+
+    def test_measured(self) -> None:
+        """The program goes on with the length that was measured: G43 behind the change takes it."""
+        self.load()
+        self.do("run", answers=("yes",))
+        self.assertEqual(self.face.asked, [
+            self.SAYS.format(slot=2).replace("X0 Y0 Z0", "X2 Y1 Z0") + self.ASKS.format(12)])
+        self.assertEqual((self.lengths()[1], self.status().does, self.status().place), (15_000, "idle", 0))
+        self.assertEqual((self.z(), self.operator.stored().state.tool_length_nm), ("16.000000", 15_000_000))
+        self.assertEqual(self.world.place, (3_000, 1_000, 16_000))
+        self.stays_within((0, 0, -15_000 - REST), (40_000, 30_000, 35_000))
+
+    def test_no(self) -> None:
+        """It goes on with the length of before; with `measures off` nobody is asked."""
+        self.load()
+        self.do("run", answers=("no",))
+        self.assertEqual((self.lengths()[1], self.z()), (12_000, "13.000000"))
+        self.stays_within((0, 0, 0), (3_000, 1_000, 13_000))
+        self.do("measures off", "run")
+        self.assertEqual((self.face.asked, self.z()), ([], "13.000000"))
+
+    def test_missed(self) -> None:
+        """Where the setter is missed the program waits behind the change: what comes first is the person's."""
+        self.load()
+        self.world.solid(0, 0, (0, 0, 0), (0, 0, 0))
+        said = self.do("run", answers=("yes",))
+        self.assertIn("the program waits behind the tool change: measure, and run goes on", said)
+        self.assertEqual((self.status().does, self.world.place), ("stopped", (40_000, 30_000, -20_000)))
+        self.stays_within((0, 0, -20_000), (40_000, 30_000, 35_000))
+        self.assertEqual(self.operator.session.program.number(self.status().place), 7)
+
+    def test_held(self) -> None:
+        """Whoever holds at the question, or amid the way, ends it there; the program doesn't go on."""
+        self.load()
+        self.face.looks, self.face.holds_at = 0, 0
+        agrees = self.face.agrees
+
+        def hold_after(question: str) -> bool:
+            self.face.looks, self.face.holds_at = 0, 6
+            return agrees(question)
+
+        self.face.agrees = hold_after
+        said = self.do("run", answers=("yes",))
+        self.face.holds_at = 0
+        self.assertTrue(any("stopped: nothing more moves" in text for text in said), said)
+        self.assertEqual(self.status().does, "stopped")
+        self.assertEqual(self.lengths()[1], 12_000)
+
+
+class Changes(unittest.TestCase):
+    """Where a program changes its tool."""
+
+    def test_changes(self) -> None:
+        """M6 in each way to write it, and what isn't one."""
+        text = b"T1 M6\nM06\n(M6)\nG0 X6\nt2m6\nM60\nM61\nN5 T3 M 0 6 (x)\n/M6\nM6.5\n"
+        self.assertEqual([Program(text).number(place) for place in Program(text).changes()], [1, 2, 5, 8, 9])
+
+
+if __name__ == "__main__":
+    unittest.main()

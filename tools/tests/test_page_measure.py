@@ -1,0 +1,140 @@
+"""A tool measured from a page: at a tool change of a job, and held amid its way."""
+import json
+import os
+import subprocess
+import sys
+import unittest
+from pathlib import Path
+
+sys.path.insert(0, str(Path(__file__).resolve().parent))
+
+from page_support import Served
+from test_moves import BOX, MACHINE, PROBE, World, program
+
+SETTER = "[setter]\nheight_um = -5000\nat_um = [8000, 6000, 8000]\nfast_mm_min = 600\nslow_mm_min = 60\n"
+JOB = "G21 G90 G17 G54 G94\nG0 X1\nT2 M6\nG43 H2\nG0 X2 Z1\nM2\n"
+
+
+class AtMachine(Served):
+    """A page, and the player over a simulated machine without switches; its file has `EXTRA` besides."""
+
+    OUT = "out"
+    EXTRA = ""
+
+    def setUp(self) -> None:
+        """Opens a page."""
+        super().setUp()
+        self.seen = self.page()
+        self.assertEqual(self.seen.post("loss", {"goes": True})[0], 200)  # also where others want the processors
+
+    def device(self) -> None:
+        """A fresh device, and a travel of 10 mm."""
+        super().device()
+        Path("first.toml").write_text(Path("first.toml").read_text().replace("1000000000", "10000000"))
+
+    def begin_player(self) -> None:
+        """Starts the player over the machine."""
+        self.world = World()
+        self.addCleanup(self.world.close)
+        for number in range(3):
+            self.world.no_switch(number)
+        self.world.touching(PROBE)
+        text = MACHINE.replace("door = 4\nspindle_at_speed = 5\n", "").replace("at_speed_s = 1\n", "")
+        Path("motion.toml").write_text(text + self.EXTRA)
+        self.player = subprocess.Popen([program(), "-f", "-s", "progress", "-m", "motion.toml", "out", "first.toml",
+                                        "position"], stdin=subprocess.DEVNULL, stdout=subprocess.PIPE,
+                                       stderr=subprocess.PIPE, text=True)
+        self.addCleanup(self._end, self.player)
+        self.wait_for("the player listens", lambda: os.path.exists("progress"))
+
+    def begin(self) -> None:
+        """Starts both."""
+        self.MACHINE = "motion.toml"
+        super().begin()
+
+
+class AtChange(AtMachine):
+    """The setter's top is at Z-5; tool 2 is 4 mm long, and 3 by the table."""
+
+    EXTRA = SETTER
+
+    def device(self) -> None:
+        """Two tools, and from where the setter is sought."""
+        super().device()
+        Path("mill.dev.measure").write_text('{"down_nm": 2000000, "within_nm": 6000000}')
+        self.run_ngc("tool 1 0\ntool 2 3\n", "before")
+
+    def begin_player(self) -> None:
+        """The setter."""
+        super().begin_player()
+        self.world.tool(2, 4_000)
+        self.world.solid(0, BOX, (7_000, 5_000, -10_000), (9_000, 7_000, -5_000))
+        self.world.forget_reached()
+
+    def asked(self) -> dict:
+        """The state once the tool is in, and it is asked whether it is measured."""
+        self.load(self.seen, JOB)
+        self.assertEqual(self.seen.post("run"), (200, {}))
+        self.seen.until("it asks for the tool", lambda s: s["waits"])
+        self.seen.post("go")
+        state = self.seen.asked()
+        self.assertIn("yes measures, anything else goes on with its length of 3 mm:", state["question"]["text"])
+        self.assertEqual((state["measures"], self.world.place), (True, (1_000, 0, 0)))
+        return state
+
+    def test_measured(self) -> None:
+        """A yes: it is measured, and the job goes on to its end with that length."""
+        self.seen.agree(self.asked())
+        state = self.seen.until("it is through", lambda s: s["finished"] and not s["busy"])
+        self.assertEqual((state["tools"][1], state["tool_length"]), ("4.000000", "4.000000"), self.seen.said())
+        self.assertEqual(self.world.place, (2_000, 0, 5_000))
+        depth, least, greatest = self.world.reached
+        self.assertTrue(depth < 110 and least[2] >= -1_110 and greatest == (8_000, 6_000, 8_000), (depth, least))
+
+    def test_held(self) -> None:
+        """Hold amid the way: it comes to rest there, the job waits, and the length stays."""
+        self.seen.agree(self.asked())
+        self.seen.until("it goes up", lambda s: float(s["motors"][2]) > 1)
+        self.assertEqual(self.seen.post("hold", {"touch": "a-touch"})[0], 200)
+        state = self.seen.until("it rests", lambda s: not s["busy"])
+        at = self.world.place
+        self.assertTrue(0 < at[2] < 8_000 and at[:2] == (1_000, 0), at)
+        self.assertEqual((state["tools"][1], state["does"], state["question"]), ("3.000000", "stopped", None))
+        self.assertEqual(self.world.place, at)
+
+    def test_off(self) -> None:
+        """Switched off, no change asks."""
+        self.assertEqual(self.seen.post("switch", {"name": "measures", "on": False})[0], 200)
+        self.load(self.seen, JOB)
+        self.seen.post("run")
+        self.seen.until("it asks for the tool", lambda s: s["waits"])
+        self.seen.post("go")
+        state = self.seen.until("it is through", lambda s: s["finished"] and not s["busy"])
+        self.assertEqual((state["tool_length"], state["measures"]), ("3.000000", False))
+
+    def test_switches(self) -> None:
+        """Spindle and coolant, the way above the zero, and a macro: each line stands in the log."""
+        Path("first.macros").write_text('Lift = ["G53 G0 Z3"]\nFar = ["G0 X99"]\n')
+        found = json.loads(self.seen.get("macros")[1])
+        self.assertEqual(found, {"path": "first.macros", "failed": "", "macros": [
+            {"name": "Lift", "lines": ["G53 G0 Z3"]}, {"name": "Far", "lines": ["G0 X99"]}]})
+        for words in ({"name": "on"}, {"name": "clockwise"}, {"name": "clockwise", "speed": -1}, {}):
+            self.assertEqual(self.seen.post("turn", words)[0], 422, words)
+        for what, words, line, holds in (
+                ("turn", {"name": "clockwise", "speed": 500}, "M3 S500", lambda s: s["spindle"] == 1),
+                ("turn", {"name": "flood"}, "M8", lambda s: s["flood"]),
+                ("turn", {"name": "spindle off"}, "M5", lambda s: not s["spindle"]),
+                ("turn", {"name": "coolant off"}, "M9", lambda s: not s["flood"]),
+                ("macro", {"name": "Lift"}, "G53 G0 Z3", lambda s: s["at"][2] == "3.000000"),
+                ("above", {}, "G53 G0 X0 Y0", lambda s: s["at"][2] == "9.000000"),
+                ("park", {}, "G53 G0 X-8 Y-7", lambda s: s["at"] == ["-8.000000", "-7.000000", "9.000000"])):
+            self.assertEqual(self.seen.post(what, words), (200, {}))
+            self.seen.until(f"{line} is done", lambda s: not s["busy"] and holds(s))
+            self.assertIn(line, [entry["text"] for entry in self.seen.log])
+        self.seen.post("macro", {"name": "Far"})
+        self.seen.until("it is refused", lambda s: not s["busy"] and s["word"] == "Refused")
+        self.assertEqual(self.world.place, (-8_000, -7_000, 9_000))
+
+
+if __name__ == "__main__":
+    unittest.main()
