@@ -260,6 +260,8 @@ DEEDS: dict[str, Callable[[Given], dict | None]] = {
     "above": lambda given: given.session.type("above"),
     "park": lambda given: given.session.type("park"),
     "measure": lambda given: given.session.type("measure"),
+    "measurefrom": lambda given: given.session.tell(f"measure from {given.number('down')} within"
+                                                    f" {given.number('within')}"),
     "measures": lambda given: given.session.tell(f"measure {'on' if given.flag('on') else 'off'}"),
     "jogstop": lambda given: given.session.jogs.let_go(given.press()),
     "undo": lambda given: given.session.type("undo"),
@@ -281,5 +283,5 @@ DEEDS: dict[str, Callable[[Given], dict | None]] = {
 }
 """What the page that commands may ask for."""
 WAITING = {"load", "rehearse", "reference", "stands", "tool", "switch", "abandon", "go", "percent", "spindle",
-           "restart", "off", "rewind", "measures"}
+           "restart", "off", "rewind", "measures", "measurefrom"}
 """Those that wait for what they ask for; the others only give it to the session's thread."""
