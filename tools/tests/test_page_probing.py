@@ -30,7 +30,7 @@ class Sheets(test_page_browser.Moves):
     def begin_player(self) -> None:
         """Its file says what the probe is."""
         Path("motion.toml").write_text(self.MACHINE)
-        long = '"A name that is as long as names may be .." = ["M9"]\n'
+        long = '"A name that is as long as a name may be" = ["M9"]\n'
         Path("first.macros").write_text('Lift = ["M5", "G53 G0 Z0"]\n' + long)
         super().begin_player()
 
