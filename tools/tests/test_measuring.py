@@ -189,7 +189,8 @@ class AtChange(Measured):
             text = JOB.replace("T2 M6", f"T{slot} M6").replace("G43 H2", "G49").replace("X3 Z1", "X3 Z4")
             self.assertTrue(self.operator.load("part.ngc", text.encode()), self.face.said)
             self.do("run")
-            self.assertEqual((self.face.asked, self.status().does, self.world.place), ([], "idle", (3_000, 1_000, 4_000)))
+            self.assertEqual((self.face.asked, self.status().does), ([], "idle"))
+            self.assertEqual(self.world.place, (3_000, 1_000, 4_000))
 
     def test_held(self) -> None:
         """Whoever holds at the question, or amid the way, ends it there; the program doesn't go on."""

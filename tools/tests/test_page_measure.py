@@ -42,8 +42,8 @@ class AtMachine(Served):
         self.world.touching(PROBE)
         text = MACHINE.replace("door = 4\nspindle_at_speed = 5\n", "").replace("at_speed_s = 1\n", "")
         Path("motion.toml").write_text(text + self.EXTRA)
-        self.player = subprocess.Popen([program(), *self.WORDS, "-f", "-s", "progress", "-m", "motion.toml", "out", "first.toml",
-                                        "position"], stdin=subprocess.DEVNULL, stdout=subprocess.PIPE,
+        words = [*self.WORDS, "-f", "-s", "progress", "-m", "motion.toml", "out", "first.toml", "position"]
+        self.player = subprocess.Popen([program(), *words], stdin=subprocess.DEVNULL, stdout=subprocess.PIPE,
                                        stderr=subprocess.PIPE, text=True)
         self.addCleanup(self._end, self.player)
         self.wait_for("the player listens", lambda: os.path.exists("progress"))

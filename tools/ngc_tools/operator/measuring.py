@@ -74,8 +74,8 @@ class Measuring:
 
     def at_change(self, slot: int) -> bool:
         """At a tool change of a program: asks whether the tool is measured. Returns whether it is."""
-        return self._said_why(lambda: self._measure(f"{self._by_now(slot)}, and continue goes on with that\nyes measures,"
-                                                    " anything else waits: "))
+        question = f"{self._by_now(slot)}, and continue goes on with that\nyes measures, anything else waits: "
+        return self._said_why(lambda: self._measure(question))
 
     def _said_why(self, what: Callable[[], bool]) -> bool:
         """What something returns; False, and why, where it can't be done."""

@@ -35,8 +35,10 @@ export class Setup {
     this.measure = button('', () => asks('measure', {}));
     this.down = entry('', 'Machine Z from which the setter is sought, in mm', changed);
     this.deep = entry('', 'By how many mm at most, from there', changed);
-    this.keep = button('Keep both heights', () => asks('measurefrom', { down: typed(this.down), within: typed(this.deep) }));
-    this.from = el('div', {}, el('label', { class: 'entry-row' }, 'Sought from machine Z', this.down, 'mm'),
+    this.keep = button('Keep both heights',
+      () => asks('measurefrom', { down: typed(this.down), within: typed(this.deep) }));
+    this.from = el('div', { class: 'heights' },
+      el('label', { class: 'entry-row' }, 'Sought from machine Z', this.down, 'mm'),
       el('label', { class: 'entry-row' }, 'At most, down from there', this.deep, 'mm'), this.keep);
     this.measures = toggle('Measure at tool changes', () => asks('measures', { on: !isChosen(this.measures) }));
     this.undo = button('', () => asks('undo', {}));
