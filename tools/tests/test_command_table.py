@@ -83,8 +83,9 @@ class Asks(unittest.TestCase):
         """
         asked = {command.word for command in COMMANDS if command.asked is not Asked.NEVER}
         self.assertEqual(asked - DEEDS.keys(), SWITCHES)
-        self.assertEqual(DEEDS.keys() - asked, {"stands", "switch", "turn", "answer", "jogstop", "loss", "restart"})
-        self.assertEqual(WAITING - {"stands", "switch", "restart"},
+        self.assertEqual(DEEDS.keys() - asked, {"stands", "switch", "turn", "measurefrom", "answer", "jogstop", "loss",
+                                                "restart"})
+        self.assertEqual(WAITING - {"stands", "switch", "measurefrom", "restart"},
                          {command.word for command in COMMANDS if command.asked is Asked.AWAITED} - SWITCHES)
         self.assertEqual(SWITCHES, {"single", "optional", "delete", "measures"})
 

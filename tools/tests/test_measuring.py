@@ -140,7 +140,7 @@ class AtChange(Measured):
     """Within a program, behind its M6."""
 
     test_by_itself = test_far = test_asked_once = test_longer = test_missed = test_in_the_way = test_not_begun = None
-    ASKS = "yes measures, anything else goes on with its length of {} mm: "
+    ASKS = "it has {} mm by now, and continue goes on with that\nyes measures, anything else waits: "
 
     def load(self) -> None:
         """The job, whose tool 2 is 15 mm long by the table."""
@@ -164,9 +164,11 @@ class AtChange(Measured):
         self.stays_within((0, 0, -15_000 - REST), (40_000, 30_000, 35_000))
 
     def test_no(self) -> None:
-        """It goes on with the length of before; with `measures off` nobody is asked."""
+        """It waits, and goes on with the length of before by `run`; with `measures off` nobody is asked."""
         self.load()
         self.do("run", answers=("no",))
+        self.assertEqual((self.status().does, self.world.place), ("stopped", (2_000, 1_000, 0)))
+        self.do("run")
         self.assertEqual((self.lengths()[1], self.z()), (12_000, "13.000000"))
         self.stays_within((0, 0, 0), (3_000, 1_000, 13_000))
         self.do("measures off", "run")
@@ -177,10 +179,20 @@ class AtChange(Measured):
         self.load()
         self.world.solid(0, 0, (0, 0, 0), (0, 0, 0))
         said = self.do("run", answers=("yes",))
-        self.assertIn("the program waits behind the tool change: measure, and run goes on", said)
+        self.assertIn("the program waits behind the tool change: run goes on", said)
         self.assertEqual((self.status().does, self.world.place), ("stopped", (40_000, 30_000, -20_000)))
         self.stays_within((0, 0, -20_000), (40_000, 30_000, 35_000))
         self.assertEqual(self.operator.session.program.number(self.status().place), 7)
+
+    def test_not_asked(self) -> None:
+        """A tool that is taken out, and the probe, aren't measured: the program goes on."""
+        for slot in (0, 1):
+            self.do("T3 M6", "G53 G0 X0 Y0 Z0")
+            text = JOB.replace("T2 M6", f"T{slot} M6").replace("G43 H2", "G49").replace("X3 Z1", "X3 Z4")
+            self.assertTrue(self.operator.load("part.ngc", text.encode()), self.face.said)
+            self.do("run")
+            self.assertEqual((self.face.asked, self.status().does), ([], "idle"))
+            self.assertEqual(self.world.place, (3_000, 1_000, 4_000))
 
     def test_held(self) -> None:
         """Whoever holds at the question, or amid the way, ends it there; the program doesn't go on."""

@@ -20,6 +20,7 @@ class AtMachine(Served):
 
     OUT = "out"
     EXTRA = ""
+    WORDS = ["--untimed"]  # so that it doesn't matter who else wants the processors
 
     def setUp(self) -> None:
         """Opens a page."""
@@ -41,8 +42,8 @@ class AtMachine(Served):
         self.world.touching(PROBE)
         text = MACHINE.replace("door = 4\nspindle_at_speed = 5\n", "").replace("at_speed_s = 1\n", "")
         Path("motion.toml").write_text(text + self.EXTRA)
-        self.player = subprocess.Popen([program(), "-f", "-s", "progress", "-m", "motion.toml", "out", "first.toml",
-                                        "position"], stdin=subprocess.DEVNULL, stdout=subprocess.PIPE,
+        words = [*self.WORDS, "-f", "-s", "progress", "-m", "motion.toml", "out", "first.toml", "position"]
+        self.player = subprocess.Popen([program(), *words], stdin=subprocess.DEVNULL, stdout=subprocess.PIPE,
                                        stderr=subprocess.PIPE, text=True)
         self.addCleanup(self._end, self.player)
         self.wait_for("the player listens", lambda: os.path.exists("progress"))
@@ -78,7 +79,8 @@ class AtChange(AtMachine):
         self.seen.until("it asks for the tool", lambda s: s["waits"])
         self.seen.post("go")
         state = self.seen.asked()
-        self.assertIn("yes measures, anything else goes on with its length of 3 mm:", state["question"]["text"])
+        self.assertIn("it has 3 mm by now, and continue goes on with that\nyes measures, anything else waits:",
+                      state["question"]["text"])
         self.assertEqual((state["measures"], self.world.place), (True, (1_000, 0, 0)))
         return state
 
@@ -91,16 +93,13 @@ class AtChange(AtMachine):
         depth, least, greatest = self.world.reached
         self.assertTrue(depth < 110 and least[2] >= -1_110 and greatest == (8_000, 6_000, 8_000), (depth, least))
 
-    def test_held(self) -> None:
-        """Hold amid the way: it comes to rest there, the job waits, and the length stays."""
-        self.seen.agree(self.asked())
-        self.seen.until("it goes up", lambda s: float(s["motors"][2]) > 1)
-        self.assertEqual(self.seen.post("hold", {"touch": "a-touch"})[0], 200)
-        state = self.seen.until("it rests", lambda s: not s["busy"])
-        at = self.world.place
-        self.assertTrue(0 < at[2] < 8_000 and at[:2] == (1_000, 0), at)
-        self.assertEqual((state["tools"][1], state["does"], state["question"]), ("3.000000", "stopped", None))
-        self.assertEqual(self.world.place, at)
+    def test_heights(self) -> None:
+        """From where the setter is sought is said anew; what can't be gone isn't kept."""
+        self.assertEqual(self.seen.post("measurefrom", {"down": "x", "within": "1"})[0], 422)
+        self.seen.post("measurefrom", {"down": "9", "within": "1"})
+        self.assertIn('"down_nm": 2000000', Path("mill.dev.measure").read_text())
+        self.seen.post("measurefrom", {"down": "3.5", "within": "7"})
+        self.assertEqual(json.loads(Path("mill.dev.measure").read_text()), {"down_nm": 3500000, "within_nm": 7000000})
 
     def test_off(self) -> None:
         """Switched off, no change asks."""
@@ -134,6 +133,24 @@ class AtChange(AtMachine):
         self.seen.post("macro", {"name": "Far"})
         self.seen.until("it is refused", lambda s: not s["busy"] and s["word"] == "Refused")
         self.assertEqual(self.world.place, (-8_000, -7_000, 9_000))
+
+
+class Held(AtChange):
+    """By the clock."""
+
+    WORDS: list[str] = []
+    test_measured = test_heights = test_off = test_switches = None
+
+    def test_held(self) -> None:
+        """Hold amid the way: it comes to rest there, the job waits, and the length stays."""
+        self.seen.agree(self.asked())
+        self.seen.until("it goes up", lambda s: float(s["motors"][2]) > 1)
+        self.assertEqual(self.seen.post("hold", {"touch": "a-touch"})[0], 200)
+        state = self.seen.until("it rests", lambda s: not s["busy"])
+        at = self.world.place
+        self.assertTrue(0 < at[2] < 8_000 and at[:2] == (1_000, 0), at)
+        self.assertEqual((state["tools"][1], state["does"], state["question"]), ("3.000000", "stopped", None))
+        self.assertEqual(self.world.place, at)
 
 
 if __name__ == "__main__":

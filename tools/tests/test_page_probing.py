@@ -30,7 +30,7 @@ class Sheets(test_page_browser.Moves):
     def begin_player(self) -> None:
         """Its file says what the probe is."""
         Path("motion.toml").write_text(self.MACHINE)
-        long = '"A name that is as long as names may be .." = ["M9"]\n'
+        long = '"A name that is as long as a name may be" = ["M9"]\n'
         Path("first.macros").write_text('Lift = ["M5", "G53 G0 Z0"]\n' + long)
         super().begin_player()
 
@@ -125,7 +125,6 @@ class OverWork(AtMachine):
     def test_corner(self) -> None:
         """It is said what moves; the place is shown, and becomes the zero by a yes; undo takes it back."""
         self.begins(self.CORNER)
-        self.seen.until("it probes", lambda s: s["word"] == "Probing" and s["moving"])
         state = self.seen.asked()
         self.assertEqual(state["question"]["text"], "outside X+ Y+: machine X2 Y3\nyes makes it X0 Y0 of G54, anything"
                          " else leaves the zero:", self.seen.said())
@@ -138,21 +137,10 @@ class OverWork(AtMachine):
         self.seen.post("undo")
         self.seen.until("it is taken back", lambda s: not s["busy"] and s["origin"][0] == "0.000000")
 
-    def test_hold(self) -> None:
-        """Hold amid a routine: the axis comes to rest, nothing begins any more, and nothing is asked."""
-        self.world.solid(0, BOX, (9_500, -9_000, -9_000), (9_900, 9_000, 5_000))
-        self.begins({"routine": "edge", "ways": "X+", "lengths": {"within": "9.8"}})
-        self.seen.until("it moves", lambda s: float(s["motors"][0]) > 0.3)
-        self.assertEqual(self.seen.post("hold", {"touch": "a-touch"})[0], 200)
-        state = self.seen.until("it rests", lambda s: not s["busy"])
-        at = self.world.place[0]
-        self.assertTrue(300 < at < 8_900, at)
-        self.assertIn("probe edge X+: stopped", self.seen.said())
-        self.assertEqual((self.world.place[0], state["origin"][0], state["question"]), (at, "0.000000", None))
-
     def test_words(self) -> None:
         """What a page may say of a routine, and the table that it asks for."""
-        for words in ({}, {"routine": "edge"}, self.CORNER | {"routine": ["edge"]}, self.CORNER | {"routine": "none"}, self.CORNER | {"ways": "Z+"},
+        for words in ({}, {"routine": "edge"}, self.CORNER | {"routine": ["edge"]},
+                      self.CORNER | {"routine": "none"}, self.CORNER | {"ways": "Z+"},
                       self.CORNER | {"lengths": {"within": "x"}}, self.CORNER | {"lengths": {"down": "1"}},
                       self.CORNER | {"lengths": []}, self.CORNER | {"ways": "X+ Y+ anyway"}):
             self.assertEqual(self.seen.post("probe", words)[0], 422, words)
@@ -160,6 +148,26 @@ class OverWork(AtMachine):
         self.assertEqual([one["name"] for one in found], list(TITLES))
         self.assertEqual(found[1], {"name": "outside", "where": ROUTINES["outside"].where, "ways": 2,
                                     "is_directed": True, "lengths": {"within": "10.000000", "along": "10.000000"}})
+
+
+class Held(OverWork):
+    """By the clock."""
+
+    WORDS: list[str] = []
+    test_corner = test_words = None
+
+    def test_hold(self) -> None:
+        """Hold amid a routine: the axis comes to rest, nothing begins any more, and nothing is asked."""
+        self.world.solid(0, BOX, (9_500, -9_000, -9_000), (9_900, 9_000, 5_000))
+        self.begins({"routine": "edge", "ways": "X+", "lengths": {"within": "9.8"}})
+        state = self.seen.until("it moves", lambda s: float(s["motors"][0]) > 0.3)
+        self.assertEqual((state["word"], state["moving"]), ("Probing", True))
+        self.assertEqual(self.seen.post("hold", {"touch": "a-touch"})[0], 200)
+        state = self.seen.until("it rests", lambda s: not s["busy"])
+        at = self.world.place[0]
+        self.assertTrue(300 < at < 8_900, at)
+        self.assertIn("probe edge X+: stopped", self.seen.said())
+        self.assertEqual((self.world.place[0], state["origin"][0], state["question"]), (at, "0.000000", None))
 
 
 if __name__ == "__main__":

@@ -10,11 +10,13 @@ sys.path.insert(0, str(Path(__file__).resolve().parent))
 
 from machine_support import MachineLink
 from session_support import InFolder, told
+from test_documents import blocks, chapters
 from test_operate import operate
 from test_operator import Core, FileLink
 
 from ngc_tools.cli.operate import main
 from ngc_tools.operator.numbers import length_of, nanometres_of
+from ngc_tools.operator.setter import Probe, Touches
 from ngc_tools.operator.setter import Setter as TouchingOff
 
 WHICH = "zero X Y Z: which axes are 0 here? zero Z 10 for another coordinate than 0"
@@ -350,6 +352,14 @@ class Setter(InFolder):
         self.assertEqual(TouchingOff.read("motion.toml"), TouchingOff(-81_250_000, False))
         Path("motion.toml").write_text("[inputs]\nprobe = 6\n[setter]\nheight_um = 5\n")
         self.assertEqual(TouchingOff.read("motion.toml"), TouchingOff(5000, True))
+
+    def test_documented(self) -> None:
+        """The table of docs/MACHINE.md, in nanometres."""
+        Path("motion.toml").write_text("\n".join(blocks(chapters("MACHINE.md")["Probe and setter"])))
+        found = TouchingOff.read("motion.toml")
+        self.assertEqual((found.height_nm, found.at_nm), (-81_250_000, (140_000_000, 90_000_000, -5_000_000)))
+        self.assertEqual((found.probe, found.touches), (Probe(9, 1_000_000), Touches(300, 30, 1_000_000, 50_000)))
+        self.assertEqual(found.touches, Touches())
 
     def test_wrong(self) -> None:
         """What can't be used is named, before anything is started."""

@@ -76,12 +76,12 @@ class Measuring:
         self.is_on = rest.lower() == "on"
         self.session.face.say(f"measures {rest.lower()}")
 
-    def at_change(self, slot: int) -> bool | None:
-        """At a tool change of a program: asks whether the tool is measured. Returns whether it is, None where it isn't
-        wanted."""
-        return self._said_why(lambda: self._measure(f"yes measures, anything else goes on with {self._by_now(slot)}: "))
+    def at_change(self, slot: int) -> bool:
+        """At a tool change of a program: asks whether the tool is measured. Returns whether it is."""
+        question = f"{self._by_now(slot)}, and continue goes on with that\nyes measures, anything else waits: "
+        return self._said_why(lambda: self._measure(question))
 
-    def _said_why(self, what: Callable[[], bool | None]) -> bool | None:
+    def _said_why(self, what: Callable[[], bool]) -> bool:
         """What something returns; False, and why, where it can't be done."""
         try:
             return what()
@@ -89,15 +89,15 @@ class Measuring:
             self.session.face.say(str(why), REFUSED)
             return False
 
-    def _measure(self, question: str) -> bool | None:
-        """Measures the tool in the spindle, once a person agrees; whether it is, None where nobody wants it. Raises
-        CannotTouch, before anything moves."""
+    def _measure(self, question: str) -> bool:
+        """Measures the tool in the spindle, once a person agrees; whether it is. Raises CannotTouch, before anything
+        moves."""
         slot = self._slot()
         kept = self._kept()
         touching = self._touching(kept)
         begun = [touching.at(axis) for axis in range(3)]
         if not self.session.agrees(self._says(slot, kept, begun) + question):
-            return None
+            return False
         at = self._touched(touching, kept, begun)
         self.moves.tell()
         return at is not None and self.touch.measured(slot, at)
@@ -116,7 +116,7 @@ class Measuring:
     def _by_now(self, slot: int) -> str:
         device = self.session.stored()
         lengths = device.tools_nm[slot - 1:slot] if isinstance(device, Device) else []
-        return f"its length of {trimmed(lengths[0])} mm" if lengths else "no length"
+        return f"it has {trimmed(lengths[0])} mm by now" if lengths else "it has no length"
 
     def _touching(self, kept: Kept) -> Touching:
         """What makes the moves, within the ways there and back. Raises CannotTouch."""

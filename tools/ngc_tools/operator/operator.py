@@ -508,19 +508,16 @@ class Operator:
         return ended
 
     def _measured(self, ended: str) -> str | None:
-        """Behind a tool change, where the program is held: the tool is measured, if a person wants that, and the
-        program goes on. Returns what ended its work then, None for a hold."""
-        report = self.session.report()
-        device = self.stored()
-        probe = self.touch.setter.probe
-        if report is None or report.behind or report.is_held or not device.slot:
+        """Behind a tool change, where the program is held: once the tool is measured, as a person wants, the program
+        goes on; else it waits. Returns what ended its work then, None for a hold."""
+        report, slot, probe = self.session.report(), self.stored().slot, self.touch.setter.probe
+        if report is None or report.behind or report.is_held or self.session.single:
             return ended
-        if not (probe and probe.slot == device.slot):
-            line, self.session.own = f"(tool {device.slot} is in)", ""
-            if self._line_done(line, True) is None:
+        if slot and not (probe and probe.slot == slot):
+            if self._line_done(f"(tool {slot} is in)", True) is None:
                 return None
-            if self.measuring.at_change(device.slot) is False:
-                self.face.say("the program waits behind the tool change: measure, and run goes on", WARNING)
+            if not self.measuring.at_change(slot):
+                self.face.say("the program waits behind the tool change: run goes on", WARNING)
                 return "stopped"
         self.left.forget()
         if refused(self.session, self.console.ask("continue")[0], "continue"):

@@ -110,8 +110,8 @@ def _round(walls: Callable[[Ways, Lengths], tuple[Step, ...]]) -> Callable[[Ways
 
 ROUTINES: Mapping[str, Routine] = {each.name: each for each in (
     Routine("edge", "beside the edge, below its top", 1, True, ("within",), _faces),
-    Routine("outside", "before both faces of the corner, below their top, nearer to each than half of what it goes along"
-            " them", 2, True, ("within", "along"), _outside),
+    Routine("outside", "before both faces of the corner, below their top, nearer to each than half of what it goes"
+            " along them", 2, True, ("within", "along"), _outside),
     Routine("inside", "before both walls of the corner, below their top", 2, True, ("within",), _faces),
     Routine("surface", "above the surface", 0, False, ("within",), _surface),
     Routine("bore", "in the hole, about its middle", 0, False, ("within",), _round(_between), True),

@@ -281,6 +281,8 @@ _OWN: dict[str, Callable[[Given], dict | None]] = {
 
 _OF_PAGES: dict[str, Callable[[Given], dict | None]] = {
     "stands": _stands, "switch": _switch, "turn": _turn, "answer": _answer,
+    "measurefrom": lambda given: given.session.tell(f"measure from {given.number('down')} within"
+                                                    f" {given.number('within')}"),
     "jogstop": lambda given: given.session.jogs.let_go(given.press()),
     "loss": lambda given: given.pages.choose(given.flag("goes")),
     "restart": lambda given: given.session.restart(),
@@ -292,5 +294,6 @@ _ASKED = [command for command in COMMANDS if command.asked is not Asked.NEVER an
 DEEDS: dict[str, Callable[[Given], dict | None]] = {
     **{command.word: partial(_typed, command.word) for command in _ASKED}, **_OWN, **_OF_PAGES}
 """What the page that commands may ask for."""
-WAITING = {command.word for command in _ASKED if command.asked is Asked.AWAITED} | {"stands", "switch", "restart"}
+WAITING = {command.word for command in _ASKED if command.asked is Asked.AWAITED} | {"stands", "switch", "measurefrom",
+                                                                                   "restart"}
 """Those that wait for what they ask for; the others only give it to the session's thread."""

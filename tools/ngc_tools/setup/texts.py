@@ -101,6 +101,20 @@ steps = [0, 0, 0]
 # [setter]
 # The machine Z at which a tool of length 0 touches the tool setter, in micrometres: -10000000 to 10000000.
 # height_um = -80000
+# The machine point above the setter, in micrometres: over to its X and Y at its Z.
+# at_um = [0, 0, 0]
+# The slot of the tool table that has the probe's length: 1 to 128.
+# probe_tool = 9
+# The radius of its ball in micrometres: 0 to 50000.
+# probe_radius_um = 1000
+# mm a minute at which a place is sought: 1 to 100000.
+# fast_mm_min = 300
+# mm a minute at which it is touched once more: 1 to 100000.
+# slow_mm_min = 30
+# How far back in between, in micrometres: 1 to 50000.
+# retract_um = 1000
+# By how many micrometres both touches may differ: 0 to 1000000.
+# agree_um = 50
 """
 
 _SINK = """

@@ -33,12 +33,19 @@ export class Setup {
     this.setter = el('label', { class: 'entry-row' }, 'Setter at machine Z', this.height, 'mm');
     this.touch = button('', () => this.touchOff());
     this.measure = button('', () => asks('measure', {}));
+    this.down = entry('', 'Machine Z from which the setter is sought, in mm', changed);
+    this.deep = entry('', 'By how many mm at most, from there', changed);
+    this.keep = button('Keep both heights',
+      () => asks('measurefrom', { down: typed(this.down), within: typed(this.deep) }));
+    this.from = el('div', { class: 'heights' },
+      el('label', { class: 'entry-row' }, 'Sought from machine Z', this.down, 'mm'),
+      el('label', { class: 'entry-row' }, 'At most, down from there', this.deep, 'mm'), this.keep);
     this.measures = toggle('Measure at tool changes', () => asks('switch', { name: 'measures',
       on: !isChosen(this.measures) }));
     this.undo = button('', () => asks('undo', {}));
     this.inches = toggle('Readout in inches', () => { readout.choose(!readout.isInch); this.showUnit(); });
     this.loss = toggle('Job goes on if this page is lost', () => asks('loss', { goes: !isChosen(this.loss) }));
-    for (const one of [this.touch, this.undo, this.work, this.measure]) one.className = 'wide';
+    for (const one of [this.touch, this.undo, this.work, this.measure, this.keep]) one.className = 'wide';
     this.why = el('p', { class: 'hint why' });
     this.parts = {
       home: part('Home', this.homed, el('div', { class: 'four' }, ...this.home)),
@@ -48,7 +55,7 @@ export class Setup {
       probe: part('Seek the probe', this.touched, el('label', { class: 'entry-row' }, 'At most', this.within, 'mm'),
         el('div', { class: 'five' }, ...this.seeks), this.work),
       tool: part('Touch off a tool', null, this.setter, this.length, this.touch,
-        this.measure, this.measures),
+        this.measure, this.from, this.measures),
       switches: part('Switches', null, ...this.switches.box),
       macros: part('Macros', null, ...this.switches.macros),
       page: part('This page', null, this.loss, this.inches),
@@ -121,7 +128,12 @@ export class Setup {
   // The setter is gone to by itself, where the machine's file says where it is.
   showMeasure(s) {
     const hasSetter = s.measures !== null && s.measures !== undefined;
-    for (const one of [this.measure, this.measures]) one.hidden = !hasSetter;
+    for (const one of [this.measure, this.from, this.measures]) one.hidden = !hasSetter;
+    for (const one of [this.down, this.deep]) {
+      one.disabled = !may(s, 'tool'); // a setting, as a tool's length is
+      one.classList.toggle('wrong', one.value.trim() !== '' && typedNumber(one.value) === null);
+    }
+    this.keep.disabled = !may(s, 'tool') || [this.down, this.deep].some(one => typedNumber(one.value) === null);
     this.measure.disabled = !may(s, 'measure') || !s.slot;
     text(this.measure, s.slot ? `Measure tool ${s.slot}\u2026` : 'Measure the tool');
     means(this.measure, this.measure.textContent);

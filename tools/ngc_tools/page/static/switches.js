@@ -4,7 +4,7 @@ import { get } from './link.js';
 import { button } from './sheet.js';
 import { means } from './steady.js';
 
-const TURNS = [['clockwise', 'Clockwise', 'M3'], ['counter-clockwise', 'Counter-cl.', 'M4'],
+const TURNS = [['clockwise', 'Clockwise', 'M3'], ['counter-clockwise', 'Reverse', 'M4'],
   ['spindle off', 'Off', 'M5']];
 const COOLANT = [['flood', 'Flood', 'M8'], ['mist', 'Mist', 'M7'], ['coolant off', 'Off', 'M9']];
 
