@@ -454,7 +454,7 @@ class Player(Playing, PlayerTest):
         of_package = [made("player", "cc", *STANDARD, "-O2", *parts, *proved(), "-lm"), "--version"]
         done = subprocess.run(of_package, capture_output=True, text=True)
         said = f"player: {self.folder}/BUILD: No such file or directory\n"
-        self.assertEqual((done.returncode, done.stderr), (2, said))
+        self.assertEqual((done.returncode, done.stdout, done.stderr), (2, "", said))
         Path("BUILD").write_text("version: 1.0~x\nkit: " + "k" * 2000 + "\n")
         done = subprocess.run(of_package, capture_output=True, text=True)
         said = "player\nversion: 1.0~x\nkit: " + "k" * 2000 + "\n"
