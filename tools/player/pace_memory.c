@@ -7,7 +7,7 @@
 
 enum {
     BLOCKS = 6,     /* two for each pacer: of OUT, of the way back, and of home, jog and seek */
-    BYTES = 589824, /* the greater of the two wants 72 for each of its 8,192 lines */
+    BYTES = 655360, /* the greater of the two wants 80 for each of its 8,192 lines */
     ALIGNMENT = 16
 };
 
