@@ -168,7 +168,7 @@ class Pictured:
         is_on = report is not None and bool(on_words(report.outputs))
         stands = report is not None and (report.is_held or report.waits or not report.behind
                                          or report.word == WAITS_SPINDLE)
-        runs = status.does in ("running", "held", "stopped") or self.command is not None and self.command.word in MOVES
+        runs = status.does in ("running", "held") or self.command is not None and self.command.word in MOVES
         is_free = status.half == "none" and status.does in ("idle", "stopped") and not session.is_busy
         return {"stop": is_there and (runs or is_on or report is not None and report.behind > 0),
                 "off": is_there and is_on and stands,
