@@ -63,8 +63,9 @@ printf '[motion]\naccel_mm_s2 = [500, 500, 500]\n' > "$work/player.toml"
 player=$here/../tools/player
 cc=$(command -v clang || command -v gcc || command -v cc)
 make -s -C "$player" archives
-"$cc" -O2 -I "$player" -o "$work/times" "$here/pace/times.c" "$player/pace.c" "$player/pace_memory.c" "$player/line.c" \
-    "$player/cause.c" "$player/utf8.c" "$player"/out/lib*.a 2> "$work/log" || { cat "$work/log"; exit 1; }
+"$cc" -O2 -I "$player/motion" -I "$player/source" -I "$player/files" -o "$work/times" "$here/pace/times.c" \
+    "$player/motion/pace.c" "$player/motion/pace_memory.c" "$player/source/line.c" "$player/files/cause.c" \
+    "$player/files/utf8.c" "$player"/out/lib*.a 2> "$work/log" || { cat "$work/log"; exit 1; }
 
 # The processor seconds of a command, the best of the rounds.
 seconds() {

@@ -116,9 +116,10 @@ class Bench:
         """Builds bench/ramps.c, with the pacer of tools/player; what is paced by it needs that."""
         player = HERE / "tools" / "player"
         subprocess.run(["make", "-s", "-C", player, "archives"], check=True, stdout=sys.stderr)
-        sources = [*(player / f"{name}.c" for name in ("pace", "pace_memory", "window", "line", "cause", "utf8")),
-                   *player.glob("out/lib*.a")]
-        subprocess.run(["cc", "-std=c11", "-O2", HERE / "bench" / "ramps.c", *sources, "-I", player, "-o",
+        names = ("motion/pace", "motion/pace_memory", "motion/window", "source/line", "files/cause", "files/utf8")
+        sources = [*(player / f"{name}.c" for name in names), *player.glob("out/lib*.a")]
+        folders = [f"-I{player / name}" for name in ("motion", "source", "files")]
+        subprocess.run(["cc", "-std=c11", "-O2", HERE / "bench" / "ramps.c", *sources, *folders, "-o",
                         self.folder / "ramps"], check=True)
 
     def run(self, program, ticks, out, said):

@@ -17,13 +17,14 @@ bool version_is_asked(int count, char **given) {
     return count == 2 && strcmp(given[1], "--version") == 0;
 }
 
-/* Copies a file to the standard output; whether it could be read. */
-static bool copy(const char *path) {
+/* Prints the program's name and a file; whether that could be read. */
+static bool tell_file(const char *path) {
     char line[LINE_ROOM];
     FILE *file = fopen(path, "r");
     if (file == NULL) {
         return false;
     }
+    puts("player");
     while (fgets(line, sizeof line, file) != NULL) {
         fputs(line, stdout);
     }
@@ -34,10 +35,9 @@ static bool copy(const char *path) {
 
 int version_tell(void) {
     const char *build = BUILD;
-    puts("player");
     if (build[0] == '\0') {
-        puts("built from a checkout");
-    } else if (!copy(build)) {
+        puts("player\nbuilt from a checkout");
+    } else if (!tell_file(build)) {
         say("player: %s: %s", build, strerror(errno));
         return 2;
     }

@@ -19,7 +19,7 @@ from session_support import TOOLS
 
 OF_EACH_CHIP = ("stm32f103", "stm32f411", "pico")
 """A board of each chip: those whose firmware has planted faults."""
-PATIENCE_S = "900"
+PATIENCE_S = "3600"
 
 
 def parts(board: str) -> dict[str, list[str]]:

@@ -8,7 +8,7 @@ from dataclasses import dataclass
 from pathlib import Path
 from tempfile import NamedTemporaryFile
 
-from player_support import SANITIZERS, SOURCES, built, has_sanitizers
+from player_support import SANITIZERS, built, has_sanitizers, parts
 from session_support import TOOLS
 
 from ngc_tools.link.machine import CORNER_PULSES
@@ -71,8 +71,8 @@ def of_tests(*names: str) -> tuple[Path, ...]:
 
 def with_pacer(name: str, *options: str, beside: tuple[str, ...] = ()) -> str:
     """The path of a program of this folder, and of sources beside it, with the pacer of tools/player."""
-    parts = [path for path in SOURCES if path.stem in ("pace", "pace_memory", "window", "line", "cause", "utf8")]
-    return built(*options, sources=(*of_tests(name, *beside), *parts))
+    pacer = parts("pace", "pace_memory", "window", "line", "cause", "utf8")
+    return built(*options, sources=(*of_tests(name, *beside), *pacer))
 
 
 def paced_in_c(limits: Limits, events: Iterable[str]) -> list[str]:

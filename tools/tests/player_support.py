@@ -16,13 +16,21 @@ from session_support import PATIENCE_S, TOOLS, InFolder
 
 from ngc_tools.link.progress import Link, NoAnswer
 
-SOURCES = [*sorted((TOOLS / "player").glob("*.c")), TOOLS / "sink" / "sender.c", TOOLS / "sink" / "wire.c"]
+FOLDERS = [TOOLS / "player", *(TOOLS / "player" / name for name in ("source", "motion", "motors", "talk", "files"))]
+SOURCES = [*(path for folder in FOLDERS for path in sorted(folder.glob("*.c"))), TOOLS / "sink" / "sender.c",
+           TOOLS / "sink" / "wire.c"]
+INCLUDES = [f"-I{folder}" for folder in FOLDERS]
 PROVED = [Path(os.environ.get("NGC_PROVED", TOOLS / "player" / "out"), name).absolute()
           for name in ("libng_pace_c.a", "libng_lines_c.a")]
 """The proved pacer and reader of lines, which `make archives` builds; NGC_PROVED is another folder that has them."""
 STANDARD = ("-std=c11", "-Wall", "-Wextra", "-Wconversion", "-Werror", "-pthread")
 NO_RAMPS = "out: no --machine: no ramps, and no motor follows full rates from rest\n"
 SANITIZERS = ("-O0", "-g", "-fsanitize=address,undefined", "-fno-sanitize-recover=all")
+
+
+def parts(*names: str) -> tuple[Path, ...]:
+    """The sources of the player that have these names."""
+    return tuple(path for path in SOURCES if path.stem in names)
 
 
 @cache
@@ -45,7 +53,7 @@ def proved() -> list[str]:
 @cache
 def compiled(source: Path, compiler: str, *options: str) -> str:
     """The path of a source's object, compiled without a warning."""
-    return made("object.o", compiler, *STANDARD, *options, "-I", str(TOOLS / "player"), "-c", str(source))
+    return made("object.o", compiler, *STANDARD, *options, *INCLUDES, "-c", str(source))
 
 
 def made(name: str, *command: str) -> str:

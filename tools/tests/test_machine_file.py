@@ -15,8 +15,8 @@ from pathlib import Path
 
 sys.path.insert(0, str(Path(__file__).resolve().parent))
 
-from player_support import SANITIZERS, PlayerTest, built, has_sanitizers
-from session_support import FIRST, TOOLS, InFolder
+from player_support import SANITIZERS, PlayerTest, built, has_sanitizers, parts
+from session_support import FIRST, InFolder
 
 from ngc_tools.failure import Failure
 from ngc_tools.formats import machine, settings
@@ -25,7 +25,7 @@ from ngc_tools.formats.settings import Settings
 
 MUTATIONS = int(os.environ.get("NGC_MUTATIONS", "3000"))
 NAMES = ("cause", "machine_keys", "scan", "settings", "sink_serial", "toml", "utf8")
-SOURCES = (*(TOOLS / "player" / f"{name}.c" for name in NAMES), Path(__file__).parent / "settings_drive.c")
+SOURCES = (*parts(*NAMES), Path(__file__).parent / "settings_drive.c")
 MACHINE = """[motion]
 accel_mm_s2 = [500, 500, 300]   # of X, Y and Z
 rate_mm_min = [3000, 3000, 1_500]

@@ -7,8 +7,8 @@ from pathlib import Path
 
 sys.path.insert(0, str(Path(__file__).resolve().parent))
 
-from player_support import proved
-from session_support import TOOLS, InFolder
+from player_support import INCLUDES, parts, proved
+from session_support import InFolder
 
 from ngc_tools.formats.out import BadLine, Dwell, Pulse, Switch, read_line
 from ngc_tools.formats.position import Position, millimetres, nanometres
@@ -104,8 +104,7 @@ class Records(InFolder):
     @unittest.skipUnless(shutil.which("cc"), "no C compiler")
     def test_all_lines_in_c(self) -> None:
         """The player in C reads the same record, and writes the same bytes."""
-        names = ("record.c", "place.c", "scan.c", "line.c", "cause.c", "utf8.c", "backlash.c")
-        sources = [*(str(TOOLS / "player" / name) for name in names), *proved()]
+        sources = [*map(str, parts("record", "place", "scan", "line", "cause", "utf8", "backlash")), *proved()]
         Path("copy.c").write_text('''#include "record.h"
 #include <stdio.h>
 int main(void) {
@@ -119,7 +118,7 @@ int main(void) {
     return fwrite(text, 1, RECORD_SIZE, stdout) == RECORD_SIZE ? 0 : 2;
 }
 ''')
-        subprocess.run(["cc", "-std=c11", "-I", str(TOOLS / "player"), "copy.c", *sources, "-o", "copy"], check=True)
+        subprocess.run(["cc", "-std=c11", *INCLUDES, "copy.c", *sources, "-o", "copy"], check=True)
         for record in (Record("/a", 7, 80), GREATEST):
             done = subprocess.run(["./copy"], input=record.text(), capture_output=True, check=False)
             self.assertEqual((done.returncode, done.stdout), (0, record.text()))

@@ -14,7 +14,8 @@ from pathlib import Path
 
 sys.path.insert(0, str(Path(__file__).resolve().parent))
 
-from player_support import NO_RAMPS, SOURCES, PlayerTest, Sanitized, built, played, preloaded, record
+from player_support import (NO_RAMPS, SOURCES, STANDARD, PlayerTest, Sanitized, built, compiled, made, played,
+                            preloaded, proved, record)
 from session_support import PATIENCE_S
 
 from ngc_tools.formats.out import BadLine, read_line
@@ -448,10 +449,12 @@ class Player(Playing, PlayerTest):
         """In a checkout it says so; where it was compiled with a file, what that says; of one that isn't there, why.
         """
         self.assertEqual(played("--version"), (0, "player\nbuilt from a checkout\n", ""))
-        of_package = [built("-O2", f'-DBUILD="{self.folder}/BUILD"'), "--version"]
+        told = [f'-DBUILD="{self.folder}/BUILD"']
+        parts = [compiled(path, "cc", "-O2", *(told if path.name == "version.c" else ())) for path in SOURCES]
+        of_package = [made("player", "cc", *STANDARD, "-O2", *parts, *proved(), "-lm"), "--version"]
         done = subprocess.run(of_package, capture_output=True, text=True)
         said = f"player: {self.folder}/BUILD: No such file or directory\n"
-        self.assertEqual((done.returncode, done.stderr), (2, said))
+        self.assertEqual((done.returncode, done.stdout, done.stderr), (2, "", said))
         Path("BUILD").write_text("version: 1.0~x\nkit: " + "k" * 2000 + "\n")
         done = subprocess.run(of_package, capture_output=True, text=True)
         said = "player\nversion: 1.0~x\nkit: " + "k" * 2000 + "\n"

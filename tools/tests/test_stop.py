@@ -190,6 +190,13 @@ class OverFile(Stopping):
                                                                      "S 0 1000.000000 0 0 0 0"])
         self.assertTrue(state["can"]["rewind"])
 
+    def test_at_rest_with_nothing_on(self) -> None:
+        """At M0 with nothing on Stop has nothing to end, and isn't enabled; the program begins anew by its own button."""
+        self.load(self.seen, "G17 G21 G90 G94\nG1 X0.2 F600\nM0\nM2\n")
+        self.assertEqual(self.seen.post("run"), (200, {}))
+        state = self.until("it is at M0", lambda state: state["does"] == "stopped" and not state["busy"])
+        self.assertEqual(state["can"], {"stop": False, "off": False, "rewind": True})
+
     def test_at_a_tool_change(self) -> None:
         """Where the player asks for a tool the job ends too, and nobody is asked for it any more."""
         self.load(self.seen, "G21 G90\nM3 S1000\nG1 X0.1 F600\nT2 M6\nG1 X1 F600\nM2\n")

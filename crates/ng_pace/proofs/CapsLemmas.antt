@@ -104,6 +104,15 @@ corner_of limits axis slope bend pulses most ramp ramp' cap respected slower fas
   rate = λ some. rate_of slope (slice_index limits.rate axis) cap most (fast some) small flat some;
 }
 
+-- a lesser ramp takes no more
+pub less-left : (slope pulses ramp ramp' turn all : ℕ) → ramp' ≤ ramp → slope * ramp * pulses + turn ≤ all → slope * ramp' * pulses + turn ≤ all
+less-left slope pulses ramp ramp' turn all slower respected =
+    let scaled : slope * ramp' * pulses ≤ slope * ramp * pulses = mul-le-mul_right pulses (mul-le-mul_left slope slower) in omega (arith, respected)
+
+-- as does a turn that doesn't count
+pub less-quarter : (pull bend most all : ℕ) → pull ≤ bend → 4 * bend * most ≤ all → 4 * pull * most ≤ all
+less-quarter pull bend most all less respected = let scaled : pull * most ≤ bend * most = mul-le-mul_right most less in omega (arith, respected)
+
 -- the pulses of a corner, by the slack or by the rate at which a motor stops at once
 pub near_of : (limits : Limits) (axis bend by_slack by_start quotient : ℕ) → bend * by_slack ≤ 8 * limits.slack * 1048576 → bend * by_start ≤ quotient * 1048576
     → quotient * slice_index limits.accel axis ≤ slice_index limits.start axis * slice_index limits.start axis

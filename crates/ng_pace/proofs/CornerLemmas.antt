@@ -7,11 +7,12 @@ use Rattle.std.specs.Int.{abs_diff}
 use Rattle.ng_canon.specs.declared.item.Pulse.{Pulse}
 use Rattle.ng_pace.specs.declared.limits.Limits.{Limits}
 use Rattle.ng_pace.specs.declared.line.Line.{Line}
+use Rattle.ng_pace.specs.declared.line.Ramp.{Ramp}
 use Rattle.ng_pace.specs.declared.slopes.Slopes.{Slopes}
 use Rattle.ng_pace.specs.Axes.{AreMostPulses, IsFarFromCorner, IsFullAlone, IsFullCorner, IsFullRate, IsQuarterRamp, SomeAxis}
 use Rattle.ng_pace.specs.Chord.{Slope, IsSlope, IsNear}
 use Rattle.ng_pace.specs.Cone.{IsReached, size_of, bend_of}
-use Rattle.ng_pace.specs.Legs.{IsFullAtCorner, IsLongest, IsQuarterSpent, IsRateSpent, IsTooFar, IsBendSpent, steps_along, bend_between}
+use Rattle.ng_pace.specs.Legs.{HasQuarter, IsFullAtCorner, IsLongest, IsQuarterSpent, IsRateSpent, IsTooFar, IsBendSpent, steps_along, bend_between}
 use Rattle.ng_pace.specs.Making.{HasAll}
 use Rattle.ng_pace.specs.Passing.{BendAll}
 use Rattle.ng_pace.specs.Path.{AreReached}
@@ -176,7 +177,7 @@ any : Slopes
 any = record { least = 0; greatest = 0 }
 
 -- a corner's lines, and over how many pulses it is taken
-module _ (limits : Limits) (before known : List Pulse) (slopes next : List Slopes) (count count' pulses feed most ramp : ℕ)
+module _ (limits : Limits) (before known : List Pulse) (slopes next : List Slopes) (count count' pulses feed most : ℕ) (ramp : Ramp)
     (reached : AreReached limits.slack slopes before) (reached' : AreReached limits.slack next known)
     (all : BendAll limits slopes next count count' pulses feed most ramp) where
   abbrev Spent : ℕ → Type 0
@@ -212,14 +213,13 @@ module _ (limits : Limits) (before known : List Pulse) (slopes next : List Slope
   squares full own (inr (inr (inl great))) = inr (inl great)
   squares full own (inr (inr (inr bend))) = inr (inr (by_bend bend))
 
-  quarters : IsQuarterRamp limits all.sizes 1048576 ramp
-      → (288230376151711744 ≤ ramp) ⊎ SomeAxis (λ axis. IsQuarterSpent limits axis before ramp ⊎ IsQuarterSpent limits axis known ramp)
-  quarters (inl great) = inl great
-  quarters (inr (inl x)) = inr (inl (quarter-at limits 0 before known (slice_index_or slopes 0 any) (slice_index_or next 0 any) (slice_index all.sizes 0)
+  quarters : (ramp : ℕ) → IsQuarterRamp limits all.sizes 1048576 ramp → HasQuarter limits before known ramp
+  quarters ramp (inl great) = inl great
+  quarters ramp (inr (inl x)) = inr (inl (quarter-at limits 0 before known (slice_index_or slopes 0 any) (slice_index_or next 0 any) (slice_index all.sizes 0)
       (all.sizes_are.x any) (reached.x any) (reached'.x any) ramp x))
-  quarters (inr (inr (inl y))) = inr (inr (inl (quarter-at limits 1 before known (slice_index_or slopes 1 any) (slice_index_or next 1 any)
+  quarters ramp (inr (inr (inl y))) = inr (inr (inl (quarter-at limits 1 before known (slice_index_or slopes 1 any) (slice_index_or next 1 any)
       (slice_index all.sizes 1) (all.sizes_are.y any) (reached.y any) (reached'.y any) ramp y)))
-  quarters (inr (inr (inr z))) = inr (inr (inr (quarter-at limits 2 before known (slice_index_or slopes 2 any) (slice_index_or next 2 any)
+  quarters ramp (inr (inr (inr z))) = inr (inr (inr (quarter-at limits 2 before known (slice_index_or slopes 2 any) (slice_index_or next 2 any)
       (slice_index all.sizes 2) (all.sizes_are.z any) (reached.z any) (reached'.z any) ramp z)))
 
   pub full-at-corner : (line : Line) → HasAll most ramp line → line.full ≤ feed → IsFullAtCorner limits before known pulses line
@@ -229,7 +229,8 @@ module _ (limits : Limits) (before known : List Pulse) (slopes next : List Slope
     most_is = has.most_is;
     ramp_is = has.ramp_is;
     square = squares line.full own all.square;
-    quarter = quarters all.quarter;
+    up = quarters ramp.up all.up;
+    down = quarters ramp.down all.down;
   }
 
   farthest : SomeAxis (λ axis. IsFarFromCorner limits axis (slice_index all.bends axis) 1048576 (pulses + 1))

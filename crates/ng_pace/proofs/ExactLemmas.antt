@@ -7,12 +7,14 @@ use Rattle.ng_pace.specs.declared.limits.Limits.{Limits}
 use Rattle.ng_pace.specs.declared.slopes.Slopes.{Slopes}
 use Rattle.ng_canon.specs.declared.item.Pulse.{Pulse}
 use Rattle.ng_pace.specs.declared.line.Line.{Line}
+use Rattle.ng_pace.specs.declared.line.Ramp.{Ramp}
+use Rattle.ng_pace.specs.Rest.{either_way}
 use Rattle.ng_pace.specs.Making.{HasAll}
 use Rattle.ng_pace.specs.Passing.{AllowAlong, TakeAll, TakesCorner}
 use Rattle.ng_pace.specs.Path.{AreReached}
 use Rattle.ng_pace.specs.Axes.{EachAxis, SomeAxis, IsAlong, IsCorner, IsFullAlone, IsFullRamp, IsFullRate, IsNearCorner}
-use Rattle.ng_pace.specs.Chord.{Slope, IsSlope, IsNear}
-use Rattle.ng_pace.specs.Cone.{AreBetween, IsReached, IsBend, size_of}
+use Rattle.ng_pace.specs.Chord.{Slope, IsSlope, IsSlower, IsNear}
+use Rattle.ng_pace.specs.Cone.{AreBetween, IsReached, IsBend, IsPull, size_of}
 use Rattle.ng_pace.specs.Legs.{IsAccelerationSpent, IsRateSpent, IsFullOn, IsBending, steps_along, bend_between}
 
 rate-exact : (size slope over most rate : ℕ) → slope * 1048576 ≤ size * over → size * size * most ≤ rate * rate * 1048576 * 1048576 * 65536
@@ -70,19 +72,28 @@ near-exact limits axis bend change over pulses less (inr near) = inr (le_of_mul-
       omega arith
 
 -- a corner's, on both sides
-pub bending-exact : (limits : Limits) (axis size bend : ℕ) (before after : Slope) (pulses most ramp : ℕ) → IsBend size bend before after
-    → IsCorner limits axis size bend 1048576 pulses most ramp
-    → IsBending limits axis before after pulses most ramp
-bending-exact limits axis size bend before after pulses most ramp is respected = record {
-  leaves = corner-exact limits axis size bend (abs_diff before.up before.down * after.over) (bend_between before after) (before.over * after.over) pulses most
+bending-exact : (limits : Limits) (axis size bend pull change : ℕ) (before after : Slope) (pulses most ramp : ℕ) → IsBend size bend before after
+    → change * 1048576 ≤ pull * (before.over * after.over) → IsCorner limits axis size pull 1048576 pulses most ramp
+    → IsBending limits axis before after change pulses most ramp
+bending-exact limits axis size bend pull change before after pulses most ramp is pulls respected = record {
+  leaves = corner-exact limits axis size pull (abs_diff before.up before.down * after.over) change (before.over * after.over) pulses most
       ramp
       (let a : abs_diff before.up before.down * 1048576 * after.over ≤ size * before.over * after.over = mul-le-mul_right after.over is.before_size in
-      omega arith) is.change respected;
-  enters = corner-exact limits axis size bend (abs_diff after.up after.down * before.over) (bend_between before after) (before.over * after.over) pulses most
+      omega arith) pulls respected;
+  enters = corner-exact limits axis size pull (abs_diff after.up after.down * before.over) change (before.over * after.over) pulses most
       ramp
       (let a : abs_diff after.up after.down * 1048576 * before.over ≤ size * after.over * before.over = mul-le-mul_right before.over is.after_size in
-      omega arith) is.change respected;
+      omega arith) pulls respected;
 }
+
+-- as much of the turn counts as pulls the same way
+turning-exact : (limits : Limits) (axis size bend pull : ℕ) (before after : Slope) (pulses most ramp : ℕ) (Against : Type 0) → IsBend size bend before after
+    → (pull ≡ bend) ⊎ ((pull ≡ 0) × Against) → IsCorner limits axis size pull 1048576 pulses most ramp
+    → IsBending limits axis before after (bend_between before after) pulses most ramp ⊎ (Against × IsBending limits axis before after 0 pulses most ramp)
+turning-exact limits axis size bend pull before after pulses most ramp Against is (inl all) respected =
+    inl (bending-exact limits axis size bend pull (bend_between before after) before after pulses most ramp is (rw all is.change) respected)
+turning-exact limits axis size bend pull before after pulses most ramp Against is (inr none) respected =
+    inr (none.1, bending-exact limits axis size bend pull 0 before after pulses most ramp is (omega arith) respected)
 
 -- a corner asks for no less than the chords on both sides
 pub along-corner : (limits : Limits) (axis slope bend over over' pulses most ramp : ℕ) → 0 < over' → 0 < pulses
@@ -110,13 +121,18 @@ allow-along limits slopes sizes most ramp small allowed = record {
 }
 
 -- and so at a corner
-pub takes-corner : (limits : Limits) (before after : List Slopes) (sizes bends : List ℕ) (pulses most ramp : ℕ)
+pub takes-corner : (limits : Limits) (before after : List Slopes) (sizes bends ups downs : List ℕ) (pulses most : ℕ) (ramp : Ramp)
     → EachAxis (λ axis. (slope : Slope) (next : Slope) → IsSlope slope → IsSlope next → AreBetween before axis slope → AreBetween after axis next
     → IsBend (slice_index sizes axis) (slice_index bends axis) slope next)
     → EachAxis (λ axis. IsNearCorner limits axis (slice_index bends axis) 1048576 pulses)
-    → EachAxis (λ axis. IsCorner limits axis (slice_index sizes axis) (slice_index bends axis) 1048576 pulses most ramp)
+    → EachAxis (λ axis. (slope : Slope) (next : Slope) → IsSlope slope → IsSlope next → AreBetween before axis slope → AreBetween after axis next
+    → IsPull (slice_index bends axis) (slice_index ups axis) slope next)
+    → EachAxis (λ axis. (slope : Slope) (next : Slope) → IsSlope slope → IsSlope next → AreBetween before axis slope → AreBetween after axis next
+    → IsPull (slice_index bends axis) (slice_index downs axis) next slope)
+    → EachAxis (λ axis. IsCorner limits axis (slice_index sizes axis) (slice_index ups axis) 1048576 pulses most ramp.up)
+    → EachAxis (λ axis. IsCorner limits axis (slice_index sizes axis) (slice_index downs axis) 1048576 pulses most ramp.down)
     → TakesCorner limits before after pulses most ramp
-takes-corner limits before after sizes bends pulses most ramp is near respected = record {
+takes-corner limits before after sizes bends ups downs pulses most ramp is near pulls_up pulls_down up down = record {
   near = record {
     x = λ slope next a b c d. near-exact limits 0 (slice_index bends 0) (bend_between slope next) (slope.over * next.over) pulses
         (is.x slope next a b c d).change near.x;
@@ -126,12 +142,24 @@ takes-corner limits before after sizes bends pulses most ramp is near respected 
         (is.z slope next a b c d).change near.z;
   };
   bending = record {
-    x = λ slope next a b c d. bending-exact limits 0 (slice_index sizes 0) (slice_index bends 0) slope next pulses most ramp
-        (is.x slope next a b c d) respected.x;
-    y = λ slope next a b c d. bending-exact limits 1 (slice_index sizes 1) (slice_index bends 1) slope next pulses most ramp
-        (is.y slope next a b c d) respected.y;
-    z = λ slope next a b c d. bending-exact limits 2 (slice_index sizes 2) (slice_index bends 2) slope next pulses most ramp
-        (is.z slope next a b c d) respected.z;
+    x = λ slope next a b c d. record {
+      up = turning-exact limits 0 (slice_index sizes 0) (slice_index bends 0) (slice_index ups 0) slope next pulses most ramp.up (IsSlower slope next)
+          (is.x slope next a b c d) (pulls_up.x slope next a b c d) up.x;
+      down = turning-exact limits 0 (slice_index sizes 0) (slice_index bends 0) (slice_index downs 0) slope next pulses most ramp.down (IsSlower next slope)
+          (is.x slope next a b c d) (pulls_down.x slope next a b c d) down.x;
+    };
+    y = λ slope next a b c d. record {
+      up = turning-exact limits 1 (slice_index sizes 1) (slice_index bends 1) (slice_index ups 1) slope next pulses most ramp.up (IsSlower slope next)
+          (is.y slope next a b c d) (pulls_up.y slope next a b c d) up.y;
+      down = turning-exact limits 1 (slice_index sizes 1) (slice_index bends 1) (slice_index downs 1) slope next pulses most ramp.down (IsSlower next slope)
+          (is.y slope next a b c d) (pulls_down.y slope next a b c d) down.y;
+    };
+    z = λ slope next a b c d. record {
+      up = turning-exact limits 2 (slice_index sizes 2) (slice_index bends 2) (slice_index ups 2) slope next pulses most ramp.up (IsSlower slope next)
+          (is.z slope next a b c d) (pulls_up.z slope next a b c d) up.z;
+      down = turning-exact limits 2 (slice_index sizes 2) (slice_index bends 2) (slice_index downs 2) slope next pulses most ramp.down (IsSlower next slope)
+          (is.z slope next a b c d) (pulls_down.z slope next a b c d) down.z;
+    };
   };
 }
 
@@ -181,7 +209,7 @@ alone-spent limits axis known slopes size most is reached alone = by_case alone.
 
 -- a line that has all of what some axis has no more of
 pub full-on : (limits : Limits) (known : List Pulse) (slopes : List Slopes) (most ramp : ℕ) (line : Line) → AreReached limits.slack slopes known
-    → TakeAll limits slopes most ramp → HasAll most ramp line → IsFullOn limits known line
+    → TakeAll limits slopes most ramp → HasAll most (either_way ramp) line → IsFullOn limits known line
 full-on limits known slopes most ramp line reached all has = record {
   most = most;
   ramp = ramp;

@@ -2,6 +2,7 @@
 use Rattle.std.proofs.Common.{arith, ℕ, zero, suc, ◌+◌, ◌<◌, ◌≤◌, ◌≡◌, ◌∙◌, ap, sym, min, List, [], ◌∷◌, ◌++◌, length, slice_index_or}
 use Rattle.std.proofs.lemmas.List.{append_cancel_left}
 use Rattle.ng_pace.specs.declared.line.Line.{Line}
+use Rattle.ng_pace.specs.declared.line.Ramp.{Ramp}
 use Rattle.ng_pace.specs.declared.chord.Waiting.{Waiting}
 use Rattle.ng_pace.specs.Pacer.{Motion}
 use Rattle.ng_pace.specs.Stream.{Keeps, Timed, timed_lines, timed_waiting}
@@ -45,7 +46,7 @@ later-feed (x ∷ xs) waits (v ∷ vs) k w e =
 
 -- of two groups of lines those of the second are no faster than their items
 pub made-feeds : (old mid new : Motion) (waited left waits : List Waiting)
-    (most ramp stop most' ramp' stop' count pulses to feed : ℕ) → Keeps old mid waited left
+    (most : ℕ) (ramp : Ramp) (stop most' : ℕ) (ramp' : Ramp) (stop' count pulses to feed : ℕ) → Keeps old mid waited left
     → (first : Makes old mid waited left most ramp stop count) → Keeps mid new left waits → (then : Makes mid new left waits most' ramp' stop' pulses)
     → to ≡ min (count + pulses) 18446744073709551615 → length waited ≤ 18446744073709551615
     → ((k : ℕ) (w : Waiting) → count ≤ k → k < to → k < length waited → (slice_index_or waited k w).feed ≤ feed)

@@ -7,12 +7,13 @@ use Rattle.std.proofs.lemmas.Bool.{cases_lt}
 use Rattle.std.proofs.lemmas.List.{length-append}
 use Rattle.std.proofs.lemmas.List.Elements.{All-append, All-push}
 use Rattle.ng_pace.specs.declared.line.Line.{Line}
+use Rattle.ng_pace.specs.declared.line.Ramp.{Ramp}
 use Rattle.ng_pace.specs.declared.chord.Waiting.{Waiting}
 use Rattle.ng_pace.specs.Pacer.{Motion}
 use Rattle.ng_pace.specs.Making.{HasAll, IsWithin, Makes}
 
 -- none
-pub makes-none : (m : Motion) (w : List Waiting) (most ramp stop : ℕ) → Makes m m w w most ramp stop 0
+pub makes-none : (m : Motion) (w : List Waiting) (most : ℕ) (ramp : Ramp) (stop : ℕ) → Makes m m w w most ramp stop 0
 makes-none m w most ramp stop = record {
   made = [];
   known = sym (append-nil m.known);
@@ -23,7 +24,7 @@ makes-none m w most ramp stop = record {
 }
 
 -- one
-pub makes-one : (old new : Motion) (waited waits : List Waiting) (most ramp stop : ℕ) (line : Line) → new.known ≡ old.known ++ line ∷ []
+pub makes-one : (old new : Motion) (waited waits : List Waiting) (most : ℕ) (ramp : Ramp) (stop : ℕ) (line : Line) → new.known ≡ old.known ++ line ∷ []
     → IsWithin most ramp stop line → (1 < length waited → HasAll most ramp line) → length waits + 1 ≡ length waited
     → Makes old new waited waits most ramp stop 1
 makes-one old new waited waits most ramp stop line known within full fewer = record {
@@ -36,7 +37,7 @@ makes-one old new waited waits most ramp stop line known within full fewer = rec
 }
 
 -- more
-pub makes-more : (a b c : Motion) (u v w : List Waiting) (most ramp stop k : ℕ) → Makes a b u v most ramp stop k → Makes b c v w most ramp stop 1
+pub makes-more : (a b c : Motion) (u v w : List Waiting) (most : ℕ) (ramp : Ramp) (stop k : ℕ) → Makes a b u v most ramp stop k → Makes b c v w most ramp stop 1
     → Makes a c u w most ramp stop (k + 1)
 makes-more a b c u v w most ramp stop k first then = record {
   made = first.made ++ then.made;

@@ -11,11 +11,14 @@ use Rattle.ng_canon.specs.declared.item.AxisStep.{AxisStep}
 use Rattle.ng_canon.specs.declared.item.Pulse.{Pulse}
 use Rattle.ng_pace.specs.declared.limits.Limits.{Limits}
 use Rattle.ng_pace.specs.declared.line.Line.{Line}
+use Rattle.ng_pace.specs.declared.line.Ramp.{Ramp}
+use Rattle.ng_pace.specs.Rest.{either_way}
+use Rattle.std.specs.Int.{abs_diff}
 use Rattle.ng_pace.specs.declared.slopes.Slopes.{Slopes}
-use Rattle.ng_pace.specs.Axes.{IsCorner}
-use Rattle.ng_pace.specs.Chord.{Slope, IsSlope, IsNear}
+use Rattle.ng_pace.specs.Axes.{IsAlong, IsCorner}
+use Rattle.ng_pace.specs.Chord.{Slope, IsSlope, IsSlower, IsNear}
 use Rattle.ng_pace.specs.Legs.{Leg, IsLeg, IsChord, IsFarthest, IsFullAt, IsFullAtCorner, IsLongest, IsPaced}
-use Rattle.ng_pace.specs.Legs.{IsBehind, IsCornered, IsOnChord, IsOnCorner, IsBending, step_of, steps_along}
+use Rattle.ng_pace.specs.Legs.{IsBehind, IsCornered, IsOnChord, IsOnCorner, IsAlongEitherWay, IsBending, IsTurning, bend_between, step_of, steps_along}
 use Rattle.ng_pace.specs.Legs.{slope_along}
 use Rattle.ng_pace.specs.Making.{IsWithin}
 use Rattle.ng_pace.specs.Passing.{AllowAlong, TakesCorner}
@@ -40,15 +43,23 @@ chord-front slack axis pulses more near =
     let P : List AxisStep → Type 0 = λ t. IsNear slack (slope_along axis (pulses ++ more)) t in
     subst P e near)
 
+-- what is allowed along a slope up and down
+each_way : (limits : Limits) (axis : ℕ) (slope : Slope) (most ramp : ℕ) → IsAlong limits axis (abs_diff slope.up slope.down) slope.over most ramp
+    → IsAlongEitherWay limits axis slope most (either_way ramp)
+each_way limits axis slope most ramp allowed = record { up = allowed; down = allowed }
+
 -- a line that has no more than is allowed
 pub on-chord : (limits : Limits) (stop : ℕ) (slopes : List Slopes) (chord : List Pulse) (most ramp : ℕ) → 0 < length chord → AllowAlong limits slopes most ramp
-    → AreSlopes slopes chord → (line : Line) → IsWithin most ramp stop line → IsOnChord limits stop chord line
+    → AreSlopes slopes chord → (line : Line) → IsWithin most (either_way ramp) stop line → IsOnChord limits stop chord line
 on-chord limits stop slopes chord most ramp some allowed are line within = record {
-  ramp = ramp;
+  ramp = either_way ramp;
   allowed = record {
-    x = along_less limits 0 _ _ most ramp line.most ramp within.most_is (omega arith) (allowed.x (slope_along 0 chord) (slope-some 0 chord some) are.x);
-    y = along_less limits 1 _ _ most ramp line.most ramp within.most_is (omega arith) (allowed.y (slope_along 1 chord) (slope-some 1 chord some) are.y);
-    z = along_less limits 2 _ _ most ramp line.most ramp within.most_is (omega arith) (allowed.z (slope_along 2 chord) (slope-some 2 chord some) are.z);
+    x = each_way limits 0 (slope_along 0 chord) line.most ramp
+        (along_less limits 0 _ _ most ramp line.most ramp within.most_is (omega arith) (allowed.x (slope_along 0 chord) (slope-some 0 chord some) are.x));
+    y = each_way limits 1 (slope_along 1 chord) line.most ramp
+        (along_less limits 1 _ _ most ramp line.most ramp within.most_is (omega arith) (allowed.y (slope_along 1 chord) (slope-some 1 chord some) are.y));
+    z = each_way limits 2 (slope_along 2 chord) line.most ramp
+        (along_less limits 2 _ _ most ramp line.most ramp within.most_is (omega arith) (allowed.z (slope_along 2 chord) (slope-some 2 chord some) are.z));
   };
   within = within.ramp_is;
 }
@@ -60,24 +71,39 @@ corner-less limits axis slope bend over pulses most ramp most' less respected = 
   rate = λ some. let scaled : slope * slope * most' ≤ slope * slope * most = mul-le-mul_left (slope * slope) less in omega (arith, respected.rate some);
 }
 
-bending-less : (limits : Limits) (axis : ℕ) (before after : Slope) (pulses most ramp most' : ℕ) → most' ≤ most
-    → IsBending limits axis before after pulses most ramp → IsBending limits axis before after pulses most' ramp
-bending-less limits axis before after pulses most ramp most' less respected = record {
+bending-less : (limits : Limits) (axis : ℕ) (before after : Slope) (bend pulses most ramp most' : ℕ) → most' ≤ most
+    → IsBending limits axis before after bend pulses most ramp → IsBending limits axis before after bend pulses most' ramp
+bending-less limits axis before after bend pulses most ramp most' less respected = record {
   leaves = corner-less limits axis _ _ _ pulses most ramp most' less respected.leaves;
   enters = corner-less limits axis _ _ _ pulses most ramp most' less respected.enters;
 }
 
-pub on-corner : (limits : Limits) (stop : ℕ) (slopes next : List Slopes) (before after : List Pulse) (pulses most ramp : ℕ) → 0 < length before
+one-less : (limits : Limits) (axis : ℕ) (before after : Slope) (bend pulses most ramp most' : ℕ) (Against : Type 0) → most' ≤ most
+    → IsBending limits axis before after bend pulses most ramp ⊎ (Against × IsBending limits axis before after 0 pulses most ramp)
+    → IsBending limits axis before after bend pulses most' ramp ⊎ (Against × IsBending limits axis before after 0 pulses most' ramp)
+one-less limits axis before after bend pulses most ramp most' Against less (inl all) =
+    inl (bending-less limits axis before after bend pulses most ramp most' less all)
+one-less limits axis before after bend pulses most ramp most' Against less (inr none) =
+    inr (none.0, bending-less limits axis before after 0 pulses most ramp most' less none.1)
+
+turning-less : (limits : Limits) (axis : ℕ) (before after : Slope) (pulses most : ℕ) (ramp : Ramp) (most' : ℕ) → most' ≤ most
+    → IsTurning limits axis before after pulses most ramp → IsTurning limits axis before after pulses most' ramp
+turning-less limits axis before after pulses most ramp most' less respected = record {
+  up = one-less limits axis before after (bend_between before after) pulses most ramp.up most' (IsSlower before after) less respected.up;
+  down = one-less limits axis before after (bend_between before after) pulses most ramp.down most' (IsSlower after before) less respected.down;
+}
+
+pub on-corner : (limits : Limits) (stop : ℕ) (slopes next : List Slopes) (before after : List Pulse) (pulses most : ℕ) (ramp : Ramp) → 0 < length before
     → 0 < length after → TakesCorner limits slopes next pulses most ramp
     → AreSlopes slopes before → AreSlopes next after → (line : Line) → IsWithin most ramp stop line → IsOnCorner limits stop before after pulses line
 on-corner limits stop slopes next before after pulses most ramp some some' takes are are' line within = record {
   ramp = ramp;
   allowed = record {
-    x = bending-less limits 0 _ _ pulses most ramp line.most within.most_is
+    x = turning-less limits 0 (slope_along 0 before) (slope_along 0 after) pulses most ramp line.most within.most_is
         (takes.bending.x (slope_along 0 before) (slope_along 0 after) (slope-some 0 before some) (slope-some 0 after some') are.x are'.x);
-    y = bending-less limits 1 _ _ pulses most ramp line.most within.most_is
+    y = turning-less limits 1 (slope_along 1 before) (slope_along 1 after) pulses most ramp line.most within.most_is
         (takes.bending.y (slope_along 1 before) (slope_along 1 after) (slope-some 1 before some) (slope-some 1 after some') are.y are'.y);
-    z = bending-less limits 2 _ _ pulses most ramp line.most within.most_is
+    z = turning-less limits 2 (slope_along 2 before) (slope_along 2 after) pulses most ramp line.most within.most_is
         (takes.bending.z (slope_along 2 before) (slope_along 2 after) (slope-some 2 before some) (slope-some 2 after some') are.z are'.z);
   };
   within = within.ramp_is;
@@ -94,14 +120,39 @@ bend-swapped limits axis slope bend over over' pulses most ramp respected = reco
 long : (axis : ℕ) (pulses : List Pulse) → 0 < length pulses → 0 < length (steps_along axis pulses)
 long axis pulses some = omega (arith, length-map pulses (step_of axis), some)
 
+leaves-along : (limits : Limits) (axis : ℕ) (before after : Slope) (bend pulses most ramp : ℕ) (Against : Type 0) → 0 < after.over → 0 < pulses
+    → IsBending limits axis before after bend pulses most ramp ⊎ (Against × IsBending limits axis before after 0 pulses most ramp)
+    → IsAlong limits axis (abs_diff before.up before.down) before.over most ramp
+leaves-along limits axis before after bend pulses most ramp Against some long (inl all) =
+    along-corner limits axis _ bend before.over after.over pulses most ramp some long all.leaves
+leaves-along limits axis before after bend pulses most ramp Against some long (inr none) =
+    along-corner limits axis _ 0 before.over after.over pulses most ramp some long none.1.leaves
+
+enters-along : (limits : Limits) (axis : ℕ) (before after : Slope) (bend pulses most ramp : ℕ) (Against : Type 0) → 0 < before.over → 0 < pulses
+    → IsBending limits axis before after bend pulses most ramp ⊎ (Against × IsBending limits axis before after 0 pulses most ramp)
+    → IsAlong limits axis (abs_diff after.up after.down) after.over most ramp
+enters-along limits axis before after bend pulses most ramp Against some long (inl all) =
+    along-corner limits axis _ bend after.over before.over pulses most ramp some long (bend-swapped limits axis _ _ _ _ pulses most ramp all.enters)
+enters-along limits axis before after bend pulses most ramp Against some long (inr none) =
+    along-corner limits axis _ 0 after.over before.over pulses most ramp some long (bend-swapped limits axis _ _ _ _ pulses most ramp none.1.enters)
+
 pub leaves-chord : (limits : Limits) (stop : ℕ) (before after : List Pulse) (pulses : ℕ) → 0 < pulses → 0 < length after → (line : Line)
     → IsOnCorner limits stop before after pulses line → IsOnChord limits stop before line
 leaves-chord limits stop before after pulses some some' line on = record {
   ramp = on.ramp;
   allowed = record {
-    x = along-corner limits 0 _ _ _ (length (steps_along 0 after)) pulses line.most on.ramp (long 0 after some') some on.allowed.x.leaves;
-    y = along-corner limits 1 _ _ _ (length (steps_along 1 after)) pulses line.most on.ramp (long 1 after some') some on.allowed.y.leaves;
-    z = along-corner limits 2 _ _ _ (length (steps_along 2 after)) pulses line.most on.ramp (long 2 after some') some on.allowed.z.leaves;
+    x = record {
+      up = leaves-along limits 0 (slope_along 0 before) (slope_along 0 after) _ pulses line.most on.ramp.up _ (long 0 after some') some on.allowed.x.up;
+      down = leaves-along limits 0 (slope_along 0 before) (slope_along 0 after) _ pulses line.most on.ramp.down _ (long 0 after some') some on.allowed.x.down;
+    };
+    y = record {
+      up = leaves-along limits 1 (slope_along 1 before) (slope_along 1 after) _ pulses line.most on.ramp.up _ (long 1 after some') some on.allowed.y.up;
+      down = leaves-along limits 1 (slope_along 1 before) (slope_along 1 after) _ pulses line.most on.ramp.down _ (long 1 after some') some on.allowed.y.down;
+    };
+    z = record {
+      up = leaves-along limits 2 (slope_along 2 before) (slope_along 2 after) _ pulses line.most on.ramp.up _ (long 2 after some') some on.allowed.z.up;
+      down = leaves-along limits 2 (slope_along 2 before) (slope_along 2 after) _ pulses line.most on.ramp.down _ (long 2 after some') some on.allowed.z.down;
+    };
   };
   within = on.within;
 }
@@ -111,12 +162,18 @@ pub enters-chord : (limits : Limits) (stop : ℕ) (before after : List Pulse) (p
 enters-chord limits stop before after pulses some some' line on = record {
   ramp = on.ramp;
   allowed = record {
-    x = along-corner limits 0 _ _ _ (length (steps_along 0 before)) pulses line.most on.ramp (long 0 before some') some
-        (bend-swapped limits 0 _ _ _ _ pulses line.most on.ramp on.allowed.x.enters);
-    y = along-corner limits 1 _ _ _ (length (steps_along 1 before)) pulses line.most on.ramp (long 1 before some') some
-        (bend-swapped limits 1 _ _ _ _ pulses line.most on.ramp on.allowed.y.enters);
-    z = along-corner limits 2 _ _ _ (length (steps_along 2 before)) pulses line.most on.ramp (long 2 before some') some
-        (bend-swapped limits 2 _ _ _ _ pulses line.most on.ramp on.allowed.z.enters);
+    x = record {
+      up = enters-along limits 0 (slope_along 0 before) (slope_along 0 after) _ pulses line.most on.ramp.up _ (long 0 before some') some on.allowed.x.up;
+      down = enters-along limits 0 (slope_along 0 before) (slope_along 0 after) _ pulses line.most on.ramp.down _ (long 0 before some') some on.allowed.x.down;
+    };
+    y = record {
+      up = enters-along limits 1 (slope_along 1 before) (slope_along 1 after) _ pulses line.most on.ramp.up _ (long 1 before some') some on.allowed.y.up;
+      down = enters-along limits 1 (slope_along 1 before) (slope_along 1 after) _ pulses line.most on.ramp.down _ (long 1 before some') some on.allowed.y.down;
+    };
+    z = record {
+      up = enters-along limits 2 (slope_along 2 before) (slope_along 2 after) _ pulses line.most on.ramp.up _ (long 2 before some') some on.allowed.z.up;
+      down = enters-along limits 2 (slope_along 2 before) (slope_along 2 after) _ pulses line.most on.ramp.down _ (long 2 before some') some on.allowed.z.down;
+    };
   };
   within = on.within;
 }
@@ -176,11 +233,11 @@ paced-more limits stop leg made rest paced on few full = (
 
 -- the lines up to the end of a corner: some along the chord before it, and then those at the corner, of which the first half belong to that chord
 pub corner-paced : (limits : Limits) (stop : ℕ) (slopes next : List Slopes) (chord : List Pulse) (before : Leg) (rest : List Leg) (first second : List Line)
-    (pulses most ramp most' ramp' : ℕ)
+    (pulses most ramp most' : ℕ) (ramp' : Ramp)
     → IsPaced limits stop (before ∷ rest) → IsChord limits.slack chord → 0 < length before.pulses → 0 < length chord → AreSlopes slopes before.pulses
     → AreSlopes next chord
     → IsFarthest limits.slack before.pulses chord
-    → 0 < pulses → pulses ≤ length before.pulses → TakesCorner limits slopes next pulses most' ramp' → AllowAlong limits slopes most ramp → All (IsWithin most ramp stop) first
+    → 0 < pulses → pulses ≤ length before.pulses → TakesCorner limits slopes next pulses most' ramp' → AllowAlong limits slopes most ramp → All (IsWithin most (either_way ramp) stop) first
     → All (IsWithin most' ramp' stop) second
     → length before.lines + length first + pulses / 2 ≡ length before.pulses → length second ≡ pulses → (pulses + 1) / 2 ≤ length chord
     → pulses ≤ 2 * limits.half
@@ -215,7 +272,7 @@ corner-paced limits stop slopes next chord before rest first second pulses most 
     before_paced : IsPaced limits stop (record { pulses = before.pulses; lines = (before.lines ++ first) ++ take (pulses / 2) second } ∷ rest)
     before_paced = paced-more limits stop (record { pulses = before.pulses; lines = before.lines ++ first }) (take (pulses / 2) second) rest
         (paced-more limits stop before first rest paced
-        (All-weaker (IsWithin most ramp stop) (IsOnChord limits stop before.pulses) (on-chord limits stop slopes before.pulses most ramp some allowed are)
+        (All-weaker (IsWithin most (either_way ramp) stop) (IsOnChord limits stop before.pulses) (on-chord limits stop slopes before.pulses most ramp some allowed are)
         first each) (omega (arith, len)) full)
         (All-take (IsOnChord limits stop before.pulses) (pulses / 2) second
         (All-weaker (IsOnCorner limits stop before.pulses chord pulses) (IsOnChord limits stop before.pulses)

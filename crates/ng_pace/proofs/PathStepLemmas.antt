@@ -8,6 +8,8 @@ use Rattle.ng_canon.specs.declared.item.AxisStep.{AxisStep}
 use Rattle.ng_canon.specs.declared.item.Pulse.{Pulse}
 use Rattle.ng_pace.specs.declared.limits.Limits.{Limits}
 use Rattle.ng_pace.specs.declared.line.Line.{Line}
+use Rattle.ng_pace.specs.declared.line.Ramp.{Ramp}
+use Rattle.ng_pace.specs.Rest.{either_way}
 use Rattle.ng_pace.specs.declared.slopes.Slopes.{Slopes}
 use Rattle.ng_pace.specs.declared.chord.Chord.{Chord}
 use Rattle.ng_pace.specs.declared.chord.Waiting.{Waiting}
@@ -86,7 +88,7 @@ along-path limits stop chord old new waited waits leg rest slopes reserve going 
   }
 
   on : (more : List Pulse) → IsChord limits.slack (leg.pulses ++ more) → All (IsOnChord limits stop (leg.pulses ++ more)) passes.makes.made
-  on more straight = All-weaker (IsWithin passes.most passes.ramp stop) (IsOnChord limits stop (leg.pulses ++ more))
+  on more straight = All-weaker (IsWithin passes.most (either_way passes.ramp) stop) (IsOnChord limits stop (leg.pulses ++ more))
       (on-chord limits stop slopes (leg.pulses ++ more) passes.most passes.ramp (omega (arith, length-append leg.pulses more, some)) passes.allowed
       (slopes-ahead limits.slack slopes leg.pulses more some ahead straight))
       passes.makes.made passes.makes.each
@@ -361,7 +363,7 @@ along-reach limits stop old mid new waited waits chord pulses lines slopes reser
     lines_are = sym (append_assoc (lines_of reached.rest) reached.last passes.makes.made) ∙ ap (λ t. t ++ passes.makes.made) reached.lines_are
         ∙ append_assoc lines reached.made passes.makes.made;
     paced = paced-more limits stop (record { pulses = chord; lines = reached.last }) passes.makes.made reached.rest reached.paced
-        (All-weaker (IsWithin passes.most passes.ramp stop) (IsOnChord limits stop chord)
+        (All-weaker (IsWithin passes.most (either_way passes.ramp) stop) (IsOnChord limits stop chord)
         (on-chord limits stop slopes chord passes.most passes.ramp some passes.allowed are) passes.makes.made passes.makes.each)
         (omega (arith, reached.waits_are, passes.makes.rest)) full;
     waits_are = omega (arith, length-append reached.last passes.makes.made, reached.waits_are, passes.makes.rest);
@@ -437,9 +439,10 @@ advances-pulses limits stop old new chord waits leg rest pulse lines a = record 
 }
 
 -- what is allowed where motors go on is allowed where they come to rest
-allowed-stop : (P : ℕ → ℕ → Type 0) (stop : ℕ) (line : Line) → IsAllowed P 0 line → IsAllowed P stop line
-allowed-stop P stop line is = record { ramp = is.ramp; allowed = is.allowed; within = chosen is.within } where
-  chosen : (line.ramp ≤ is.ramp) ⊎ (IsTrue line.last × (line.ramp ≤ is.ramp / 256 * 0)) → (line.ramp ≤ is.ramp) ⊎ (IsTrue line.last × (line.ramp ≤ is.ramp / 256 * stop))
+allowed-stop : (P : ℕ → Ramp → Type 0) (stop : ℕ) (line : Line) → IsAllowed P 0 line → IsAllowed P stop line
+allowed-stop P stop line is = record { ramp = is.ramp; allowed = is.allowed; within = record { up = is.within.up; down = chosen is.within.down } } where
+  chosen : (line.ramp.down ≤ is.ramp.down) ⊎ (IsTrue line.last × (line.ramp.down ≤ is.ramp.down / 256 * 0))
+      → (line.ramp.down ≤ is.ramp.down) ⊎ (IsTrue line.last × (line.ramp.down ≤ is.ramp.down / 256 * stop))
   chosen (inl less) = inl less
   chosen (inr last) = inl (omega (arith, last.1))
 

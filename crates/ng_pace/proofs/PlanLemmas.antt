@@ -13,7 +13,7 @@ more_by false ramp most a b h = omega arith
 
 -- more after a line is more at it
 pub more : (line : Line) (a b : ℕ) → a ≤ b → most_now line a ≤ most_now line b
-more line a b h = more_by line.last line.ramp line.most a b h
+more line a b h = more_by line.last line.ramp.down line.most a b h
 
 -- while xs is planned anew, backwards: ys is what it has become; its first k lines are as they were
 abbrev pub IsReplanned : ℕ → List Slot → List Slot → Type 0

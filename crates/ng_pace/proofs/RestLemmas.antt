@@ -37,8 +37,9 @@ falls_by false ramp most u a h = (omega arith, (omega arith, λ e. absurd (cc e)
 -- within what may be planned at a line a rest can be reached, if it can be after the line
 pub rest_at : (line : Line) (u after : ℕ) (lines : List Line) → u ≤ most_now line after → ((v : ℕ) → v ≤ after → CanRest v lines) → CanRest u (line ∷ lines)
 rest_at line u after lines h later =
-    let falls : (u ≤ line.most) × ((u - line.ramp ≤ after) × (IsTrue line.last → u - line.ramp ≡ 0)) = falls_by line.last line.ramp line.most u after h in
-    (falls.0, (u - line.ramp, (record { grows = omega arith; falls = omega arith }, (falls.1.1, later (u - line.ramp) falls.1.0))))
+    let falls : (u ≤ line.most) × ((u - line.ramp.down ≤ after) × (IsTrue line.last → u - line.ramp.down ≡ 0))
+    = falls_by line.last line.ramp.down line.most u after h in
+    (falls.0, (u - line.ramp.down, (record { grows = omega arith; falls = omega arith }, (falls.1.1, later (u - line.ramp.down) falls.1.0))))
 
 pub rest_within : (n : ℕ) (xs : List Slot) → IsPlan n xs → (u : ℕ) → u ≤ ahead xs → CanRest u (take n (lines_of xs))
 rest_within zero [] plan u h = omega arith
@@ -56,7 +57,7 @@ climbs_by false ramp most u to a top ramped last h = omega arith
 -- no square from which a rest can be reached is greater than what may be planned at a line
 pub most_at : (line : Line) (u after : ℕ) (lines : List Line) → CanRest u (line ∷ lines) → ((v : ℕ) → CanRest v lines → min v (2 ^ 64 - 1) ≤ after)
     → min u (2 ^ 64 - 1) ≤ most_now line after
-most_at line u after lines rest later = climbs_by line.last line.ramp line.most u rest.1.0 after rest.0 rest.1.1.0.falls rest.1.1.1.0
+most_at line u after lines rest later = climbs_by line.last line.ramp.down line.most u rest.1.0 after rest.0 rest.1.1.0.falls rest.1.1.1.0
     (later rest.1.0 rest.1.1.1.1)
 
 pub most_within : (n : ℕ) (xs : List Slot) → IsPlan n xs → (u : ℕ) → CanRest u (take n (lines_of xs)) → min u (2 ^ 64 - 1) ≤ ahead xs
@@ -79,7 +80,7 @@ rest_more (line ∷ lines) more u rest = (rest.0, (rest.1.0, (rest.1.1.0, (rest.
 
 -- what is left of a square after a line is no more than the square
 pub rest_less : (line : Line) (to start wanted most : ℕ) → to ≤ most → rest_of line to start wanted ≤ most
-rest_less line to start wanted most h = chosen ((wanted == 0) && nat_le to (start_square line start)) to most h where
+rest_less line to start wanted most h = chosen ((wanted == 0) && nat_le to (start_square line.ramp.down start)) to most h where
   chosen : (b : Bool) (to most : ℕ) → to ≤ most → (if b then 0 else to) ≤ most
   chosen true to most h = omega arith
   chosen false to most h = h

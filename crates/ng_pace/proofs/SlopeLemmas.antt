@@ -5,8 +5,8 @@ use Rattle.std.proofs.lemmas.Bool.{cases_lt}
 use Rattle.std.specs.Int.{abs_diff}
 use Rattle.ng_pace.specs.declared.slopes.Rise.{Rise}
 use Rattle.ng_pace.specs.declared.slopes.Slopes.{Slopes}
-use Rattle.ng_pace.specs.Chord.{Slope, IsSlope}
-use Rattle.ng_pace.specs.Cone.{IsFrom, IsUpTo, IsReached, IsReachedFrom, IsReachedUpTo, size_of}
+use Rattle.ng_pace.specs.Chord.{Slope, IsSlope, IsSlower}
+use Rattle.ng_pace.specs.Cone.{IsBetween, IsFrom, IsUpTo, IsReached, IsReachedFrom, IsReachedUpTo, size_of}
 
 -- a slope from the greater of two is from the smaller
 pub from_greater : (r o r' o' over down w : ℕ) → 0 < o' → r * o' ≤ r' * o → r' * over + down * o' ≤ w * o' → r * over + down * o ≤ w * o
@@ -188,3 +188,25 @@ reached low high slopes slope some some' least least-next greatest greatest-next
     by_case (inl above) either = upper (omega (arith, ordered)) (omega (arith, ordered))
     by_case (inr below) (inl more) = upper (omega arith) (omega arith)
     by_case (inr below) (inr less) = lower below (omega (arith, ordered))
+
+-- a slope is no more than another, where the least of these is no less than the greatest of those
+no-more : (least greatest : ℕ) (more fewer : Slope) → least * more.over + more.down * 1048576 ≤ (more.up + more.over) * 1048576
+    → (fewer.up + fewer.over) * 1048576 ≤ greatest * fewer.over + fewer.down * 1048576 → greatest ≤ least
+    → fewer.up * more.over + more.down * fewer.over ≤ fewer.down * more.over + more.up * fewer.over
+no-more least greatest more fewer from up_to less =
+    let a : (least * more.over + more.down * 1048576) * fewer.over ≤ (more.up + more.over) * 1048576 * fewer.over = mul-le-mul_right fewer.over from in
+    let b : (fewer.up + fewer.over) * 1048576 * more.over ≤ (greatest * fewer.over + fewer.down * 1048576) * more.over = mul-le-mul_right more.over up_to in
+    let c : greatest * (fewer.over * more.over) ≤ least * (fewer.over * more.over) = mul-le-mul_right (fewer.over * more.over) less in
+    omega (arith, a, b, c)
+
+-- so an axis goes on the same way, and no faster
+pub slows : (self other : Slopes) (before after : Slope) → IsBetween self before → IsBetween other after
+    → ((1048576 ≤ other.least) × (other.greatest ≤ self.least)) ⊎ ((other.greatest ≤ 1048576) × (self.greatest ≤ other.least)) → IsSlower before after
+slows self other before after between between' (inl ahead) =
+    let way : 1048576 * after.over ≤ other.least * after.over = mul-le-mul_right after.over ahead.0 in
+    inl (omega (arith, way, between'.from), no-more self.least other.greatest before after between.from between'.up_to ahead.1)
+slows self other before after between between' (inr back) =
+    let way : other.greatest * after.over ≤ 1048576 * after.over = mul-le-mul_right after.over back.0 in
+    let less : before.up * after.over + after.down * before.over ≤ before.down * after.over + after.up * before.over
+    = no-more other.least self.greatest after before between'.from between.up_to back.1 in
+    inr (omega (arith, way, between'.up_to), omega (arith, less))

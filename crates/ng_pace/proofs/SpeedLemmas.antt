@@ -5,17 +5,19 @@ use Rattle.std.proofs.Math.Nat.{lt-mul-div-succ, div-mul-le_self, mul-le-mul, mu
 use Rattle.std.proofs.lemmas.Bool.{cases_lt}
 use Rattle.std.proofs.lemmas.Bool.Decides.{nat_tests}
 use Rattle.ng_pace.specs.Due.{own_rate, own_square}
+use Rattle.ng_pace.specs.declared.line.Ramp.{Ramp}
 use Rattle.ng_pace.specs.Rest.{IsRamp}
 use Rattle.ng_pace.specs.Interval.{IsRoot, time_at}
 use Rattle.ng_pace.specs.Speed.{IsFasterWithin}
 use Rattle.ng_pace.proofs.IntervalLemmas.{mean_time}
 
--- the rate of a line of so many nanoseconds and this ramp, against the rate b at one of its ends
-pub record IsAbout (b n ramp : ℕ) : Type 0 where
-  -- it is no more than b, and 1, and what half of the ramp makes over its time
-  pub most : 512000000000 * 512000000000 ≤ n * (2 * b + 2) * 512000000000 + ramp * n * n
+-- the rate of a line of so many nanoseconds, against the rate b at one of its ends: from there its square changes by so
+-- much to a higher rate, and by so much to a lower one
+pub record IsAbout (b n high low : ℕ) : Type 0 where
+  -- it is no more than b, and 1, and what half of that ramp makes over its time
+  pub most : 512000000000 * 512000000000 ≤ n * (2 * b + 2) * 512000000000 + high * n * n
   -- nor less, but for the nanosecond by which its time is rounded up
-  pub least : (n - 1) * (2 * b) * 512000000000 ≤ 512000000000 * 512000000000 + (n - 1) * ramp * n + 2 * (n - 1) * 512000000000
+  pub least : (n - 1) * (2 * b) * 512000000000 ≤ 512000000000 * 512000000000 + (n - 1) * low * n + 2 * (n - 1) * 512000000000
 
 -- two lines that have one rate where they join
 joined : (M b n d p q m : ℕ) → M * M ≤ n * (2 * b + 2) * M + p * n * n → (n + d) * (2 * b) * M ≤ M * M + (n + d) * q * m + 2 * (n + d) * M
@@ -30,8 +32,8 @@ faster_within b n k p q m most least = chosen (k - n) refl (cases_lt k n) where
   chosen d is (inl less) = let none : k - n ≡ 0 = omega arith in rw none (omega arith)
   chosen d is (inr more) = let sum : k ≡ n + d = omega arith in rw (is, sum) (joined 512000000000 b n d p q m most (rw sum at least))
 
-pub is_faster_within : (b n m p q : ℕ) → IsAbout b n p → IsAbout b m q → IsFasterWithin n m (p * n + q * m)
-is_faster_within b n m p q fast slow = faster_within b n (m - 1) p q m fast.most slow.least
+pub is_faster_within : (b n m p q p' q' : ℕ) → IsAbout b n p p' → IsAbout b m q' q → IsFasterWithin n m (p * n + q * m)
+is_faster_within b n m p q p' q' fast slow = faster_within b n (m - 1) p q m fast.most slow.least
 
 -- roots
 
@@ -118,10 +120,10 @@ most_own p us n some lasts is = chosen (cases_lt ((us * 100000 + (p - 1)) / p) (
       omega (arith, rate, mul-le-mul_left us fits, mul-le-mul_right (2 * own_rate p us + 2) time) in
       le_of_mul-le-mul_left all some
 
-about_own : (p us n ramp : ℕ) → 0 < p → 0 < n → n ≡ min ((us * 100000 + (p - 1)) / p) (2 ^ 64 - 1) → IsAbout (own_rate p us) n ramp
-about_own p us n ramp some lasts is = record {
+about_own : (p us n high low : ℕ) → 0 < p → 0 < n → n ≡ min ((us * 100000 + (p - 1)) / p) (2 ^ 64 - 1) → IsAbout (own_rate p us) n high low
+about_own p us n high low some lasts is = record {
   most = omega (arith, mul-le-mul_left 512000000000 (most_own p us n some lasts is));
-  least = least_at_own 512000000000 (own_rate p us) (n - 1) n ramp (slow_own p us (n - 1) (own_rate p us) some (omega arith) (omega arith));
+  least = least_at_own 512000000000 (own_rate p us) (n - 1) n low (slow_own p us (n - 1) (own_rate p us) some (omega arith) (omega arith));
 }
 
 moving : (least both n : ℕ) → n ≡ time_at least both → 0 < both → n ≡ max ((512000000000 + both - 1) / both) least
@@ -139,19 +141,19 @@ short_at_mean p us k x y z some is less less' within = chosen (cases_lt ((512000
   chosen (inl more) = by_own (slow_own p us k z some (omega arith) within)
   chosen (inr its) = inl (omega (arith, div-mul-le_self (512000000000 + (x + y) - 1) (x + y), mul-le-mul_right (x + y) its))
 
-about_mean : (x y n ramp : ℕ) → 512000000000 ≤ n * (x + y) → ((n - 1) * (x + y) ≤ 512000000000) ⊎ (x ≤ 1)
-    → x * x ≤ ramp + (y * y + 2 * y) → y * y ≤ ramp + (x * x + 2 * x) → IsAbout x n ramp
-about_mean x y n ramp mean short falls grows = record {
-  most = most_at_mean 512000000000 y x n ramp (omega (arith, mean)) grows;
+about_mean : (x y n high low : ℕ) → 512000000000 ≤ n * (x + y) → ((n - 1) * (x + y) ≤ 512000000000) ⊎ (x ≤ 1)
+    → x * x ≤ low + (y * y + 2 * y) → y * y ≤ high + (x * x + 2 * x) → IsAbout x n high low
+about_mean x y n high low mean short falls grows = record {
+  most = most_at_mean 512000000000 y x n high (omega (arith, mean)) grows;
   least = chosen short;
 } where
   chosen : ((n - 1) * (x + y) ≤ 512000000000) ⊎ (x ≤ 1)
-      → (n - 1) * (2 * x) * 512000000000 ≤ 512000000000 * 512000000000 + (n - 1) * ramp * n + 2 * (n - 1) * 512000000000
-  chosen (inl few) = least_at_mean 512000000000 x y (n - 1) n ramp few mean falls
-  chosen (inr slow) = least_at_own 512000000000 x (n - 1) n ramp (inr slow)
+      → (n - 1) * (2 * x) * 512000000000 ≤ 512000000000 * 512000000000 + (n - 1) * low * n + 2 * (n - 1) * 512000000000
+  chosen (inl few) = least_at_mean 512000000000 x y (n - 1) n low few mean falls
+  chosen (inr slow) = least_at_own 512000000000 x (n - 1) n low (inr slow)
 
 -- the line of a pulse, from one square to another, whose roots are these: neither is above that of its own time
-pub record IsLine (p us from to n ramp x y : ℕ) : Type 0 where
+pub record IsLine (p us from to n : ℕ) (ramp : Ramp) (x y : ℕ) : Type 0 where
   pub some : 0 < p
   pub lasts : 0 < n
   pub moves : 0 < x + y
@@ -166,31 +168,32 @@ pub record IsLine (p us from to n ramp x y : ℕ) : Type 0 where
 root_at_own : (p us n r : ℕ) → IsRoot n r → n ≡ own_square p us → r ≡ own_rate p us
 root_at_own p us n r root is = one_root n r (own_rate p us) root (record { reached = omega (arith, is); next = omega (arith, is) })
 
-at_mean : (p us from to n ramp x y : ℕ) → IsLine p us from to n ramp x y
-    → n ≡ time_at (min ((us * 100000 + (p - 1)) / p) (2 ^ 64 - 1)) (x + y) → IsAbout x n ramp × IsAbout y n ramp
+at_mean : (p us from to n : ℕ) (ramp : Ramp) (x y : ℕ) → IsLine p us from to n ramp x y
+    → n ≡ time_at (min ((us * 100000 + (p - 1)) / p) (2 ^ 64 - 1)) (x + y) → IsAbout x n ramp.up ramp.down × IsAbout y n ramp.down ramp.up
 at_mean p us from to n ramp x y line time =
     let least : ℕ = min ((us * 100000 + (p - 1)) / p) (2 ^ 64 - 1) in
     let its : n ≡ max ((512000000000 + (x + y) - 1) / (x + y)) least = moving least (x + y) n time line.moves in
     let mean : 512000000000 ≤ n * (x + y) = mean_time least (x + y) n time line.moves in
     let low : x ≤ own_rate p us = root_within from x (own_rate p us) line.is_root line.within in
     let low_to : y ≤ own_rate p us = root_within to y (own_rate p us) line.is_root_to line.within_to in
-    let falls : x * x ≤ ramp + (y * y + 2 * y) = omega (arith, line.is_root.reached, line.is_root_to.next, line.ramp_is.falls) in
-    let grows : y * y ≤ ramp + (x * x + 2 * x) = omega (arith, line.is_root_to.reached, line.is_root.next, line.ramp_is.grows) in
+    let falls : x * x ≤ ramp.down + (y * y + 2 * y) = omega (arith, line.is_root.reached, line.is_root_to.next, line.ramp_is.falls) in
+    let grows : y * y ≤ ramp.up + (x * x + 2 * x) = omega (arith, line.is_root_to.reached, line.is_root.next, line.ramp_is.grows) in
     let whole : n - 1 + 1 ≡ n = omega (arith, line.lasts) in
     let turned : y + x ≡ x + y = omega arith in
     let its_time : n - 1 + 1 ≡ max ((512000000000 + (x + y) - 1) / (x + y)) least = rw whole its in (
-      about_mean x y n ramp mean
+      about_mean x y n ramp.up ramp.down mean
           (short_at_mean p us (n - 1) x y (own_rate p us) line.some its_time low low_to (omega arith)) falls grows,
-      about_mean y x n ramp (rw turned mean)
+      about_mean y x n ramp.down ramp.up (rw turned mean)
           (short_at_mean p us (n - 1) y x (own_rate p us) line.some (rw turned its_time) low_to low (omega arith)) grows falls,
     )
 
-pub about : (p us from to n ramp x y : ℕ) → IsLine p us from to n ramp x y → IsAbout x n ramp × IsAbout y n ramp
+pub about : (p us from to n : ℕ) (ramp : Ramp) (x y : ℕ) → IsLine p us from to n ramp x y
+    → IsAbout x n ramp.up ramp.down × IsAbout y n ramp.down ramp.up
 about p us from to n ramp x y line = chosen ((from == to) && (to == own_square p us)) refl where
-  chosen : (b : Bool) → (from == to) && (to == own_square p us) ≡ b → IsAbout x n ramp × IsAbout y n ramp
+  chosen : (b : Bool) → (from == to) && (to == own_square p us) ≡ b → IsAbout x n ramp.up ramp.down × IsAbout y n ramp.down ramp.up
   chosen true is =
       let at : to ≡ own_square p us = grind (arith, nat_tests, is) in
       let at_from : from ≡ own_square p us = grind (arith, nat_tests, is) in
-      let its : IsAbout (own_rate p us) n ramp = about_own p us n ramp line.some line.lasts (rw is at line.time) in
-      (rw (root_at_own p us from x line.is_root at_from) its, rw (root_at_own p us to y line.is_root_to at) its)
+      let its : (high low : ℕ) → IsAbout (own_rate p us) n high low = λ high low. about_own p us n high low line.some line.lasts (rw is at line.time) in
+      (rw (root_at_own p us from x line.is_root at_from) (its ramp.up ramp.down), rw (root_at_own p us to y line.is_root_to at) (its ramp.down ramp.up))
   chosen false is = at_mean p us from to n ramp x y line (rw is at line.time)

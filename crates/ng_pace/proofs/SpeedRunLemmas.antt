@@ -7,6 +7,7 @@ use Rattle.ng_pace.specs.declared.limits.Limits.{Limits}
 use Rattle.ng_pace.specs.declared.line.Line.{Line}
 use Rattle.ng_pace.specs.declared.stepping.Given.{Given}
 use Rattle.ng_pace.specs.Due.{own_square_of, least_ns}
+use Rattle.ng_pace.specs.declared.line.Ramp.{Ramp}
 use Rattle.ng_pace.specs.Rest.{IsRamp, CanRest, Stands, StandsBehind}
 use Rattle.ng_pace.specs.Interval.{IsRoot, IsTimeOf, time_at}
 use Rattle.ng_pace.specs.Pacer.{Motion}
@@ -146,7 +147,7 @@ given-own p before old new wanted behind given is percent lines = record {
       → given.to ≤ own_square_of p given.line.item
   chosen pulse (inl own) = omega (arith, next, own, own_behind p given.line.item pulse)
   chosen pulse (inr (inl last)) = omega (arith, is.hasty.follows.holds.last last)
-  chosen pulse (inr (inr stands)) = omega (arith, stands.0, stands.1, is.within, is.hasty.follows.holds.ramp.grows)
+  chosen pulse (inr (inr stands)) = omega (arith, stands.0, stands.1.0, is.within, is.hasty.follows.holds.ramp.grows)
 
 abbrev AreOwnGiven : ℕ → List Given → Type 0
 AreOwnGiven p [] = Unit {0}
@@ -174,10 +175,10 @@ some_root : (n r : ℕ) → IsRoot n r → 0 < n → 0 < r
 some_root n zero root some = absurd (omega (arith, root.next))
 some_root n (suc r) root some = omega arith
 
-line-about : (p : ℕ) (item : Item) (from to n ramp x y : ℕ) → IsPulse item → 0 < p → 0 < n → 0 < x + y → IsRoot from x → IsRoot to y → IsRamp ramp from to
+line-about : (p : ℕ) (item : Item) (from to n : ℕ) (ramp : Ramp) (x y : ℕ) → IsPulse item → 0 < p → 0 < n → 0 < x + y → IsRoot from x → IsRoot to y → IsRamp ramp from to
     → from ≤ own_square_of p item → to ≤ own_square_of p item
     → n ≡ (if (from == to) && (to == own_square_of p item) then least_ns p item else time_at (least_ns p item) (x + y))
-    → IsAbout x n ramp × IsAbout y n ramp
+    → IsAbout x n ramp.up ramp.down × IsAbout y n ramp.down ramp.up
 line-about p (Pulse pulse) from to n ramp x y is some lasts moves root root_to ramp_is within within_to time =
     about p pulse.period_us from to n ramp x y (record {
       some = some;
@@ -194,7 +195,8 @@ line-about p (Dwell us) from to n ramp x y is some lasts moves root root_to ramp
 line-about p (Switch outputs) from to n ramp x y is some lasts moves root root_to ramp_is within within_to time = absurd is
 
 own-about : (p : ℕ) (given : Given) → 0 < p → (own : IsOwn p given) → IsPulse given.line.item → 0 < given.ns → 0 < own.time.root_from + own.time.root_to
-    → IsAbout own.time.root_from given.ns given.line.ramp × IsAbout own.time.root_to given.ns given.line.ramp
+    → IsAbout own.time.root_from given.ns given.line.ramp.up given.line.ramp.down
+    × IsAbout own.time.root_to given.ns given.line.ramp.down given.line.ramp.up
 own-about p given some own is lasts moves = line-about p given.line.item given.from given.to given.ns given.line.ramp own.time.root_from own.time.root_to is
     some lasts moves own.time.is_root_from own.time.is_root_to own.ramp own.from (own.to is) own.time.time
 
@@ -203,12 +205,13 @@ keeps p given next some own own_next on =
     let root : IsRoot given.to own_next.time.root_from = rw on.goes_on at own_next.time.is_root_from in
     let same : own_next.time.root_from ≡ own.time.root_to = one_root given.to own_next.time.root_from own.time.root_to root own.time.is_root_to in
     let moves : 0 < own.time.root_to = some_root given.to own.time.root_to own.time.is_root_to on.moves in
-    let first : IsAbout own.time.root_to given.ns given.line.ramp = (own-about p given some own on.pulse on.lasts (omega arith)).1 in
-    let second : IsAbout own_next.time.root_from next.ns next.line.ramp = (own-about p next some own_next on.next_pulse on.next_lasts (omega arith)).0 in
-    let later : IsAbout own.time.root_to next.ns next.line.ramp = rw same at second in
-    let turned : given.line.ramp * given.ns + next.line.ramp * next.ns ≡ next.line.ramp * next.ns + given.line.ramp * given.ns = omega arith in record {
-      gains = rw turned (is_faster_within own.time.root_to next.ns given.ns next.line.ramp given.line.ramp later first);
-      loses = is_faster_within own.time.root_to given.ns next.ns given.line.ramp next.line.ramp first later;
+    let first : IsAbout own.time.root_to given.ns given.line.ramp.down given.line.ramp.up = (own-about p given some own on.pulse on.lasts (omega arith)).1 in
+    let second : IsAbout own_next.time.root_from next.ns next.line.ramp.up next.line.ramp.down = (own-about p next some own_next on.next_pulse on.next_lasts (omega arith)).0 in
+    let later : IsAbout own.time.root_to next.ns next.line.ramp.up next.line.ramp.down = rw same at second in
+    let turned : given.line.ramp.up * given.ns + next.line.ramp.up * next.ns ≡ next.line.ramp.up * next.ns + given.line.ramp.up * given.ns
+    = omega arith in record {
+      gains = rw turned (is_faster_within own.time.root_to next.ns given.ns next.line.ramp.up given.line.ramp.up _ _ later first);
+      loses = is_faster_within own.time.root_to given.ns next.ns given.line.ramp.down next.line.ramp.down _ _ first later;
     }
 
 each-keeps : (p : ℕ) (givens : List Given) → 0 < p → AreOwnGiven p givens → KeepAcceleration givens

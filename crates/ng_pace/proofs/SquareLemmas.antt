@@ -11,7 +11,7 @@ use Rattle.ng_pace.proofs.RestLemmas.{length-lines_of, rest_at, rest_within, mos
 
 -- how the squares of a line are chosen: from what was left before it, and what is planned for it and after it
 pub record IsChosen (line : Line) (square start wanted from to plan after : ℕ) : Type 0 where
-  pub starts : square ≡ 0 → from ≡ min (min (start_square line start) plan) wanted
+  pub starts : square ≡ 0 → from ≡ min (min (start_square line.ramp.up start) plan) wanted
   pub within : from ≤ plan
   pub planned : plan ≤ most_now line after
   pub follows : FollowsWithin line from wanted after to
@@ -23,7 +23,7 @@ hasty_at_rest : (line : Line) (square start wanted from to plan after : ℕ) (li
     → IsHasty line square start wanted from to lines
 hasty_at_rest line square start wanted from to plan after lines passed stands =
     let at : from ≡ 0 = omega (arith, passed.within, passed.planned, stands.0) in
-    let after_it : to ≡ 0 = omega (arith, at, passed.follows.ramp.grows, stands.1) in record {
+    let after_it : to ≡ 0 = omega (arith, at, passed.follows.ramp.grows, stands.1.0) in record {
       regarded = lines;
       others = [];
       all = sym (append-nil lines);
@@ -35,7 +35,7 @@ hasty_at_rest line square start wanted from to plan after lines passed stands =
       };
       follows = record {
         holds = record { ramp = passed.follows.ramp; last = passed.follows.last; is_wanted = passed.follows.is_wanted; rests = rw after_it (rest_still lines) };
-        greatest = λ other may. omega (arith, at, may.ramp.grows, stands.1);
+        greatest = λ other may. omega (arith, at, may.ramp.grows, stands.1.0);
       };
     }
 

@@ -15,10 +15,10 @@ use Rattle.ng_pace.specs.Run.{Event, put, end, ask, IsRun, items_put, IsPassed, 
 use Rattle.ng_pace.specs.Run.{IsGivenOut, lines_given, HoldsOnly, AreFalling, IsStopped}
 
 -- what is left of a square after a line
-left_of : (line : Line) (to start wanted : ℕ) → (rest_of line to start wanted ≡ to) ⊎ ((rest_of line to start wanted ≡ 0) × (to ≤ start_square line start))
-left_of line to start wanted = chosen ((wanted == 0) && nat_le to (start_square line start)) refl where
-  chosen : (b : Bool) → (wanted == 0) && nat_le to (start_square line start) ≡ b
-      → ((if b then 0 else to) ≡ to) ⊎ (((if b then 0 else to) ≡ 0) × (to ≤ start_square line start))
+left_of : (line : Line) (to start wanted : ℕ) → (rest_of line to start wanted ≡ to) ⊎ ((rest_of line to start wanted ≡ 0) × (to ≤ start_square line.ramp.down start))
+left_of line to start wanted = chosen ((wanted == 0) && nat_le to (start_square line.ramp.down start)) refl where
+  chosen : (b : Bool) → (wanted == 0) && nat_le to (start_square line.ramp.down start) ≡ b
+      → ((if b then 0 else to) ≡ to) ⊎ (((if b then 0 else to) ≡ 0) × (to ≤ start_square line.ramp.down start))
   chosen true is = inr (refl, grind (arith, nat_tests, is))
   chosen false is = inl refl
 
@@ -111,7 +111,7 @@ falls old [] new run holds = tt
 falls old (put item ∷ events) new run holds = absurd holds
 falls old (end ∷ events) new run holds = absurd holds
 falls old (ask wanted (Some given) ∷ events) new run holds =
-    let most : given.to ≤ max wanted (given.from - given.line.ramp) = run.1.0.given_out.hasty.follows.holds.is_wanted in
+    let most : given.to ≤ max wanted (given.from - given.line.ramp.down) = run.1.0.given_out.hasty.follows.holds.is_wanted in
     (omega (arith, most, holds.0), falls run.0 events new run.1.1 holds.1)
 falls old (ask wanted None ∷ events) new run holds = falls old events new run.1 holds.1
 

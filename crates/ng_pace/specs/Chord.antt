@@ -1,5 +1,5 @@
 -- How pulses go (own). Of an axis what counts of a pulse is its step.
-use Rattle.std.specs.Prelude.{ℕ, ◌+◌, ◌*◌, ◌<◌, ◌≤◌, List, [], ◌∷◌, length, take}
+use Rattle.std.specs.Prelude.{ℕ, ◌+◌, ◌*◌, ◌<◌, ◌≤◌, ◌⊎◌, List, [], ◌∷◌, length, take}
 use Rattle.std.specs.Int.{abs_diff}
 use Rattle.ng_canon.specs.declared.item.AxisStep.{AxisStep}
 use Rattle.ng_canon.specs.declared.item.AxisStep.TheVariants.{Backward, Still, Forward}
@@ -23,6 +23,11 @@ pub record Slope : Type 0 where
   pub up : ℕ
   pub down : ℕ
   pub over : ℕ
+
+-- an axis slows from one slope to another: it goes on the same way, and no faster
+abbrev pub IsSlower : Slope → Slope → Type 0
+IsSlower before after = ((after.down ≤ after.up) × (after.up * before.over + before.down * after.over ≤ after.down * before.over + before.up * after.over))
+    ⊎ ((after.up ≤ after.down) × (after.down * before.over + before.up * after.over ≤ after.up * before.over + before.down * after.over))
 
 -- no more than a step a pulse
 pub record IsSlope (slope : Slope) : Type 0 where

@@ -1,11 +1,11 @@
 -- What the code keeps of slopes. There a slope is counted from a step back at each pulse, so that none is below 0.
-use Rattle.std.specs.Prelude.{ℕ, ◌≡◌, ◌+◌, ◌-◌, ◌*◌, ◌^◌, ◌<◌, ◌≤◌, min, max, List, length, slice_index_or}
+use Rattle.std.specs.Prelude.{ℕ, ◌≡◌, ◌+◌, ◌-◌, ◌*◌, ◌^◌, ◌<◌, ◌≤◌, ◌⊎◌, min, max, List, length, slice_index_or}
 use Rattle.std.specs.Int.{abs_diff}
 use Rattle.ng_canon.specs.declared.item.AxisStep.{AxisStep}
 use Rattle.ng_pace.specs.declared.slopes.Rise.{Rise}
 use Rattle.ng_pace.specs.declared.slopes.Slopes.{Slopes}
 use Rattle.ng_pace.specs.declared.cone.Cone.{Cone}
-use Rattle.ng_pace.specs.Chord.{Slope, IsSlope, IsNear, forward, backward}
+use Rattle.ng_pace.specs.Chord.{Slope, IsSlope, IsSlower, IsNear, forward, backward}
 
 -- a slope is no less than another, or no greater
 abbrev pub IsFrom : Rise → Slope → Type 0
@@ -61,6 +61,10 @@ pub record IsBend (size bend : ℕ) (before after : Slope) : Type 0 where
   pub after_size : abs_diff after.up after.down * 2 ^ 20 ≤ size * after.over
   pub change : abs_diff (before.up * after.over + after.down * before.over) (before.down * after.over + after.up * before.over) * 2 ^ 20 ≤ bend *
       (before.over * after.over)
+
+-- of a change of slope so much counts against a ramp up: all of it, or nothing where the axis slows
+abbrev pub IsPull : ℕ → ℕ → Slope → Slope → Type 0
+IsPull bend pull before after = (pull ≡ bend) ⊎ ((pull ≡ 0) × IsSlower before after)
 
 -- the slope from the first to the last of some pulses
 pub record IsRiseOf (rise : Rise) (steps : List AxisStep) : Type 0 where

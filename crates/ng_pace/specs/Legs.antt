@@ -6,8 +6,10 @@ use Rattle.ng_canon.specs.declared.item.AxisStep.{AxisStep}
 use Rattle.ng_canon.specs.declared.item.Pulse.{Pulse}
 use Rattle.ng_pace.specs.declared.limits.Limits.{Limits}
 use Rattle.ng_pace.specs.declared.line.Line.{Line}
+use Rattle.ng_pace.specs.declared.line.Ramp.{Ramp}
+use Rattle.ng_pace.specs.Rest.{either_way}
 use Rattle.ng_pace.specs.Axes.{EachAxis, SomeAxis, IsAlong, IsCorner, IsNearCorner}
-use Rattle.ng_pace.specs.Chord.{Slope, IsSlope, slope_of, IsNear, IsStraight}
+use Rattle.ng_pace.specs.Chord.{Slope, IsSlope, IsSlower, slope_of, IsNear, IsStraight}
 
 -- the step of an axis, by its number
 abbrev pub step_of : ℕ → Pulse → AxisStep
@@ -36,28 +38,49 @@ IsFarthest slack chord next = (pulse : Pulse) (rest : List Pulse) → next ≡ p
 abbrev pub bend_between : Slope → Slope → ℕ
 bend_between before after = abs_diff (before.up * after.over + after.down * before.over) (before.down * after.over + after.up * before.over)
 
--- a corner asks for no more on either side of it
-pub record IsBending (limits : Limits) (axis : ℕ) (before after : Slope) (pulses most ramp : ℕ) : Type 0 where
-  pub leaves : IsCorner limits axis (abs_diff before.up before.down * after.over) (bend_between before after) (before.over * after.over) pulses most ramp
-  pub enters : IsCorner limits axis (abs_diff after.up after.down * before.over) (bend_between before after) (before.over * after.over) pulses most ramp
+-- a corner asks for no more on either side of it, where so much of the change of slope counts
+pub record IsBending (limits : Limits) (axis : ℕ) (before after : Slope) (bend pulses most ramp : ℕ) : Type 0 where
+  pub leaves : IsCorner limits axis (abs_diff before.up before.down * after.over) bend (before.over * after.over) pulses most ramp
+  pub enters : IsCorner limits axis (abs_diff after.up after.down * before.over) bend (before.over * after.over) pulses most ramp
 
--- the square and the ramp of a line are allowed. Where everything stands still after the line, and there alone, the
--- ramp may be a rate at which motors stop at once: `stop` parts of 256 of what is allowed
-pub record IsAllowed (P : ℕ → ℕ → Type 0) (stop : ℕ) (line : Line) : Type 0 where
-  pub ramp : ℕ
+-- what the turn takes of an axis and what the ramp does add up, but where they pull against each other: the turn of an
+-- axis that slows pulls against a ramp up, and that of one that gets faster against a ramp down
+pub record IsTurning (limits : Limits) (axis : ℕ) (before after : Slope) (pulses most : ℕ) (ramp : Ramp) : Type 0 where
+  pub up : IsBending limits axis before after (bend_between before after) pulses most ramp.up
+      ⊎ (IsSlower before after × IsBending limits axis before after 0 pulses most ramp.up)
+  pub down : IsBending limits axis before after (bend_between before after) pulses most ramp.down
+      ⊎ (IsSlower after before × IsBending limits axis before after 0 pulses most ramp.down)
+
+-- a line has no more than this ramp. Where everything stands still after the line, and there alone, the ramp down may be
+-- a rate at which motors stop at once: `stop` parts of 256 of it
+pub record IsRampWithin (ramp : Ramp) (stop : ℕ) (line : Line) : Type 0 where
+  pub up : line.ramp.up ≤ ramp.up
+  pub down : (line.ramp.down ≤ ramp.down) ⊎ (IsTrue line.last × (line.ramp.down ≤ ramp.down / 256 * stop))
+
+-- no ramp is steeper than the greatest square
+abbrev pub least_ramp : Ramp → Ramp
+least_ramp ramp = record { up = min ramp.up (2 ^ 58); down = min ramp.down (2 ^ 58) }
+
+-- the square and the ramp of a line are allowed
+pub record IsAllowed (P : ℕ → Ramp → Type 0) (stop : ℕ) (line : Line) : Type 0 where
+  pub ramp : Ramp
   pub allowed : P line.most ramp
-  pub within : (line.ramp ≤ ramp) ⊎ (IsTrue line.last × (line.ramp ≤ ramp / 256 * stop))
+  pub within : IsRampWithin ramp stop line
+
+-- along a slope an axis is asked for no more, up and down
+pub record IsAlongEitherWay (limits : Limits) (axis : ℕ) (slope : Slope) (most : ℕ) (ramp : Ramp) : Type 0 where
+  pub up : IsAlong limits axis (abs_diff slope.up slope.down) slope.over most ramp.up
+  pub down : IsAlong limits axis (abs_diff slope.up slope.down) slope.over most ramp.down
 
 -- along a chord no axis is asked for more than its acceleration, nor for more than its rate
 abbrev pub IsOnChord : Limits → ℕ → List Pulse → Line → Type 0
 IsOnChord limits stop chord line =
-    IsAllowed (λ most ramp. EachAxis
-    (λ axis. IsAlong limits axis (abs_diff (slope_along axis chord).up (slope_along axis chord).down) (slope_along axis chord).over most ramp)) stop line
+    IsAllowed (λ most ramp. EachAxis (λ axis. IsAlongEitherWay limits axis (slope_along axis chord) most ramp)) stop line
 
 -- at a corner that is taken over so many pulses no axis is asked for more than is left of its acceleration
 abbrev pub IsOnCorner : Limits → ℕ → List Pulse → List Pulse → ℕ → Line → Type 0
 IsOnCorner limits stop before after pulses line
-    = IsAllowed (λ most ramp. EachAxis (λ axis. IsBending limits axis (slope_along axis before) (slope_along axis after) pulses most ramp)) stop line
+    = IsAllowed (λ most ramp. EachAxis (λ axis. IsTurning limits axis (slope_along axis before) (slope_along axis after) pulses most ramp)) stop line
 
 -- an axis has no more acceleration: along a slope that it may still get, near all of these pulses, the ramp of one more
 -- square of a pulse a second would be too much, but for a step in 2^20 pulses
@@ -83,7 +106,7 @@ pub record IsFullOn (limits : Limits) (known : List Pulse) (line : Line) : Type 
   pub most : ℕ
   pub ramp : ℕ
   pub most_is : line.most ≡ min most line.full
-  pub ramp_is : line.ramp ≡ min ramp (2 ^ 58)
+  pub ramp_is : line.ramp ≡ least_ramp (either_way ramp)
   pub rate : (2 ^ 58 ≤ most) ⊎ SomeAxis (λ axis. IsRateSpent limits axis known most)
   pub accel : (2 ^ 58 ≤ ramp) ⊎ SomeAxis (λ axis. IsAccelerationSpent limits axis known ramp)
 
@@ -116,16 +139,22 @@ pub record IsQuarterSpent (limits : Limits) (axis : ℕ) (known : List Pulse) (r
   pub full : 2 * (slice_index limits.accel axis / 4) * slope.over * 2 ^ 20
       < (abs_diff slope.up slope.down * 2 ^ 20 + slope.over) * (ramp / 2 ^ 16 + 1)
 
+-- a ramp is no less than a quarter of the acceleration of some axis allows, or it is that of any line
+abbrev pub HasQuarter : Limits → List Pulse → List Pulse → ℕ → Type 0
+HasQuarter limits before known ramp
+    = (2 ^ 58 ≤ ramp) ⊎ SomeAxis (λ axis. IsQuarterSpent limits axis before ramp ⊎ IsQuarterSpent limits axis known ramp)
+
 -- a line has the greatest square that the axes have at a corner: that of its own rate, that of a chord, or that at which
 -- some axis turns as fast as may be. Its ramp is no less than a quarter of the acceleration of some axis allows
 pub record IsFullAtCorner (limits : Limits) (before known : List Pulse) (pulses : ℕ) (line : Line) : Type 0 where
   pub most : ℕ
-  pub ramp : ℕ
+  pub ramp : Ramp
   pub most_is : line.most ≡ min most line.full
-  pub ramp_is : line.ramp ≡ min ramp (2 ^ 58)
+  pub ramp_is : line.ramp ≡ least_ramp ramp
   pub square : (line.full ≤ most) ⊎ ((2 ^ 58 ≤ most) ⊎ SomeAxis
       (λ axis. IsRateSpent limits axis before most ⊎ (IsRateSpent limits axis known most ⊎ IsBendSpent limits axis before known pulses most)))
-  pub quarter : (2 ^ 58 ≤ ramp) ⊎ SomeAxis (λ axis. IsQuarterSpent limits axis before ramp ⊎ IsQuarterSpent limits axis known ramp)
+  pub up : HasQuarter limits before known ramp.up
+  pub down : HasQuarter limits before known ramp.down
 
 -- over so many pulses an axis leaves its chords too far, along slopes that it may get, but for 2 steps in 2^20 pulses
 pub record IsTooFar (limits : Limits) (axis : ℕ) (before known : List Pulse) (pulses : ℕ) : Type 0 where

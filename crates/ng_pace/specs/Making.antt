@@ -1,7 +1,9 @@
 -- Lines that are made of items that wait.
-use Rattle.std.specs.Prelude.{ℕ, ◌+◌, ◌*◌, ◌/◌, ◌^◌, ◌<◌, ◌≤◌, ◌≡◌, ◌⊎◌, min, List, [], ◌++◌, length, slice_index_or}
-use Rattle.std.specs.Prelude.{All, IsTrue}
+use Rattle.std.specs.Prelude.{ℕ, ◌+◌, ◌*◌, ◌/◌, ◌^◌, ◌<◌, ◌≤◌, ◌≡◌, min, List, [], ◌++◌, length, slice_index_or}
+use Rattle.std.specs.Prelude.{All}
 use Rattle.ng_pace.specs.declared.line.Line.{Line}
+use Rattle.ng_pace.specs.declared.line.Ramp.{Ramp}
+use Rattle.ng_pace.specs.Legs.{IsRampWithin, least_ramp}
 use Rattle.ng_pace.specs.declared.chord.Waiting.{Waiting}
 use Rattle.ng_pace.specs.declared.settling.Ending.{Ending}
 use Rattle.ng_pace.specs.declared.settling.Ending.TheVariants.{GoesOn, Ends}
@@ -13,24 +15,24 @@ abbrev pub stop_of : Ending → ℕ
 stop_of GoesOn = 0
 stop_of (Ends stop) = stop
 
--- a line has no more than these; where everything stands still after it, its ramp may be a rate at which motors stop at
--- once
-pub record IsWithin (most ramp stop : ℕ) (line : Line) : Type 0 where
+-- a line has no more than these; where everything stands still after it, its ramp down may be a rate at which motors
+-- stop at once
+pub record IsWithin (most : ℕ) (ramp : Ramp) (stop : ℕ) (line : Line) : Type 0 where
   pub most_is : line.most ≤ most
-  pub ramp_is : (line.ramp ≤ ramp) ⊎ (IsTrue line.last × (line.ramp ≤ ramp / 256 * stop))
+  pub ramp_is : IsRampWithin ramp stop line
 
 -- a line has all of these, as far as its own rate goes
-pub record HasAll (most ramp : ℕ) (line : Line) : Type 0 where
+pub record HasAll (most : ℕ) (ramp : Ramp) (line : Line) : Type 0 where
   pub most_is : line.most ≡ min most line.full
-  pub ramp_is : line.ramp ≡ min ramp (2 ^ 58)
+  pub ramp_is : line.ramp ≡ least_ramp ramp
 
 -- the ramp of a line behind which this comes
-abbrev pub ramp_at : Ending → ℕ → ℕ
-ramp_at GoesOn ramp = min ramp (2 ^ 58)
-ramp_at (Ends stop) ramp = min (min ramp (2 ^ 58) / 256 * stop) (2 ^ 58)
+abbrev pub ramp_at : Ending → Ramp → Ramp
+ramp_at GoesOn ramp = least_ramp ramp
+ramp_at (Ends stop) ramp = record { up = min ramp.up (2 ^ 58); down = min (min ramp.down (2 ^ 58) / 256 * stop) (2 ^ 58) }
 
 -- so many lines are made of the first items that wait, or of all
-pub record Makes (old new : Motion) (waited waits : List Waiting) (most ramp stop count : ℕ) : Type 0 where
+pub record Makes (old new : Motion) (waited waits : List Waiting) (most : ℕ) (ramp : Ramp) (stop count : ℕ) : Type 0 where
   pub made : List Line
   pub known : new.known ≡ old.known ++ made
   pub each : All (IsWithin most ramp stop) made

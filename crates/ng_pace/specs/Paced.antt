@@ -10,7 +10,7 @@ use Rattle.ng_pace.specs.Interval.{IsTimeOf}
 
 -- what is left of a square after a line: nothing, where a rest is wanted and motors can stop at once
 abbrev pub rest_of : Line → ℕ → ℕ → ℕ → ℕ
-rest_of line to start wanted = if (wanted == 0) && nat_le to (start_square line start) then 0 else to
+rest_of line to start wanted = if (wanted == 0) && nat_le to (start_square line.ramp.down start) then 0 else to
 
 -- a line is given out
 pub record IsGiven (old new : Motion) (wanted : ℕ) (given : Given) : Type 0 where

@@ -3,13 +3,15 @@ use Rattle.std.specs.Prelude.{ℕ, ◌-◌, ◌*◌, ◌/◌, ◌^◌, ◌<◌, 
 use Rattle.std.specs.Int.{abs_diff}
 use Rattle.ng_pace.specs.declared.limits.Limits.{Limits}
 use Rattle.ng_pace.specs.declared.line.Line.{Line}
+use Rattle.ng_pace.specs.declared.line.Ramp.{Ramp}
 use Rattle.ng_pace.specs.declared.slopes.Slopes.{Slopes}
 use Rattle.ng_pace.specs.declared.chord.Waiting.{Waiting}
 use Rattle.ng_pace.specs.Pacer.{Motion}
 use Rattle.ng_pace.specs.Axes.{AreMostPulses, EachAxis, IsAlong, IsFullCorner, IsFullRamp, IsFullRate, IsNearCorner, IsQuarterRamp}
 use Rattle.ng_pace.specs.Chord.{Slope, IsSlope}
 use Rattle.ng_pace.specs.Cone.{AreBetween, size_of, bend_of}
-use Rattle.ng_pace.specs.Legs.{IsBending, bend_between}
+use Rattle.ng_pace.specs.Legs.{IsTurning, bend_between}
+use Rattle.ng_pace.specs.Rest.{either_way}
 use Rattle.ng_pace.specs.Making.{Makes}
 
 -- along any slopes that are among these, this is allowed
@@ -30,18 +32,18 @@ pub record PassesAlong (limits : Limits) (slopes : List Slopes) (stop reserve : 
   pub ramp : ℕ
   pub allowed : AllowAlong limits slopes most ramp
   pub full : TakeAll limits slopes most ramp
-  pub makes : Makes old new waited waits most ramp stop (length waited - reserve)
+  pub makes : Makes old new waited waits most (either_way ramp) stop (length waited - reserve)
 
 -- a corner is taken over so many pulses, half on each side
-pub record TakesCorner (limits : Limits) (before after : List Slopes) (pulses most ramp : ℕ) : Type 0 where
+pub record TakesCorner (limits : Limits) (before after : List Slopes) (pulses most : ℕ) (ramp : Ramp) : Type 0 where
   pub near : EachAxis (λ axis. (slope : Slope) (next : Slope) → IsSlope slope → IsSlope next → AreBetween before axis slope → AreBetween after axis next
       → IsNearCorner limits axis (bend_between slope next) (slope.over * next.over) pulses)
   pub bending : EachAxis (λ axis. (slope : Slope) (next : Slope) → IsSlope slope → IsSlope next → AreBetween before axis slope → AreBetween after axis next
-      → IsBending limits axis slope next pulses most ramp)
+      → IsTurning limits axis slope next pulses most ramp)
 
 -- over no more pulses, and no faster, some axis can turn from one of these slopes to one of the others; no item at the
 -- corner is faster than `feed` in its own time
-pub record BendAll (limits : Limits) (before after : List Slopes) (count count' pulses feed most ramp : ℕ) : Type 0 where
+pub record BendAll (limits : Limits) (before after : List Slopes) (count count' pulses feed most : ℕ) (ramp : Ramp) : Type 0 where
   pub sizes : List ℕ
   pub bends : List ℕ
   pub sizes_are : EachAxis (λ axis. (d : Slopes)
@@ -50,7 +52,8 @@ pub record BendAll (limits : Limits) (before after : List Slopes) (count count' 
   pub bends_are : EachAxis (λ axis. (d : Slopes) → slice_index bends axis ≡ bend_of (slice_index_or before axis d) (slice_index_or after axis d))
   pub longest : AreMostPulses limits bends (2 ^ 20) count count' pulses
   pub square : IsFullCorner limits sizes bends (2 ^ 20) pulses feed most
-  pub quarter : IsQuarterRamp limits sizes (2 ^ 20) ramp
+  pub up : IsQuarterRamp limits sizes (2 ^ 20) ramp.up
+  pub down : IsQuarterRamp limits sizes (2 ^ 20) ramp.down
 
 -- lines are made up to the end of a corner, behind which so many pulses wait: along the chord before it, and then at
 -- the corner
@@ -66,9 +69,9 @@ pub record PassesCorner (limits : Limits) (before after : List Slopes) (count co
   pub before_ramp : ℕ
   pub before_allowed : AllowAlong limits before before_most before_ramp
   pub before_full : TakeAll limits before before_most before_ramp
-  pub first : Makes old mid waited left before_most before_ramp stop (length waited - count' - pulses / 2)
+  pub first : Makes old mid waited left before_most (either_way before_ramp) stop (length waited - count' - pulses / 2)
   pub most : ℕ
-  pub ramp : ℕ
+  pub ramp : Ramp
   pub takes : TakesCorner limits before after pulses most ramp
   pub then : Makes mid new left waits most ramp stop pulses
   pub feed : ℕ

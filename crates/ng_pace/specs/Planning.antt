@@ -16,7 +16,7 @@ ahead (s ∷ r) = s.plan
 
 -- the greatest square at a line after which this square is planned
 abbrev pub most_now : Line → ℕ → ℕ
-most_now line after = min (min ((if line.last then 0 else after) + line.ramp) (2 ^ 64 - 1)) line.most
+most_now line after = min (min ((if line.last then 0 else after) + line.ramp.down) (2 ^ 64 - 1)) line.most
 
 -- so many lines are planned, the first of them: each at the greatest square before what is planned after it; for the
 -- others 0 is planned
@@ -56,5 +56,5 @@ pub record IsTaken (old new : List Slot) (planned : ℕ) (slot : Slot) : Type 0 
 pub record FollowsWithin (line : Line) (from wanted planned square : ℕ) : Type 0 where
   pub ramp : IsRamp line.ramp from square
   pub last : IsTrue line.last → square ≡ 0
-  pub is_wanted : square ≤ max wanted (from - line.ramp)
+  pub is_wanted : square ≤ max wanted (from - line.ramp.down)
   pub within : square ≤ planned

@@ -52,12 +52,12 @@ pub record IsPassed (start percent square : ℕ) (given : Given) (left : ℕ) : 
   -- nor sooner than at its two rates: a line between slower ones has their time
   pub rates : KeepsOwnRate percent given.line given.from given.to ⊎ IsNoSooner given.from given.to given.ns
   pub goes_on : 0 < square → given.from ≡ square
-  pub starts : square ≡ 0 → given.from ≤ start_square given.line start
+  pub starts : square ≡ 0 → given.from ≤ start_square given.line.ramp.up start
   pub within : given.from ≤ given.line.most
   pub ramp : IsRamp given.line.ramp given.from given.to
   -- everything stands still after a last line
   pub last : IsTrue given.line.last → given.to ≡ 0
-  pub stops : (left ≡ given.to) ⊎ ((left ≡ 0) × (given.to ≤ start_square given.line start))
+  pub stops : (left ≡ given.to) ⊎ ((left ≡ 0) × (given.to ≤ start_square given.line.ramp.down start))
 
 -- one line after another is passed so, from a square to another
 abbrev pub ArePassed : ℕ → ℕ → ℕ → List Given → ℕ → Type 0
@@ -92,7 +92,7 @@ HoldsOnly (ask wanted answer ∷ rest) = (wanted ≡ 0) × HoldsOnly rest
 -- at each line the square falls by the whole ramp
 abbrev pub AreFalling : List Given → Type 0
 AreFalling [] = Unit {0}
-AreFalling (given ∷ rest) = (given.to ≤ given.from - given.line.ramp) × AreFalling rest
+AreFalling (given ∷ rest) = (given.to ≤ given.from - given.line.ramp.down) × AreFalling rest
 
 -- everything has come to rest as fast as may be
 pub record IsStopped (events : List Event) (new : Flow) : Type 0 where

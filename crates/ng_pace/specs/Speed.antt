@@ -29,10 +29,10 @@ pub record GoesOnFrom (given next : Given) : Type 0 where
   pub next_lasts : 0 < next.ns
 
 -- a ramp is 2^9 times what the rate may gain or lose in a second. So between the middles of two lines the rate changes
--- by no more than both ramps, each times half of its line's time: four of `one_second` are 2^10 seconds
+-- by no more than both ramps, up where it gains and down where it loses, each times half of its line's time: four of `one_second` are 2^10 seconds
 pub record KeepsAcceleration (given next : Given) : Type 0 where
-  pub gains : IsFasterWithin next.ns given.ns (given.line.ramp * given.ns + next.line.ramp * next.ns)
-  pub loses : IsFasterWithin given.ns next.ns (given.line.ramp * given.ns + next.line.ramp * next.ns)
+  pub gains : IsFasterWithin next.ns given.ns (given.line.ramp.up * given.ns + next.line.ramp.up * next.ns)
+  pub loses : IsFasterWithin given.ns next.ns (given.line.ramp.down * given.ns + next.line.ramp.down * next.ns)
 
 -- each pulse that goes on from the one before it does
 abbrev pub KeepAcceleration : List Given → Type 0

@@ -3,14 +3,14 @@ use Rattle.std.specs.Prelude.{ℕ, ◌-◌, ◌*◌, ◌/◌, ◌+◌, ◌^◌, 
 use Rattle.ng_pace.specs.declared.line.Line.{Line}
 use Rattle.ng_pace.specs.Rest.{IsRamp, CanRest}
 
--- the square at which motors can start and stop at once
-abbrev pub start_square : Line → ℕ → ℕ
-start_square line start = min (line.ramp / 256 * start) (2 ^ 64 - 1)
+-- the square at which motors can start or stop at once, where it may change by so much
+abbrev pub start_square : ℕ → ℕ → ℕ
+start_square ramp start = min (ramp / 256 * start) (2 ^ 64 - 1)
 
 -- from rest these lines may begin at a square: motors can start at it, it is wanted, and a rest can be reached within
 -- the lines
 pub record MayBegin (line : Line) (start wanted : ℕ) (lines : List Line) (square : ℕ) : Type 0 where
-  pub starts : square ≤ start_square line start
+  pub starts : square ≤ start_square line.ramp.up start
   pub is_wanted : square ≤ wanted
   pub rests : CanRest square lines
 
@@ -19,7 +19,7 @@ pub record MayBegin (line : Line) (start wanted : ℕ) (lines : List Line) (squa
 pub record MayFollow (line : Line) (from wanted : ℕ) (lines : List Line) (square : ℕ) : Type 0 where
   pub ramp : IsRamp line.ramp from square
   pub last : IsTrue line.last → square ≡ 0
-  pub is_wanted : square ≤ max wanted (from - line.ramp)
+  pub is_wanted : square ≤ max wanted (from - line.ramp.down)
   pub rests : CanRest square lines
 
 -- the greatest number of which something holds

@@ -10,7 +10,7 @@ use Rattle.ng_pace.specs.Axes.{AreLimits}
 use Rattle.ng_pace.specs.WaitingPulses.{WaitFew, WaitSome}
 use Rattle.ng_pace.specs.Pacer.{Motion}
 use Rattle.ng_pace.specs.Due.{own_square}
-use Rattle.ng_pace.specs.Rest.{CanRest, StandsBehind}
+use Rattle.ng_pace.specs.Rest.{CanRest, StandsBehind, either_way}
 
 -- an item, and the square of the rate at which it comes in its own time
 pub record Timed : Type 0 where
@@ -80,7 +80,7 @@ pub record Settles (old new : Motion) (waited waits : List Timed) : Type 0 where
 
 -- the line of an item at which everything stands still
 abbrev pub still_line : Item → Line
-still_line item = record { item = item; full = 0; most = 0; ramp = 0; last = false }
+still_line item = record { item = item; full = 0; most = 0; ramp = either_way 0; last = false }
 
 -- such an item is known at once as a line, and nothing waits
 pub record StandsLast (known : List Line) (waits : List Timed) (item : Item) : Type 0 where

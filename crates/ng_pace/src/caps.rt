@@ -1,8 +1,10 @@
 //! What axes allow along a chord.
 ghost use Rattle.std.specs.Prelude.{◌≡◌, ◌≤◌, ◌<◌, ◌+◌, ◌*◌, ◌/◌, ◌⊎◌, min, slice_index};
+ghost use Rattle.ng_pace.specs.Rest.{either_way};
 ghost use Rattle.ng_pace.specs.Axes.{AreLimits, EachAxis, IsAlong, IsFullAlone, IsFullRamp, IsFullRate};
 
-use crate::limits::{Caps, GREATEST, Limits, PULSE, STEP};
+use crate::limits::{Caps, GREATEST, Limits, LineCaps, PULSE, STEP};
+use crate::line::Ramp;
 
 impl Caps {
     /// What both allow.
@@ -13,6 +15,20 @@ impl Caps {
         Caps {
             most: self.most.min(other.most),
             ramp: self.ramp.min(other.ramp),
+        }
+    }
+
+    /// Of lines that have all of it, up as down.
+    pub(crate) fn of_lines(self) -> LineCaps
+        ensures most { result.most ≡ self.most }
+        ensures ramp { result.ramp ≡ either_way self.ramp }
+    {
+        LineCaps {
+            most: self.most,
+            ramp: Ramp {
+                up: self.ramp,
+                down: self.ramp,
+            },
         }
     }
 }

@@ -1,20 +1,33 @@
 //! Corners between two chords.
 ghost use Rattle.std.specs.Prelude.{◌≡◌, ◌≤◌, ◌<◌, ◌+◌, ◌*◌, ◌/◌, ◌^◌, ◌⊎◌, max, slice_index, slice_index_or};
 ghost use Rattle.ng_pace.specs.Chord.{Slope, IsSlope};
-ghost use Rattle.ng_pace.specs.Cone.{AreBetween, IsBetween, IsBend, size_of, bend_of};
+ghost use Rattle.ng_pace.specs.Cone.{AreBetween, IsBetween, IsBend, IsPull, size_of, bend_of};
 ghost use Rattle.ng_pace.specs.declared.slopes.Slopes.{Slopes};
 ghost use Rattle.ng_pace.specs.Axes.{AreLimits, AreMostPulses, EachAxis, IsCorner, IsFarFromCorner};
 ghost use Rattle.ng_pace.specs.Axes.{IsFullCorner, IsNearCorner, IsQuarterRamp};
 
 use crate::caps::along;
-use crate::limits::{Caps, GREATEST, Limits, PULSE, STEP};
+use crate::limits::{GREATEST, Limits, LineCaps, PULSE, STEP};
+use crate::line::Ramp;
 use crate::slopes::Slopes;
 
-/// A corner: of each axis the greatest slope on either side, and the greatest change of slope, in parts of 2^20.
+/// A corner: of each axis the greatest slope on either side, and the greatest change of slope, in parts of 2^20; and how
+/// much of that change counts against a ramp up and against a ramp down: none where it pulls the other way.
 #[derive(Clone, Copy, Debug)]
 pub(crate) struct Bend {
     pub(crate) slope: [u64; 3],
     pub(crate) bend: [u64; 3],
+    pub(crate) up: [u64; 3],
+    pub(crate) down: [u64; 3],
+}
+
+/// How much of a change of slope counts against a ramp up from the first slopes to the others: none where the axis slows.
+fn axis_pull(before: &Slopes, after: &Slopes, bend: u64) -> u64
+    ensures size { result ≤ bend }
+    ensures pull { (slope : Slope) (next : Slope) → IsSlope slope → IsSlope next → IsBetween before.now slope
+        → IsBetween after.now next → IsPull bend result slope next }
+{
+    if before.slow_to(after) { 0 } else { bend }
 }
 
 /// The greatest slope of an axis on either side of a corner, and the greatest change of slope.
@@ -41,6 +54,14 @@ impl Bend {
         ensures most { EachAxis (λ i. (slope : Slope) (next : Slope) → IsSlope slope → IsSlope next
             → AreBetween before.now i slope → AreBetween after.now i next
             → IsBend (slice_index result.slope i) (slice_index result.bend i) slope next) }
+        ensures up_less { EachAxis (λ i. slice_index result.up i ≤ slice_index result.bend i) }
+        ensures down_less { EachAxis (λ i. slice_index result.down i ≤ slice_index result.bend i) }
+        ensures pulls_up { EachAxis (λ i. (slope : Slope) (next : Slope) → IsSlope slope → IsSlope next
+            → AreBetween before.now i slope → AreBetween after.now i next
+            → IsPull (slice_index result.bend i) (slice_index result.up i) slope next) }
+        ensures pulls_down { EachAxis (λ i. (slope : Slope) (next : Slope) → IsSlope slope → IsSlope next
+            → AreBetween before.now i slope → AreBetween after.now i next
+            → IsPull (slice_index result.bend i) (slice_index result.down i) next slope) }
     {
         let x = axis_bend(&before[0], &after[0]);
         let y = axis_bend(&before[1], &after[1]);
@@ -48,6 +69,16 @@ impl Bend {
         Bend {
             slope: [x.0, y.0, z.0],
             bend: [x.1, y.1, z.1],
+            up: [
+                axis_pull(&before[0], &after[0], x.1),
+                axis_pull(&before[1], &after[1], y.1),
+                axis_pull(&before[2], &after[2], z.1),
+            ],
+            down: [
+                axis_pull(&after[0], &before[0], x.1),
+                axis_pull(&after[1], &before[1], y.1),
+                axis_pull(&after[2], &before[2], z.1),
+            ],
         }
     }
 }
@@ -138,16 +169,39 @@ fn axis_ramp(limits: &Limits, axis: usize, slope: u64, bend: u64, pulses: u64, m
     (left.saturating_mul(2 * STEP) / slope).saturating_mul(PULSE)
 }
 
+/// By how much the square may change where axes turn.
+fn corner_ramp(limits: &Limits, slope: &[u64; 3], bend: &[u64; 3], pulses: u64, most: u64) -> u64
+    requires limits { AreLimits limits.now }
+    requires bend { EachAxis (λ i. slice_index bend.now i ≤ 2 * STEP) }
+    requires pulses { 0 < pulses }
+    requires most { most ≤ GREATEST }
+    requires quarter { EachAxis (λ i. 4 * slice_index bend.now i * most
+        ≤ 3 * slice_index limits.now.accel i * pulses * STEP * PULSE) }
+    ensures full { IsQuarterRamp limits.now slope.now STEP result }
+    ensures left { EachAxis (λ i. slice_index slope.now i * result * pulses + 2 * slice_index bend.now i * most
+        ≤ 2 * slice_index limits.now.accel i * pulses * STEP * PULSE) }
+{
+    let x = axis_ramp(limits, 0, slope[0], bend[0], pulses, most);
+    let y = axis_ramp(limits, 1, slope[1], bend[1], pulses, most);
+    let z = axis_ramp(limits, 2, slope[2], bend[2], pulses, most);
+    x.min(y).min(z)
+}
+
 /// What a corner allows that is taken over so many pulses at no more than `feed`.
-pub(crate) fn corner_caps(limits: &Limits, bend: &Bend, pulses: u64, feed: u64) -> Caps
+pub(crate) fn corner_caps(limits: &Limits, bend: &Bend, pulses: u64, feed: u64) -> LineCaps
     requires slope { EachAxis (λ i. slice_index bend.now.slope i ≤ STEP) }
     requires bend { EachAxis (λ i. slice_index bend.now.bend i ≤ 2 * STEP) }
+    requires up_less { EachAxis (λ i. slice_index bend.now.up i ≤ slice_index bend.now.bend i) }
+    requires down_less { EachAxis (λ i. slice_index bend.now.down i ≤ slice_index bend.now.bend i) }
     requires pulses { 0 < pulses }
     requires limits { AreLimits limits.now }
     ensures most { IsFullCorner limits.now bend.now.slope bend.now.bend STEP pulses feed result.most }
-    ensures ramp { IsQuarterRamp limits.now bend.now.slope STEP result.ramp }
-    ensures allowed { EachAxis (λ i. IsCorner limits.now i (slice_index bend.now.slope i) (slice_index bend.now.bend i)
-        STEP pulses result.most result.ramp) }
+    ensures quarter_up { IsQuarterRamp limits.now bend.now.slope STEP result.ramp.up }
+    ensures quarter_down { IsQuarterRamp limits.now bend.now.slope STEP result.ramp.down }
+    ensures up { EachAxis (λ i. IsCorner limits.now i (slice_index bend.now.slope i) (slice_index bend.now.up i)
+        STEP pulses result.most result.ramp.up) }
+    ensures down { EachAxis (λ i. IsCorner limits.now i (slice_index bend.now.slope i) (slice_index bend.now.down i)
+        STEP pulses result.most result.ramp.down) }
 {
     let most = along(limits, &bend.slope)
         .most
@@ -156,11 +210,10 @@ pub(crate) fn corner_caps(limits: &Limits, bend: &Bend, pulses: u64, feed: u64) 
         .min(axis_most(limits, 1, bend.bend[1], pulses))
         .min(axis_most(limits, 2, bend.bend[2], pulses))
         .max(PULSE);
-    let x = axis_ramp(limits, 0, bend.slope[0], bend.bend[0], pulses, most);
-    let y = axis_ramp(limits, 1, bend.slope[1], bend.bend[1], pulses, most);
-    let z = axis_ramp(limits, 2, bend.slope[2], bend.bend[2], pulses, most);
-    Caps {
+    let up = corner_ramp(limits, &bend.slope, &bend.up, pulses, most);
+    let down = corner_ramp(limits, &bend.slope, &bend.down, pulses, most);
+    LineCaps {
         most,
-        ramp: x.min(y).min(z),
+        ramp: Ramp { up, down },
     }
 }

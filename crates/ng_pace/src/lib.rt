@@ -35,7 +35,7 @@ mod stream;
 pub use fault::PaceFault;
 pub use laws::{given_out, held, keeps_acceleration, keeps_to_paths, lines_keep, paced_beginning};
 pub use limits::Limits;
-pub use line::Line;
+pub use line::{Line, Ramp};
 pub use pacer::Pacer;
 pub use stepping::Given;
 pub use stream::Stream;

@@ -5,6 +5,7 @@ ghost use Rattle.ng_pace.specs.Due.{IsPercent, IsNoPercent};
 ghost use Rattle.ng_pace.specs.Axes.{GoTooFast, HaveAxes, SomeAxis};
 
 use crate::fault::PaceFault;
+use crate::line::Ramp;
 
 /// One step a pulse, in slopes: 2^20.
 pub(crate) const STEP: u64 = 0x10_0000;
@@ -39,11 +40,18 @@ pub struct Limits {
     pub most_percent: u64,
 }
 
-/// What lines may have: the greatest square, and by how much it may change up to the next line.
+/// What axes allow along a slope: the greatest square, and by how much it may change up to the next line, either way.
 #[derive(Clone, Copy, Debug)]
 pub(crate) struct Caps {
     pub(crate) most: u64,
     pub(crate) ramp: u64,
+}
+
+/// What lines may have: the greatest square, and by how much it may change up to the next line.
+#[derive(Clone, Copy, Debug)]
+pub(crate) struct LineCaps {
+    pub(crate) most: u64,
+    pub(crate) ramp: Ramp,
 }
 
 /// Whether own times may be at so many percent.

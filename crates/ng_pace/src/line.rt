@@ -5,6 +5,13 @@ ghost use Rattle.ng_pace.specs.Wanted.{wanted_by};
 
 use ng_canon::Item;
 
+/// By how much a square may change from one line to the next: grow, and fall.
+#[derive(Clone, Copy, Debug, PartialEq, Eq)]
+pub struct Ramp {
+    pub up: u64,
+    pub down: u64,
+}
+
 /// An item of the stream, with what the motors allow at it (own). Squares are those of rates in pulses a second times
 /// 2^8.
 #[derive(Clone, Copy, Debug, PartialEq, Eq)]
@@ -15,7 +22,7 @@ pub struct Line {
     /// The greatest square at this line; 0 if everything stands still before it.
     pub most: u64,
     /// How much the square may change up to the next line.
-    pub ramp: u64,
+    pub ramp: Ramp,
     /// Whether everything stands still after this line.
     pub last: bool,
 }

@@ -57,7 +57,7 @@ fn pass_along<A: Allocator>(
 {
     let count = (waiting.len() as u64).saturating_sub(reserve);
     let caps = along(limits, &sizes(slopes));
-    settle(pacer, waiting, count, caps, ending);
+    settle(pacer, waiting, count, caps.of_lines(), ending);
 }
 
 /// Makes the lines up to the end of the corner at which the open chord begins.
@@ -91,7 +91,7 @@ fn pass_corner<A: Allocator>(
         .saturating_sub(pulses / 2);
     let feed = greatest_feed(waiting, count, count.saturating_add(pulses));
     let caps = corner_caps(limits, &bend, pulses, feed);
-    settle(pacer, waiting, count, before, ending);
+    settle(pacer, waiting, count, before.of_lines(), ending);
     settle(pacer, waiting, pulses, caps, ending);
     chord.has_corner = false;
 }

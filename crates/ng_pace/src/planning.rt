@@ -20,7 +20,7 @@ fn best_square(line: &Line, after: u64) -> u64
     ensures { result ≡ most_now line.now after }
 {
     let reached = if line.last { 0 } else { after };
-    reached.saturating_add(line.ramp).min(line.most)
+    reached.saturating_add(line.ramp.down).min(line.most)
 }
 
 /// Plans anew, from the last line that is known to the first; the first `planned` were planned before. Where a square
@@ -69,7 +69,7 @@ fn stands_first<A: Allocator>(slots: &VecDeque<Slot, A>) -> bool
     ensures { IsTrue result → StandsFirst slots.now.items }
 {
     match slots.front() {
-        Some(slot) => slot.line.most == 0 && slot.line.ramp == 0,
+        Some(slot) => slot.line.most == 0 && slot.line.ramp.up == 0 && slot.line.ramp.down == 0,
         None => true,
     }
 }

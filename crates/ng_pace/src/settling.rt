@@ -5,8 +5,8 @@ ghost use Rattle.ng_pace.specs.Stream.{Keeps};
 ghost use Rattle.ng_pace.specs.Making.{IsEnd, IsWithin, Makes, Marks, ramp_at, stop_of};
 
 use crate::chord::Waiting;
-use crate::limits::{Caps, GREATEST};
-use crate::line::Line;
+use crate::limits::{GREATEST, LineCaps};
+use crate::line::{Line, Ramp};
 use crate::pacer::Pacer;
 use std::alloc::Allocator;
 use std::collections::VecDeque;
@@ -20,7 +20,7 @@ pub(crate) enum Ending {
 }
 
 /// The line of an item.
-fn line_of(item: Waiting, limits: Caps, ending: Ending) -> Line
+fn line_of(item: Waiting, limits: LineCaps, ending: Ending) -> Line
     ensures item { result.item ≡ item.item }
     ensures full { result.full ≡ item.feed }
     ensures most { result.most ≡ min limits.most item.feed }
@@ -28,8 +28,8 @@ fn line_of(item: Waiting, limits: Caps, ending: Ending) -> Line
     ensures ramp { result.ramp ≡ ramp_at ending limits.ramp }
     ensures last { IsTrue result.last ↔ IsEnd ending }
 {
-    let ramp = limits.ramp.min(GREATEST);
-    let (ramp, last) = match ending {
+    let ramp = limits.ramp.down.min(GREATEST);
+    let (down, last) = match ending {
         Ending::GoesOn => (ramp, false),
         Ending::Ends(start) => ((ramp / 256).saturating_mul(start).min(GREATEST), true),
     };
@@ -37,7 +37,10 @@ fn line_of(item: Waiting, limits: Caps, ending: Ending) -> Line
         item: item.item,
         full: item.feed,
         most: limits.most.min(item.feed),
-        ramp,
+        ramp: Ramp {
+            up: limits.ramp.up.min(GREATEST),
+            down,
+        },
         last,
     }
 }
@@ -47,7 +50,7 @@ fn line_of(item: Waiting, limits: Caps, ending: Ending) -> Line
 fn settle_one<A: Allocator>(
     pacer: &mut Pacer<A>,
     waiting: &mut VecDeque<Waiting, A>,
-    limits: Caps,
+    limits: LineCaps,
     ending: Ending,
 ) -> bool
     requires { length pacer.old.known + length waiting.old.items ≤ pacer.old.capacity }
@@ -80,7 +83,7 @@ pub(crate) fn settle<A: Allocator>(
     pacer: &mut Pacer<A>,
     waiting: &mut VecDeque<Waiting, A>,
     count: u64,
-    limits: Caps,
+    limits: LineCaps,
     ending: Ending,
 )
     requires { length pacer.old.known + length waiting.old.items ≤ pacer.old.capacity }
@@ -102,7 +105,7 @@ pub(crate) fn settle<A: Allocator>(
 pub(crate) fn settle_all<A: Allocator>(
     pacer: &mut Pacer<A>,
     waiting: &mut VecDeque<Waiting, A>,
-    limits: Caps,
+    limits: LineCaps,
     ending: Ending,
 )
     requires { length pacer.old.known + length waiting.old.items ≤ pacer.old.capacity }

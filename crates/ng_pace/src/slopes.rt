@@ -1,7 +1,7 @@
 //! Slopes of an axis: steps over pulses, counted from a step back at each pulse, so that none is below 0.
 ghost use Rattle.std.specs.Prelude.{◌≡◌, ◌≤◌, ◌<◌, ◌+◌, ◌*◌, ◌⊎◌, IsTrue, IsFalse, slice_index, slice_index_or};
 ghost use Rattle.std.specs.Int.{abs_diff};
-ghost use Rattle.ng_pace.specs.Chord.{Slope, IsSlope};
+ghost use Rattle.ng_pace.specs.Chord.{Slope, IsSlope, IsSlower};
 ghost use Rattle.ng_pace.specs.Cone.{AreBetween, IsFrom, IsUpTo, IsBetween, IsReached, size_of, bend_of};
 ghost use Rattle.ng_pace.specs.declared.slopes.Slopes.{Slopes};
 ghost use Rattle.ng_pace.specs.Axes.{EachAxis};
@@ -81,6 +81,28 @@ impl Slopes {
             .abs_diff(STEP)
             .max(self.greatest.abs_diff(STEP))
             .min(STEP)
+    }
+
+    /// Whether an axis surely goes on forward, and no faster.
+    fn slow_ahead_to(&self, other: &Slopes) -> bool
+        ensures { IsTrue result → (STEP ≤ other.now.least) × (other.now.greatest ≤ self.now.least) }
+    {
+        STEP <= other.least && other.greatest <= self.least
+    }
+
+    /// Whether it surely goes on backward, and no faster.
+    fn slow_back_to(&self, other: &Slopes) -> bool
+        ensures { IsTrue result → (other.now.greatest ≤ STEP) × (self.now.greatest ≤ other.now.least) }
+    {
+        other.greatest <= STEP && self.greatest <= other.least
+    }
+
+    /// Whether an axis surely slows from these slopes to others: it goes on the same way, and no faster.
+    pub(crate) fn slow_to(&self, other: &Slopes) -> bool
+        ensures { IsTrue result → (before : Slope) (after : Slope) → IsSlope before → IsSlope after
+            → IsBetween self.now before → IsBetween other.now after → IsSlower before after }
+    {
+        self.slow_ahead_to(other) || self.slow_back_to(other)
     }
 
     /// The greatest change from one of these to one of others.

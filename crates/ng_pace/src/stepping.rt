@@ -26,11 +26,12 @@ pub struct Given {
     pub to: u64,
 }
 
-/// The square at which motors can start and stop at once at a line; `start` is in parts of 256 of a step.
-pub(crate) fn start_square(line: &Line, start: u64) -> u64
-    ensures { result ≡ start_square line.now start }
+/// The square at which motors can start or stop at once where it may change so much; `start` is in parts of 256 of a
+/// step.
+fn start_square(ramp: u64, start: u64) -> u64
+    ensures { result ≡ start_square ramp start }
 {
-    (line.ramp / 256).saturating_mul(start)
+    (ramp / 256).saturating_mul(start)
 }
 
 /// The square at the next line, from that at this one and what is planned for the next. Where the plan or the operator
@@ -41,8 +42,8 @@ pub(crate) fn square_after(line: &Line, from: u64, after: u64, wanted: u64) -> u
     ensures greatest { (other : ℕ) → FollowsWithin line.now from wanted after other → other ≤ result }
 {
     let reached = if line.last { 0 } else { after };
-    let least = from.saturating_sub(line.ramp).min(reached);
-    from.saturating_add(line.ramp)
+    let least = from.saturating_sub(line.ramp.down).min(reached);
+    from.saturating_add(line.ramp.up)
         .min(reached)
         .min(wanted)
         .max(least)
@@ -94,13 +95,13 @@ pub(crate) fn time_of(
 pub(crate) fn square_at(line: &Line, plan: u64, square: u64, start: u64, wanted: u64) -> u64
     requires { square ≤ plan }
     ensures goes_on { 0 < square → result ≡ square }
-    ensures starts { square ≡ 0 → result ≡ min (min (start_square line.now start) plan) wanted }
+    ensures starts { square ≡ 0 → result ≡ min (min (start_square line.now.ramp.up start) plan) wanted }
     ensures planned { result ≤ plan }
 {
     if square > 0 {
         square
     } else {
-        start_square(line, start).min(plan).min(wanted)
+        start_square(line.ramp.up, start).min(plan).min(wanted)
     }
 }
 
@@ -108,7 +109,7 @@ pub(crate) fn square_at(line: &Line, plan: u64, square: u64, start: u64, wanted:
 pub(crate) fn rest_of(line: &Line, to: u64, start: u64, wanted: u64) -> u64
     ensures { result ≡ rest_of line.now to start wanted }
 {
-    if wanted == 0 && to <= start_square(line, start) {
+    if wanted == 0 && to <= start_square(line.ramp.down, start) {
         0
     } else {
         to

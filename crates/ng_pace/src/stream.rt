@@ -18,8 +18,8 @@ ghost use Rattle.ng_pace.specs.Calls.{IsEmpty, IsPut, IsEnded, IsFlowGiven};
 
 use crate::chord::{Chord, Waiting};
 use crate::fault::PaceFault;
-use crate::limits::{Caps, GREATEST, Limits};
-use crate::line::{Line, own_square};
+use crate::limits::{GREATEST, Limits, LineCaps};
+use crate::line::{Line, Ramp, own_square};
 use crate::pacer::Pacer;
 use crate::path::{bend, close_last, extend};
 use crate::settling::{Ending, settle_all};
@@ -91,7 +91,15 @@ fn finish<A: Allocator>(
     ensures before { shape.new.before ≡ no_pulse }
 {
     close_last(pacer, waiting, &mut shape.chord, limits, ending);
-    settle_all(pacer, waiting, Caps { most: 0, ramp: 0 }, ending);
+    settle_all(
+        pacer,
+        waiting,
+        LineCaps {
+            most: 0,
+            ramp: Ramp { up: 0, down: 0 },
+        },
+        ending,
+    );
     shape.before = GREATEST;
 }
 
@@ -137,7 +145,7 @@ fn still(item: Item) -> Line
         item,
         full: 0,
         most: 0,
-        ramp: 0,
+        ramp: Ramp { up: 0, down: 0 },
         last: false,
     }
 }

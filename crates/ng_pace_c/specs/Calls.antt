@@ -1,5 +1,5 @@
 -- What each call of C promises of the handle at its pointer, before and after it.
-use Rattle.std.specs.Prelude.{ℕ, ◌+◌, ◌*◌, ◌<◌, ◌≤◌, ◌≡◌, ◌↔◌, Bool, None, IsTrue, IsFalse, IfSome, IsSomeAnd, [], length, nat_le}
+use Rattle.std.specs.Prelude.{ℕ, ◌+◌, ◌*◌, ◌<◌, ◌≤◌, ◌≡◌, ◌↔◌, min, Bool, None, IsTrue, IsFalse, IfSome, IsSomeAnd, [], length, nat_le}
 use Rattle.ng_pace.specs.declared.limits.Limits.{Limits}
 use Rattle.ng_pace.specs.declared.stepping.Given.{Given}
 use Rattle.ng_pace.specs.Axes.{AccelerateTooLittle, AccelerateTooMuch, AreLimits, GoTooFast, HaveAxes}
@@ -46,12 +46,12 @@ pub record IsEnd (before after : Handle) : Type 0 where
   pub ended : IfSome before.stream (λ s. IsSomeAnd after.stream (λ t. IsEnded s t))
   pub none : before.stream ≡ None → after.stream ≡ None
 
--- a line is given out, and of it are told its time, its ramp, and whether everything stands still after it
+-- a line is given out, and of it are told its time, by how much its square may change either way, and whether everything stands still after it
 pub record IsTold (old new : Flow) (wanted : ℕ) (told : PaceGiven) : Type 0 where
   pub given : Given
   pub is_given : IsFlowGiven old new wanted given
   pub ns : told.ns ≡ given.ns
-  pub ramp : told.ramp ≡ given.line.ramp
+  pub ramp : told.ramp ≡ min given.line.ramp.up given.line.ramp.down
   pub rests : IsTrue told.is_at_rest → new.motion.square ≡ 0
   pub goes : IsFalse told.is_at_rest → 0 < new.motion.square
 

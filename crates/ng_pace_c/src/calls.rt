@@ -119,7 +119,7 @@ pub(crate) fn next(handle: &mut Handle, wanted: u64) -> PaceGiven
             None => not_given(),
             Some(given) => PaceGiven {
                 ns: given.ns,
-                ramp: given.line.ramp,
+                ramp: given.line.ramp.up.min(given.line.ramp.down),
                 is_given: true,
                 is_at_rest: stream.is_at_rest(),
             },

@@ -22,7 +22,7 @@ pub struct PaceLine {
 pub struct PaceGiven {
     /// The next line isn't carried out before so many nanoseconds.
     pub ns: u64,
-    /// How much the square may change up to the next line.
+    /// How much the square may change up to the next line, either way.
     pub ramp: u64,
     pub is_given: bool,
     /// Whether everything stands still before the next line.

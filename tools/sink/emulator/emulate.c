@@ -75,15 +75,22 @@ static bool is_switch(const struct edge *edge) {
     return is_one;
 }
 
-/* The duty follows with the PWM's next period: of a spindle that stands it says nothing. */
+/* The duty follows with the PWM's next period: of a spindle that stands it says nothing, and what was told isn't told
+ * again. */
 static void tell_outputs(void) {
+    static struct sink_outputs told;
     uint8_t spindle = (uint8_t)(level_of(board->clockwise) | level_of(board->counter) << 1);
     struct sink_outputs outputs = {
         .speed = spindle != 0 ? duty * UINT64_C(24000000000) / board->duty_steps : 0,
         .spindle = spindle,
         .mist = (uint8_t)level_of(board->mist),
         .flood = (uint8_t)level_of(board->flood)};
-    bench_outputs(tick_of(waits.ns), &outputs);
+    bool is_new = outputs.speed != told.speed || outputs.spindle != told.spindle || outputs.mist != told.mist
+        || outputs.flood != told.flood;
+    told = outputs;
+    if (is_new) {
+        bench_outputs(tick_of(waits.ns), &outputs);
+    }
 }
 
 /* Tells what changed at the time that is over. */

@@ -18,5 +18,5 @@ returns-clause-passes g c =
         rate = c.along-caps.ensures.rate;
         accel = c.along-caps.ensures.ramp;
       };
-      makes = rw count at c.settle.ensures.makes;
+      makes = rw (count, c.of_lines.ensures.most, c.of_lines.ensures.ramp) at c.settle.ensures.makes;
     }

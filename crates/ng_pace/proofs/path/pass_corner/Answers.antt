@@ -27,12 +27,14 @@ returns-clause-passes g c =
         rate = c.along-before.ensures.rate;
         accel = c.along-before.ensures.ramp;
       };
-      first = rw count at c.settle.ensures.makes;
+      first = rw (count, c.of_lines.ensures.most, c.of_lines.ensures.ramp) at c.settle.ensures.makes;
       most = c.corner_caps-caps.result.most;
       ramp = c.corner_caps-caps.result.ramp;
-      takes = takes-corner c.args.limits.now c.args.chord.now.before c.args.after.now c.between-bend.result.slope c.between-bend.result.bend
+      takes = takes-corner c.args.limits.now c.args.chord.now.before c.args.after.now c.between-bend.result.slope c.between-bend.result.bend c.between-bend.result.up
+          c.between-bend.result.down
           c.corner_pulses-pulses.result c.corner_caps-caps.result.most c.corner_caps-caps.result.ramp
-          c.between-bend.ensures.most c.corner_pulses-pulses.ensures.near c.corner_caps-caps.ensures.allowed;
+          c.between-bend.ensures.most c.corner_pulses-pulses.ensures.near c.between-bend.ensures.pulls_up c.between-bend.ensures.pulls_down
+          c.corner_caps-caps.ensures.up c.corner_caps-caps.ensures.down;
       then = c.settle-2.ensures.makes;
       feed = c.greatest_feed-feed.result;
       feeds = λ k d short. made-feeds c.args.pacer.now c.settle.new.pacer c.settle-2.new.pacer c.args.waiting.now.items c.settle.new.waiting.items
@@ -47,7 +49,8 @@ returns-clause-passes g c =
         bends_are = c.between-bend.ensures.bends;
         longest = c.corner_pulses-pulses.ensures.most;
         square = c.corner_caps-caps.ensures.most;
-        quarter = c.corner_caps-caps.ensures.ramp;
+        up = c.corner_caps-caps.ensures.quarter_up;
+        down = c.corner_caps-caps.ensures.quarter_down;
       };
     }
 

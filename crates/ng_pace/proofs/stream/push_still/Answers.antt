@@ -12,4 +12,4 @@ returns-clause-stands g c = still_last c.finish.new.pacer c.push.new.self c.fini
 
 pub returns-clause-behind : goal.returns-clause-behind
 returns-clause-behind g c = stands-last c.finish.new.pacer.known c.push.new.self.known c.still.result (ap (λ t. t.known) c.push.ensures)
-    (ap (λ t. t.most) c.still.ensures, ap (λ t. t.ramp) c.still.ensures)
+    (ap (λ t. t.most) c.still.ensures, (ap (λ t. t.ramp.up) c.still.ensures, ap (λ t. t.ramp.down) c.still.ensures))

@@ -4,7 +4,7 @@
 
 enum {
     BLOCKS = 4,     /* two for each engine: of OUT, and of moves beside it */
-    BYTES = 589824, /* the greater of the two wants 72 for each of its 8,192 lines */
+    BYTES = 655360, /* the greater of the two wants 80 for each of its 8,192 lines */
     ALIGNMENT = 16
 };
 

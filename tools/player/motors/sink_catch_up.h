@@ -2,7 +2,7 @@
 #ifndef SINK_CATCH_UP_H
 #define SINK_CATCH_UP_H
 
-#include "../sink/wire.h"
+#include "../../sink/wire.h"
 #include "play.h"
 
 /* Counts the lines of OUT that a sink made in its last session and the record doesn't count; says how many. False, with

@@ -6,7 +6,7 @@
 #include <stdbool.h>
 #include <stdint.h>
 
-#include "../sink/wire.h"
+#include "../../sink/wire.h"
 #include "cause.h"
 #include "motors.h"
 #include "play.h"

@@ -4,7 +4,7 @@
 
 #include <pthread.h>
 
-#include "../sink/sender.h"
+#include "../../sink/sender.h"
 #include "sink_link.h"
 #include "sink_words.h"
 

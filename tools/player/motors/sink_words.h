@@ -2,7 +2,7 @@
 #ifndef SINK_WORDS_H
 #define SINK_WORDS_H
 
-#include "../sink/sender.h"
+#include "../../sink/sender.h"
 #include "play.h"
 #include "way.h"
 

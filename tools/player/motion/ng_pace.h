@@ -32,7 +32,7 @@ struct ng_pace_line {
 /* A line that is given out, if one is. */
 struct ng_pace_given {
     uint64_t ns;     /* the next line isn't carried out before so many nanoseconds */
-    uint64_t ramp;   /* how much the square may change up to the next line */
+    uint64_t ramp;   /* how much the square may change up to the next line, either way */
     bool is_given;
     bool is_at_rest; /* whether everything stands still before the next line */
 };
