@@ -154,10 +154,11 @@ class Documents(InFolder):
         return Terminal(str(TOOLS / name), *words, "--ngc", ngc())
 
     def same_options(self, tool: str, text: str, synopsis: str) -> None:
-        """The options of the help stand in the chapter, and those of the synopsis are of the help."""
+        """The options of the help stand in the chapter, but for those that the page says of all tools, and those of the
+        synopsis are of the help."""
         known = set(re.findall(r"^  (--[a-z-]+)", cli(tool).make_parser().format_help(), re.MULTILINE))
         self.assertEqual(set(re.findall(r"--[a-z-]+", synopsis)) - known, set())
-        self.assertEqual({option for option in known - {"--ngc"} if option not in text}, set())
+        self.assertEqual({option for option in known - {"--ngc", "--version"} if option not in text}, set())
 
 
 class Pages(unittest.TestCase):
