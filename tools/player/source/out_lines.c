@@ -23,7 +23,7 @@ static struct window window;
 static bool is_bad;       /* the line behind what is known isn't one .. */
 static struct cause bad;  /* .. and why */
 static int64_t newest_at; /* when the last line was read */
-static uint64_t ended;    /* before this line all comes to rest, as it was said or had to be that no more come for now */
+static uint64_t ended;    /* before this line all rests, as it was said or had to be that no more come for now */
 static bool is_on_path;   /* behind the last line that was carried out the motors were to go on .. */
 static bool is_dry;       /* .. and came to rest, as there were no more lines */
 
@@ -223,17 +223,15 @@ static enum end prepare(struct engine *of, const struct line *line, bool *is_new
 }
 
 static void heed_given(struct engine *of, const struct ahead *ahead) {
-    if (of->pace.is_plain) {
-        return;
+    if (!of->pace.is_plain) {
+        is_on_path = ahead->move.line.kind == 'P' && of->first != ended;
+        window_leave(&window, of->first);
     }
-    is_on_path = ahead->move.line.kind == 'P' && of->first != ended;
-    window_leave(&window, of->first);
 }
 
 /* Waits a little: in a hold, or for more lines. */
 static void doze(struct play *play, bool is_held) {
-    const struct source *source = &play->player->source;
-    int file = source->is_pipe && !is_held ? source->file : -1;
+    int file = play->player->source.is_pipe && !is_held ? play->player->source.file : -1;
     struct pollfd on[2] = {{play->player->wake, POLLIN, 0}, {file, POLLIN, 0}};
     poll(on, 2, SLICE_MS / 2);
     if (on[0].revents & POLLIN) {
