@@ -191,8 +191,8 @@ static bool has_to_be_told(struct play *play) {
     static bool is_said;
     bool waits = atomic_load(&play->player->is_untold);
     if (waits && !is_said && engine_has_moves(&engine)) {
-        say("%s: lines came, and the motors moved without lines before: they stand until `at X Y Z` says that ngc knows"
-            " where", play->options->out);
+        say("%s: lines came, and the motors moved without lines before: they stand until `at X Y Z` says that ngc "
+            "knows where", play->options->out);
     }
     is_said = waits && (is_said || engine_has_moves(&engine));
     return waits;
@@ -261,11 +261,10 @@ static enum end await(struct engine *of, bool *is_over) {
         play->motors->doze();
         return CONTINUES;
     }
-    bool is_known = engine_has_moves(of);
     bool is_held = wanted(of) == 0;
     atomic_store(&play->player->stands_held, is_held);
     is_dry = is_dry || (is_on_path && !is_held);
-    if (!is_known) {
+    if (!engine_has_moves(of)) {
         return await_out(play, is_over);
     }
     if (!is_held && schedule_now() - newest_at >= STARVES_NS) {
