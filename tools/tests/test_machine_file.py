@@ -115,13 +115,15 @@ def changed(chance: random.Random, text: bytes, least: int = 1) -> bytes:
     return text
 
 
-def with_number(text: str, key: str, number: int) -> bytes:
-    """The text with all numbers of a key changed to this one."""
+def with_number(text: str, table: str, key: str, number: int) -> bytes:
+    """The text with all numbers of a key of a table, of the text's top where it is named "", changed to this one."""
+    before, name, rest = text.partition(f"[{table}]\n") if table else ("", "", text)
+    keys, end, behind = rest.partition("\n[")
     changed, count = re.subn(rf"(?m)(?<=^{key} = )[^#\n]*",
-                             lambda value: re.sub(r"[-+]?[\d_]+", str(number), value[0]), text)
+                             lambda value: re.sub(r"[-+]?[\d_]+", str(number), value[0]), keys)
     if count != 1:
-        raise AssertionError(f"{key} stands {count} times")
-    return changed.encode()
+        raise AssertionError(f"{key} stands {count} times in {table}")
+    return (before + name + changed + end + behind).encode()
 
 
 def found_in_machine(path: str) -> str:
@@ -257,10 +259,11 @@ class ByChance(InFolder):
 
     def test_ranges(self) -> None:
         """The numbers at both ends of each key's range, and those beyond them: both take the same ones."""
-        for kind, text, ranges in (("machine", MACHINE, {name: key.numbers for keys in machine._TABLES.values()
-                                                         for name, key in keys.items() if key.numbers}),
-                                   ("settings", FIRST, settings._RANGES)):
-            texts = [with_number(text, name, number) for name, numbers in ranges.items()
+        of_machine = {(table, name): key.numbers for table, keys in machine._TABLES.items()
+                      for name, key in keys.items() if key.numbers}
+        of_settings = {("", name): numbers for name, numbers in settings._RANGES.items()}
+        for kind, text, ranges in (("machine", MACHINE, of_machine), ("settings", FIRST, of_settings)):
+            texts = [with_number(text, table, name, number) for (table, name), numbers in ranges.items()
                      for number in (numbers[0] - 1, numbers[0], numbers[-1], numbers[-1] + 1)]
             self.assertGreater(self.compare(kind, texts), len(texts) // 3)
 
