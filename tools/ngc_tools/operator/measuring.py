@@ -33,7 +33,7 @@ _FASTEST_MM_MIN = 1500  # on the ways over the setter
 
 
 @dataclass(frozen=True, slots=True)
-class Kept:
+class KeptHeights:
     """The machine Z from which the setter is sought, and how far down from there at most, in nm."""
 
     down_nm: int
@@ -118,7 +118,7 @@ class Measuring:
         lengths = device.tools_nm[slot - 1:slot] if isinstance(device, Device) else []
         return f"it has {trimmed(lengths[0])} mm by now" if lengths else "it has no length"
 
-    def _touching(self, kept: Kept) -> Touching:
+    def _touching(self, kept: KeptHeights) -> Touching:
         """What makes the moves, within the ways there and back. Raises CannotTouch."""
         settings, report, over = self.session.settings, self.session.report(), self.touch.setter.at_nm
         if report is None or over is None:
@@ -131,7 +131,7 @@ class Measuring:
                 raise CannotTouch(f"the way to the setter leaves the travel: {trimmed(low)} to {trimmed(high)}")
         return Touching(self.moves, self.touch.setter.touches, settings.step_nm, box, "measure")
 
-    def _says(self, slot: int, kept: Kept, begun: list[int]) -> str:
+    def _says(self, slot: int, kept: KeptHeights, begun: list[int]) -> str:
         """What moves."""
         over = self.touch.setter.at_nm
         height = max(begun[2], over[2])
@@ -140,7 +140,7 @@ class Measuring:
                 f" setter is sought to Z{trimmed(kept.down_nm - kept.within_nm)} at most, and back the same way. No"
                 " move leaves that; measure from Z within MM says it otherwise\n")
 
-    def _touched(self, touching: Touching, kept: Kept, begun: list[int]) -> int | None:
+    def _touched(self, touching: Touching, kept: KeptHeights, begun: list[int]) -> int | None:
         """Where the setter was touched, once all is back; None, which is said, where something wasn't as it should."""
         over = self.touch.setter.at_nm
         height = max(begun[2], over[2])
@@ -159,7 +159,7 @@ class Measuring:
 
     # what is asked once
 
-    def _kept(self) -> Kept:
+    def _kept(self) -> KeptHeights:
         """Where the setter is sought, which is asked where nothing is kept. Raises CannotTouch."""
         kept = self._read()
         if kept is not None:
@@ -168,12 +168,12 @@ class Measuring:
         within = None if down is None else length_of(self.session.face.ask(_ASKED_WITHIN).strip())
         return self._keep(down, within)
 
-    def _keep(self, down: int | None, within: int | None) -> Kept:
+    def _keep(self, down: int | None, within: int | None) -> KeptHeights:
         """Keeps it. Raises CannotTouch where it isn't two numbers that can be gone."""
         over, low = self.touch.setter.at_nm, self.session.settings.low_nm[2]
         if over is None:
             raise CannotTouch(_NO_SETTER)
-        kept = None if down is None or within is None else Kept(down, within)
+        kept = None if down is None or within is None else KeptHeights(down, within)
         if kept is None or not kept.fits(over[2], low):
             raise CannotTouch(f"nothing moves: from a machine Z of at most {trimmed(over[2])}, at_um of [setter], and"
                               f" from there not below {trimmed(low)}, where the travel ends")
@@ -187,11 +187,11 @@ class Measuring:
                               " most from there")
         return kept
 
-    def _read(self) -> Kept | None:
+    def _read(self) -> KeptHeights | None:
         """What stands in the file, if it can be gone; None else."""
         over = self.touch.setter.at_nm
         with suppress(OSError, ValueError, TypeError):
-            kept = Kept(**json.loads(read_regular(self.path)))
+            kept = KeptHeights(**json.loads(read_regular(self.path)))
             if (over is not None and type(kept.down_nm) is int and type(kept.within_nm) is int
                     and kept.fits(over[2], self.session.settings.low_nm[2])):
                 return kept

@@ -13,12 +13,11 @@ from ngc_tools.operator.face import REFUSED, SAID, WARNING
 from ngc_tools.operator.modes import SYSTEMS, trimmed
 from ngc_tools.operator.moves import Moves
 from ngc_tools.operator.numbers import length_of
-from ngc_tools.operator.routines import (AXES, CENTRE, GO, ROUTINES, Found, Lengths, Plan, Routine, Touch, found_by,
+from ngc_tools.operator.routines import (AXES, CENTRE, GO, ROUTINES, Contact, Lengths, Plan, Probed, Routine, found_by,
                                          middle)
 from ngc_tools.operator.session import Session
 from ngc_tools.operator.setter import Probe, Touches
-from ngc_tools.operator.touch import Touch as TouchOff
-from ngc_tools.operator.touch import length_in
+from ngc_tools.operator.touch import Touch, length_in
 from ngc_tools.operator.touching import Box, CannotTouch, Touching
 
 _NO_PROBE = "the machine's file says nothing of a probe: probe_tool and probe_radius_um in its [setter]"
@@ -33,14 +32,14 @@ MOST_NM = 300_000_000
 
 
 @dataclass(frozen=True, slots=True)
-class Wanted:
+class TypedRoutine:
     """A routine as it was typed."""
 
     routine: Routine
     plan: Plan
 
 
-def read(rest: str) -> Wanted:
+def read(rest: str) -> TypedRoutine:
     """What is typed behind `probe`: a routine, its axes, and lengths in mm by their names. Raises CannotTouch, which
     says what it takes."""
     name, *words = rest.lower().split() or [""]
@@ -52,7 +51,7 @@ def read(rest: str) -> Wanted:
     lengths = _lengths(routine, given)
     if ways is None or lengths is None:
         raise CannotTouch(form_of(routine))
-    return Wanted(routine, routine.plan(ways, lengths))
+    return TypedRoutine(routine, routine.plan(ways, lengths))
 
 
 def form_of(routine: Routine) -> str:
@@ -83,7 +82,7 @@ def _lengths(routine: Routine, words: list[str]) -> Lengths | None:
 class Probing:
     """What `probe` does."""
 
-    def __init__(self, session: Session, moves: Moves, touch_off: TouchOff) -> None:
+    def __init__(self, session: Session, moves: Moves, touch_off: Touch) -> None:
         self.session, self.moves, self.touch_off = session, moves, touch_off
 
     def do(self, rest: str) -> None:
@@ -95,7 +94,7 @@ class Probing:
         except CannotTouch as why:
             self.session.face.say(str(why), REFUSED)
 
-    def _do(self, wanted: Wanted) -> None:
+    def _do(self, wanted: TypedRoutine) -> None:
         """Raises CannotTouch, before anything moves."""
         probe = self._checked(wanted.plan)
         touching = self._touching(wanted.plan)
@@ -142,9 +141,9 @@ class Probing:
                 raise CannotTouch(_LEAVES.format(axis=AXES[axis], to=trimmed(to), end=trimmed(end)))
         return Touching(self.moves, self.touch_off.setter.touches, settings.step_nm, box)
 
-    def _found(self, plan: Plan, touching: Touching, probe: Probe) -> Found | None:
+    def _found(self, plan: Plan, touching: Touching, probe: Probe) -> Probed | None:
         """Does the steps: what they found, None where one didn't go as it should, which is said."""
-        touches: list[Touch] = []
+        touches: list[Contact] = []
         try:
             begun = [touching.at(axis) for axis in range(3)]
             for step in plan.steps:
@@ -155,13 +154,13 @@ class Probing:
                     touching.go(step.axis, middle(touches, step.axis))
                 else:
                     sign = 1 if to > touching.at(step.axis) else -1
-                    touches.append(Touch(step.axis, sign, touching.touch(step.axis, to)))
+                    touches.append(Contact(step.axis, sign, touching.touch(step.axis, to)))
         except CannotTouch as why:
             self.session.face.say(f"probe {plan.name}: {why}", WARNING)
             return None
         return found_by(plan, touches, probe.radius_nm)
 
-    def _say(self, plan: Plan, found: Found) -> None:
+    def _say(self, plan: Plan, found: Probed) -> None:
         """Says what was found, in machine and in work coordinates."""
         device = self.session.stored()
         if not isinstance(device, Device):
@@ -176,7 +175,7 @@ class Probing:
             widths = " and ".join(rounded(nm) for nm in spans)
             self.session.face.say(f"along {AXES[axis]} it is {widths} mm wide", SAID)
 
-    def _offer(self, plan: Plan, found: Found) -> None:
+    def _offer(self, plan: Plan, found: Probed) -> None:
         """Asks whether what was found becomes the work's zero."""
         try:
             self.touch_off.zero_at(dict(found.at), plan.name)
@@ -184,7 +183,7 @@ class Probing:
             self.session.face.say(str(why), REFUSED)
 
 
-def _question(wanted: Wanted, box: Box, how: Touches) -> str:
+def _question(wanted: TypedRoutine, box: Box, how: Touches) -> str:
     """What is said before anything moves, and asked."""
     moved = [f"{AXES[axis]} from {trimmed(low)} to {trimmed(high)} ({rounded(high - low)} mm)"
              for axis, (low, high) in enumerate(box) if low != high]

@@ -124,7 +124,7 @@ ROUTINES: Mapping[str, Routine] = {each.name: each for each in (
 
 
 @dataclass(frozen=True, slots=True)
-class Touch:
+class Contact:
     """A touch of an axis in a direction, 1 or -1, at a machine coordinate."""
 
     axis: int
@@ -133,7 +133,7 @@ class Touch:
 
 
 @dataclass(frozen=True, slots=True)
-class Found:
+class Probed:
     """What a routine found: of each axis that it touched a machine coordinate of the work, and of those that it touched
     on both sides how wide the work is there, each time."""
 
@@ -141,7 +141,7 @@ class Found:
     widths: Mapping[int, tuple[int, ...]]
 
 
-def found_by(plan: Plan, touches: list[Touch], radius: int) -> Found:
+def found_by(plan: Plan, touches: list[Contact], radius: int) -> Probed:
     """What the touches of a whole routine, by a ball of that radius, say of the work. Of Z that is the ball's lowest
     point."""
     at: dict[int, int] = {}
@@ -154,10 +154,10 @@ def found_by(plan: Plan, touches: list[Touch], radius: int) -> Found:
             at[axis] = middle(touches, axis)
             spans = [abs(of[i].at - of[i + 1].at) for i in range(0, len(of), 2)]
             widths[axis] = tuple(span + (2 * radius if plan.is_inside else -2 * radius) for span in spans)
-    return Found(at, widths)
+    return Probed(at, widths)
 
 
-def middle(touches: list[Touch], axis: int) -> int:
+def middle(touches: list[Contact], axis: int) -> int:
     """The middle of the last two touches of an axis."""
     one, other = [touch.at for touch in touches if touch.axis == axis][-2:]
     return (one + other) // 2
