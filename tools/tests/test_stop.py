@@ -205,6 +205,7 @@ class OverFile(Stopping):
         state = self.until("it asks for the tool", lambda s: s["waits"])
         self.assertEqual((state["can"]["off"], state["can"]["stop"]), (bool(state["spindle"]), True))
         state = self.stop()
+        self.assertEqual(self.seen.post("go"), (409, {"why": "Stop ends the job: no tool is asked for any more"}))
         self.seen.agree(state)
         state = self.until("it is over", lambda s: not s["busy"] and s["does"] == "idle")
         self.assertEqual((state["waits"], state["half"], state["slot"], state["word"]), (False, "none", 0, "Idle"))

@@ -81,8 +81,8 @@ class Told(unittest.TestCase):
         for unit, motors in (("mm", ["3.300", "5.425", "4.790"]), ("in", ["0.1299", "0.2136", "0.1886"])):
             before = Seen(0.0, {"motors": motors, "units": [unit] * 3, "question": None})
             Walk._told_place(walk, [{"what": "reference", "body": '{"at": "player"}'}], before)
-            for axis, (given, off) in enumerate(zip(walk.truth.offset, (0.0, 0.005, 0.0))):
-                self.assertAlmostEqual(given, off, 6, (unit, axis))
+            for axis, (found, off) in enumerate(zip(walk.truth.offset, (0.0, 0.005, 0.0))):
+                self.assertAlmostEqual(found, off, 6, (unit, axis))
 
 
 class WaysOn(unittest.TestCase):

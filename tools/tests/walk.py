@@ -220,7 +220,10 @@ class Walk:
             self._confirms(before, button)
         if not before.buttons[button]["chosen"]:
             self._answered(text, before.buttons[button]["says"], before)
-        self._told_place(self.tabs.posts(before.posts), before)
+        posts = self.tabs.posts(before.posts)
+        if any(post["what"] == "go" and post["ok"] is False for post in posts):
+            self.truth.tool = None  # that it is in wasn't taken
+        self._told_place(posts, before)
         return True
 
     def _stops(self) -> None:

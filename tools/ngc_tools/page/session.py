@@ -223,6 +223,11 @@ class PageSession:
         """Whether a command is under way."""
         return self.under is not None or self._next is not None or self._stops
 
+    @property
+    def _is_stopping(self) -> bool:
+        """Whether Stop is under way, or comes next."""
+        return self._stops or self.under is not None and self.under.word == "stop"
+
     def give(self, word: str, does: Callable[[], Any], holds: int | None = None) -> SessionCommand:
         """Gives the session's thread something to do, which was asked for now, or when there had been so many wishes to
         hold. Raises Busy."""
@@ -263,6 +268,8 @@ class PageSession:
         if word == "go" and self.face.says_go():
             return
         with self._wake:
+            if word == "go" and self._is_stopping:
+                raise Busy("Stop ends the job: no tool is asked for any more")
             if word in _ASIDES and self.is_busy:
                 self.face.give_aside(line, holds)
             else:

@@ -142,6 +142,7 @@ function running(s) {
   if (s.ended) return ['Run', false, null];
   if (s.question) return ['Answer first', false, null];
   if (isThere(s)) return alarm.button(s);
+  if (s.command?.word === 'stop') return ['Stopping\u2026', false, null];
   const isIn = s.waits_tool ? `Tool ${s.waits_tool} is in` : 'Tool is out';
   if (s.waits && !s.player_gone) return [isIn, may(s, 'go'), () => asks('go')];
   if (s.door_open && s.held_by && !isHalf) return ['Close the door', false, null];
