@@ -917,7 +917,8 @@ class Faces(unittest.TestCase):
         """A tool that comes on the way of recover is in once somebody says so by the button of tool changes too; no
         other question is answered by it."""
         session = PageSession.__new__(PageSession)
-        session.face, session._wake, session._next, session.under = self.face, threading.Condition(), None, "recover"
+        session.face, session._wake, session._next, session._stops = self.face, threading.Condition(), None, False
+        session.under = SimpleNamespace(word="recover")
         self.face.begin(0)
         self.looks = [lambda _: session.tell("go")]
         self.assertEqual(self.face.ask(f"tool 2 comes on the way: put it in{TYPE_GO}"), "go")
