@@ -118,7 +118,7 @@ class Levels(InFolder):
         held since: what would start by it is kept back, and what is asked for after the hold isn't."""
         session, level = PageSession.__new__(PageSession), []
         session.face, session._stops, session._wake = PageFace(), False, threading.Condition()
-        session._next, session.under = None, "run"
+        session._next, session.under = None, SimpleNamespace(word="run")
         session.operator = SimpleNamespace(do=lambda line: None)
         for asked in (None, 1, None):
             session.tell("go", asked)

@@ -74,7 +74,7 @@ _WEIGHTS: tuple[tuple[str, float], ...] = (
     (r"^(Top|3-D|Fit|Light|Dark|All that)", 0.2), (r"^Quit", 0.25), (r"^(Load\u2026|Hold|Do$|Read the macros)", 0),
 )
 _WAYS_ON = (
-    r"Take over", r"Yes, give it up", r"Yes: cuts", r"(They|It) stand", r"Tool .* (is in|is out|in)$", r"Home$",
+    r"Take over", r"Yes, give it up", r"Yes: (cuts|drops)", r"(They|It) stand", r"Tool .* (is in|is out|in)$", r"Home$",
     r"Drop", r"Give up",
     r"Where is", r"Where the player counts", r"No\b", r"Next", r"Confirm", r"Start ngc again", r"Stop", r"Yes",
     r"It is done", r"Recover", r"Home all$",
