@@ -71,13 +71,21 @@ def cases_of(path: Path) -> Iterator[tuple[str, list[Part]]]:
 
 
 class Cases:
-    """Cases in a folder of their own, which is emptied for each."""
+    """Cases in a folder of their own, which is emptied for each. Of `every` cases one is run."""
 
-    def __init__(self, words: list[str], data: Path, folder: Path) -> None:
+    def __init__(self, words: list[str], data: Path, folder: Path, every: int = 1) -> None:
         self.words, self.data, self.folder, self.handed = words, data, folder, b""
+        self.every, self.found, self.ran = every, 0, 0
+
+    def _is_chosen(self) -> bool:
+        """Whether the next case is one that is run; it counts both."""
+        self.found += 1
+        is_chosen = self.found % self.every == 0
+        self.ran += is_chosen
+        return is_chosen
 
     def count(self, path: Path) -> int:
-        """Runs the cases of a file, and returns how many they are. Raises Wrong with the title of one that is wrong."""
+        """Runs cases of a file, and returns how many it has. Raises Wrong with the title of one that is wrong."""
         count = 0
         for title, parts in cases_of(path):
             try:
@@ -87,19 +95,21 @@ class Cases:
         return count
 
     def _run(self, kind: str, parts: list[Part]) -> int:
-        """Runs a case of this kind, and returns how many it is."""
+        """Runs a case of this kind, if it is chosen, and returns how many it is."""
         if kind == ".refused":
             return self._refused(parts)
-        return self._dry(parts) if kind == ".dry" else self._steps(parts, kind == ".run")
+        if self._is_chosen():
+            self._dry(parts) if kind == ".dry" else self._steps(parts, kind == ".run")
+        return 1
 
     def _refused(self, parts: list[Part]) -> int:
         rows = parts[0].text.split(b"\n")[:-1]
-        for row in rows:
+        for row in filter(lambda _: self._is_chosen(), rows):
             line, _, fault = row.partition(b" | ")
             self._dry([Part("", text=line), Part("writes", text=b"REFUSED line 1: " + fault + b"\n")])
         return len(rows)
 
-    def _dry(self, parts: list[Part]) -> int:
+    def _dry(self, parts: list[Part]) -> None:
         found = {part.verb: part for part in parts if part.verb or part.text}
         program = found.get("program") or found.get("") or Part("")
         (self.folder / "program.ngc").write_bytes(program.text)
@@ -110,9 +120,8 @@ class Cases:
         writes = found["writes"].text
         refused = writes.rstrip(b"\n").rpartition(b"\n")[2].startswith(b"REFUSED ")
         self._call(Part("$", words, text=writes), 2 if "status" in found else int(refused))
-        return 1
 
-    def _steps(self, parts: list[Part], has_mill: bool) -> int:
+    def _steps(self, parts: list[Part], has_mill: bool) -> None:
         """A case of an operator, who has a mill, or of command lines, step by step."""
         for path in sorted(self.folder.rglob("*"), reverse=True):
             path.rmdir() if path.is_dir() else path.unlink()
@@ -128,7 +137,6 @@ class Cases:
                 steps.append(part)
         for step in steps:
             self._step(step)
-        return 1
 
     def _step(self, step: Part) -> None:
         status = int(step.said["status"].name) if "status" in step.said else 0

@@ -1,6 +1,5 @@
 #!/bin/sh
-# Lines a second of `ngc pace`, with the lines written and with `--total`, beside the players' pacer in C (tools/player)
-# over the same OUT. It ends with status 1 where the two print something else.
+# Lines a second of `ngc pace`, with the lines written and with `--total`.
 #
 # usage, at the top of the repository: bench/pace.sh [--ngc PATH] [--rounds N] [--instructions] [OUT..]
 #
@@ -60,12 +59,6 @@ period_us = 50
 tools_nm = []
 TOML
 printf '[motion]\naccel_mm_s2 = [500, 500, 500]\n' > "$work/player.toml"
-player=$here/../tools/player
-cc=$(command -v clang || command -v gcc || command -v cc)
-make -s -C "$player" archives
-"$cc" -O2 -I "$player/motion" -I "$player/source" -I "$player/files" -o "$work/times" "$here/pace/times.c" \
-    "$player/motion/pace.c" "$player/motion/pace_memory.c" "$player/source/line.c" "$player/files/cause.c" \
-    "$player/files/utf8.c" "$player"/out/lib*.a 2> "$work/log" || { cat "$work/log"; exit 1; }
 
 # The processor seconds of a command, the best of the rounds.
 seconds() {
@@ -88,14 +81,10 @@ instructions_of() {
 
 for out in "$@"; do
     count=$(wc -l < "$out")
-    "$ngc" pace "$work/mill.toml" "$work/player.toml" < "$out" > "$work/by_ngc"
-    "$work/times" 200000 < "$out" > "$work/by_c"
-    cmp "$work/by_ngc" "$work/by_c" || exit 1
     for total in "" --total; do
         by_ngc=$(seconds "$out" "$ngc" pace "$work/mill.toml" "$work/player.toml" $total)
-        by_c=$(seconds "$out" "$work/times" 200000 $total)
-        awk -v name="$(basename "$out") $total" -v count="$count" -v ngc="$by_ngc" -v c="$by_c" 'BEGIN {
-            printf "%s: %d lines, %.2f million a second, C %.2f\n", name, count, count / ngc / 1e6, count / c / 1e6 }'
+        awk -v name="$(basename "$out") $total" -v count="$count" -v ngc="$by_ngc" 'BEGIN {
+            printf "%s: %d lines, %.2f million a second\n", name, count, count / ngc / 1e6 }'
     done
     if [ -n "$instructions" ]; then
         head -n $((count / 2)) "$out" > "$work/half"

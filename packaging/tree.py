@@ -17,8 +17,8 @@ TOP = Path(__file__).resolve().parent.parent
 FILES = Path(__file__).resolve().parent / "files"
 sys.path.insert(0, str(TOP / "tools"))
 
-from ngc_tools.formats.settings import Settings  # noqa: E402
-from ngc_tools.setup.texts import machine_text, settings_text  # noqa: E402
+from ngc_tools.formats.settings import Settings
+from ngc_tools.setup.texts import machine_text, settings_text
 
 MILL = Settings((5000, 5000, 2500), (-150_000_000, -100_000_000, -200_000_000), (150_000_000, 100_000_000, 0),
                 3 * 10**9, 50, ())
@@ -103,6 +103,7 @@ class Tree:
             text = path.read_bytes().replace(_SHEBANG, b"#!/usr/bin/python3\n")
             self.put(f"usr/share/ngc/{path.name}", text, 0o755)
             os.symlink(f"../share/ngc/{path.name}", self.root / "usr/bin" / path.name)
+        self.copy(tools / "start.py", "usr/share/ngc/start.py")
         for path in tracked(tools / "ngc_tools"):
             self.copy(path, f"usr/share/ngc/{path.relative_to(tools)}")
         self.copy(tools / "posts/ngc_post.py", "usr/share/ngc/posts/ngc_post.py")
@@ -165,7 +166,7 @@ def pages(helps: dict[str, str]) -> dict[str, tuple[str, str, list[manual.Text]]
              "ngc-address": ("1", _ADDRESS, [manual.Text("ngc-address", helps["ngc-address"])]),
              "player": ("8ngc", _PLAYER, [manual.Text("player", player_words())])}
     for path in sorted((TOP / "tools").glob("ngc-*")):
-        about = re.search(r'^"""(.*?)[.:] ?(?:see `[^`]*`\.)?"""', path.read_text(), re.MULTILINE)[1]
+        about = re.match("[^.,:(]*[^.,:( ]", helps[path.name].split("\n\n")[1])[0]
         found[path.name] = ("1", about[0].lower() + about[1:], [manual.Text(path.name, helps[path.name])])
     return found
 
@@ -190,7 +191,7 @@ def player_words() -> str:
     words = re.sub("player (?=\\[|--)", "/usr/libexec/ngc/player ", words)
     return (f"{words}\n\nCarries out the lines of OUT, each in its time or with ramps, over a step sink, and keeps in"
             " POSITION how far it came. What each word means, and what its socket answers, stands in"
-            " /usr/share/doc/ngc/docs/TOOLS.md and OUTPUT.md. Each word has a short and a long form."
+            " /usr/share/doc/ngc/docs/tools/player.md and PROTOCOL.md. Each word has a short and a long form."
             " ngc-player.service runs it.\n")
 
 

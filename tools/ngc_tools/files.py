@@ -87,6 +87,15 @@ def open_without_waiting(path: str, flags: int) -> int:
     return os.open(path, flags | os.O_NONBLOCK | os.O_NOCTTY | os.O_CLOEXEC)
 
 
+def sync_folder(path: str | Path) -> None:
+    """Makes the name of a file lasting, that it is there or that it is gone. Raises OSError."""
+    folder = os.open(os.path.dirname(path) or ".", os.O_RDONLY | os.O_DIRECTORY | os.O_CLOEXEC)
+    try:
+        os.fsync(folder)
+    finally:
+        os.close(folder)
+
+
 def _all(file: BinaryIO, most: int) -> bytes:
     data = file.read(most + 1)
     if len(data) > most:
@@ -140,11 +149,10 @@ def look_before_write(path: str | Path, inputs: Iterable[str | Path | None], for
     if _is_null(path) or _is_open_output(path):
         return
     try:
-        mode = os.stat(path).st_mode
+        with naming(path):
+            mode = os.stat(path).st_mode
     except FileNotFoundError:
         return
-    except OSError as error:
-        raise OSError(error.errno, error.strerror, str(path)) from None
     if stat.S_ISDIR(mode):
         raise IsADirectoryError(errno.EISDIR, "Is a directory", str(path))
     if not stat.S_ISREG(mode):

@@ -249,4 +249,5 @@ bool alarm_takes_place(const struct player *player, const int64_t steps[3]) {
 void alarm_end(struct player *player) {
     player->alarm = NO_ALARM;
     player->stopped = "";
+    player->is_unsure = false;
 }

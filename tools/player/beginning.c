@@ -87,7 +87,8 @@ static bool begin_record(struct player *player, const struct options *options, s
     player->bytes = record.bytes;
     player->is_off = goes_on && record.is_off;
     player->is_sure = options->has_place;
-    atomic_store(&player->is_untold, record.is_off && !options->has_place);
+    player->is_unsure = strcmp(record.stopped, RECORD_MOVING) == 0 && !options->has_place;
+    atomic_store(&player->is_untold, (record.is_off || player->is_unsure) && !options->has_place);
     player->told_at[0] = INT64_MIN; /* which is no place */
     player->outputs = record.outputs;
     outputs_stop(&player->outputs);
@@ -99,13 +100,16 @@ static bool begin_record(struct player *player, const struct options *options, s
         player->steps[axis] = in_steps(nm, player->step_nm[axis]);
         player->screws[axis] = has_screw ? record.screws[axis] : SCREW_UNKNOWN;
     }
+    bool is_there = player->has_path && memcmp(player->path, player->steps, sizeof player->path) == 0;
+    player->is_off = player->is_off && !is_there; /* no pulse came that led away */
     return true;
 }
 
 /* Whether somebody can say that `ngc` knows where the machine is, if the last player moved it without lines. */
 static bool can_be_told(const struct player *player, const struct options *options, struct cause *why) {
     bool has_to_be = atomic_load(&player->is_untold) && !options->goes;
-    return !has_to_be || (options->socket != NULL && options->machine != NULL)
+    bool can_be = options->socket != NULL && (options->machine != NULL || !player->left.is_off);
+    return !has_to_be || can_be
         || because(why, "%s: the motors were moved without lines, and ngc may not know where they are: --at X Y Z tells"
                    " where the machine stands", options->position);
 }

@@ -2,8 +2,8 @@
  *
  *     make
  *
- * docs/TOOLS.md says what it does. What drives the motors is pins.c, which a builder replaces. Nothing is allocated once
- * it plays. */
+ * docs/tools/player.md says what it does. What drives the motors is pins.c, which a builder replaces. Nothing is
+ * allocated once it plays. */
 #define _GNU_SOURCE
 #include <errno.h>
 #include <fcntl.h>
@@ -27,7 +27,7 @@
 
 enum { NS_PER_MS = 1000000 };
 
-static struct player player = {.socket = -1, .wake = -1, .stopped = "", .tool = NO_TOOL, .percent = 100,
+static struct player player = {.socket = -1, .wake = -1, .keep = -1, .stopped = "", .tool = NO_TOOL, .percent = 100,
                                .spindle_percent = 100, .last = UINT64_MAX};
 
 static int fail(const struct cause *why) {
@@ -184,6 +184,7 @@ int main(int count, char **given) {
     heed_signals();
     prctl(PR_SET_TIMERSLACK, 1, 0, 0, 0);
     player.wake = eventfd(0, EFD_NONBLOCK | EFD_CLOEXEC);
+    player.keep = eventfd(0, EFD_NONBLOCK | EFD_CLOEXEC);
     bool has_begun = player_begin(&player, &options, &settings, &play.machine, &why);
     play.player = &player;
     play.options = &options;

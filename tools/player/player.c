@@ -1,13 +1,14 @@
 #define _POSIX_C_SOURCE 200809L
 #include "player.h"
 
+#include <poll.h>
 #include <stdio.h>
 #include <string.h>
-#include <time.h>
+#include <sys/eventfd.h>
 
 #include "schedule.h"
 
-enum { KEEPS_NS = 20000000, NS_PER_MS = 1000000 };
+enum { KEEPS_MS = 20, NS_PER_MS = 1000000 };
 
 void player_lock(struct player *player) {
     pthread_mutex_lock(&player->lock);
@@ -21,6 +22,15 @@ void player_place(const struct player *player, int64_t nm[3]) {
     for (int axis = 0; axis < 3; axis++) {
         nm[axis] = player->steps[axis] * player->step_nm[axis];
     }
+}
+
+/* What the record says of how the player ended, or would say if it were gone now. The lock is held. */
+static const char *stopped_by(const struct player *player) {
+    bool is_moving = player->is_amid_move || player->is_unsure;
+    if (player->is_over_sink && player->stopped[0] == '\0') {
+        return "killed"; /* the sink can be asked */
+    }
+    return is_moving && player->alarm == NO_ALARM ? RECORD_MOVING : player->stopped;
 }
 
 void player_record(struct player *player, struct record *record) {
@@ -40,8 +50,8 @@ void player_record(struct player *player, struct record *record) {
     for (int axis = 0; axis < 3; axis++) {
         record->path[axis] = player->path[axis] * player->step_nm[axis];
     }
-    bool is_open = player->is_over_sink && player->stopped[0] == '\0';
-    snprintf(record->stopped, sizeof record->stopped, "%s", is_open ? "killed" : player->stopped);
+    snprintf(record->stopped, sizeof record->stopped, "%s", stopped_by(player));
+    record->moves = player->moves;
     unsigned worst_ms = atomic_load(&player->worst_ms);
     record->age_ms = worst_ms != 0 ? worst_ms : player->left.age_ms;
     player_unlock(player);
@@ -74,6 +84,7 @@ void player_doing(struct player *player, char *text, size_t room) {
     bool is_alarm = player->alarm != NO_ALARM;
     bool is_broken = player->is_broken;
     bool moves = player->manual.is_there;
+    bool is_unsure = player->is_unsure;
     player_unlock(player);
     const char *word = "works";
     if (is_alarm) {
@@ -82,6 +93,8 @@ void player_doing(struct player *player, char *text, size_t room) {
         word = "moves";
     } else if (is_broken) {
         word = "broken";
+    } else if (is_unsure) {
+        word = "unsure";
     } else if (atomic_load(&player->is_untold)) {
         word = "moved";
     } else if (atomic_load(&player->stands_held)) {
@@ -153,10 +166,13 @@ static void keep(struct player *player) {
 
 void *record_keep(void *shared) {
     struct player *player = shared;
-    const struct timespec pause = {0, KEEPS_NS};
+    struct pollfd at_once = {player->keep, POLLIN, 0};
+    eventfd_t events;
     while (!atomic_load(&player->over)) {
         keep(player);
-        nanosleep(&pause, NULL);
+        if (poll(&at_once, 1, KEEPS_MS) > 0) {
+            eventfd_read(player->keep, &events);
+        }
     }
     return NULL;
 }

@@ -33,6 +33,7 @@ struct player {
     struct keeper keeper;
     int socket; /* -1 where nobody can ask */
     int wake;   /* an event: there are lines in hand */
+    int keep;   /* an event: the record is to be written at once */
 
     pthread_mutex_t lock;
     /* Under `lock`. */
@@ -50,6 +51,9 @@ struct player {
     unsigned homed;      /* the axes that were homed since it began and no alarm came; bit 0 is X */
     bool is_off;         /* the motors left the path of OUT by a move without lines, and no line came since */
     bool is_sure;        /* where they are was told by a person, or by the sink, since it began */
+    bool is_amid_move;   /* they move without lines, or along a way: a record that stays says so */
+    uint64_t moves;      /* how often that began */
+    bool is_unsure;      /* the last player's record stayed so, and nobody told since where the motors are */
     bool has_path;       /* the motors left the path of OUT, and it is known where .. */
     int64_t path[3];     /* .. in steps: there the lines lead that are carried out */
     int64_t told_at[3];  /* where `ngc` took the motors to be as they moved without lines, in steps */

@@ -5,6 +5,7 @@
 #include <poll.h>
 #include <stdio.h>
 #include <string.h>
+#include <sys/eventfd.h>
 #include <time.h>
 
 #include "askers.h"
@@ -13,7 +14,7 @@
 #include "person.h"
 #include "spindle.h"
 
-enum { SLICE_NS = SLICE_MS * 1000000 };
+enum { SLICE_NS = SLICE_MS * 1000000, SYNC_MS = 1 };
 
 static atomic_int stops; /* how often it is asked to stop */
 
@@ -147,6 +148,11 @@ static void break_off(struct player *player) {
     player_unlock(player);
 }
 
+/* Begins another session. A sink isn't to halt any more at a switch to which a move went that was broken off. */
+static bool begins_another(struct play *play) {
+    return anew_begin(play) && play->motors->begin_anew(play, play->stops_at, 0, 0);
+}
+
 bool await_record(struct play *play) {
     struct player *player = play->player;
     if (player->socket < 0 || strcmp(player->stopped, "record") != 0 || atomic_load(&stops) > 0 || !play->motors->switch_off(play)) {
@@ -160,10 +166,45 @@ bool await_record(struct play *play) {
         alarm_look(play);
         poll(NULL, 0, SLICE_MS);
         if (anew_is_wanted(player) && atomic_load(&player->record_error) == 0) {
-            return anew_begin(play);
+            bool begins = begins_another(play);
+            if (begins || atomic_load(&player->record_error) == 0) {
+                return begins;
+            }
+            break_off(player);
         }
     }
     return false;
+}
+
+/* Whether the record on the disk is none of before the move. In an alarm it says that nobody knows where they are, and
+ * a sink can be asked. */
+static bool is_marked(struct player *player) {
+    player_lock(player);
+    bool is_marked = player->kept.moves == player->moves || player->alarm != NO_ALARM || player->is_over_sink;
+    player_unlock(player);
+    return is_marked;
+}
+
+bool await_mark(struct play *play) {
+    struct player *player = play->player;
+    player_lock(player);
+    player->is_amid_move = true;
+    player->moves++;
+    player_unlock(player);
+    eventfd_write(player->keep, 1);
+    while (!is_marked(player)) {
+        if (is_rest_asked(play) && heed_stops(play)) { /* inputs are looked at by what moves */
+            return false;
+        }
+        poll(NULL, 0, SYNC_MS);
+    }
+    return true;
+}
+
+void end_mark(struct play *play) {
+    player_lock(play->player);
+    play->player->is_amid_move = false;
+    player_unlock(play->player);
 }
 
 /* Whether the console died while a person is asked for a tool. */

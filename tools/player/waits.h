@@ -44,6 +44,13 @@ bool await_look(struct play *play);
  * Whether another one follows, once the record can be kept: not where it has to stop before. */
 bool await_record(struct play *play);
 
+/* Has the record on the disk say that the motors move without lines, or along a way, before they do: from then on a
+ * loss of power leaves that. False where the play has to stop before. */
+bool await_mark(struct play *play);
+
+/* They rest: the record doesn't say it any more. */
+void end_mark(struct play *play);
+
 /* Whether nobody can release a hold any more, as the console is gone: then the play has to stop. */
 bool is_left_held(struct play *play);
 

@@ -21,6 +21,7 @@ bool device_obey(const char *line);   /* does a line of its own; false where it 
 /* Bytes come over the line: a frame, or several. Takes what has come; whether its clock has to go on for that. */
 void device_give(const uint8_t *bytes, size_t size);
 bool device_takes(void);
+bool device_has_room(void);           /* whether the line takes more: where it doesn't, a sender waits */
 
 /* What the device tells the bench: its pins made a step, or switched; it sends bytes. */
 void bench_step(uint64_t tick, uint8_t steps, uint8_t down);

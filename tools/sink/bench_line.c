@@ -145,7 +145,7 @@ void line_receive(unsigned long bytes) {
 void line_take_frames(void) {
     static struct way way;
     uint8_t bytes[4096];
-    size_t size = read_some(bytes, sizeof bytes);
+    size_t size = device_has_room() ? read_some(bytes, sizeof bytes) : 0;
     for (size_t at = 0; at < size; at++) {
         int times = 1;
         size_t passed = follow(&way, bytes[at], &times);

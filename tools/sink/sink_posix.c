@@ -80,6 +80,10 @@ bool device_takes(void) {
     return false;
 }
 
+bool device_has_room(void) {
+    return true;
+}
+
 void device_see(uint16_t levels) {
     inputs = levels;
 }

@@ -18,6 +18,8 @@ ANSWERS_S = 5 * PATIENCE_S
 _APART_S = 0.04
 _LOOKS = int(PATIENCE_S / _APART_S)
 _LONGEST_S = 20 * PATIENCE_S
+_KEYS = {"ArrowLeft": 37, "ArrowUp": 38, "ArrowRight": 39, "ArrowDown": 40, "PageUp": 33, "PageDown": 34, "+": 107,
+         "-": 109, "x": 88, "y": 89, "z": 90, "a": 65}
 NAMES = ("chromium", "chromium-browser", "google-chrome")
 WORDS = ("--headless=new", "--no-sandbox", "--disable-gpu", "--no-first-run", "--disable-background-networking",
          "--disable-component-update", "--disable-sync", "--disable-extensions", "--hide-scrollbars", "--mute-audio",
@@ -39,6 +41,12 @@ LONG = """Math.max(0, ...[...document.querySelectorAll('#over:has(.steps) .words
 def chromium() -> str | None:
     """The path of Chromium, or None where it isn't installed."""
     return next(filter(None, map(shutil.which, NAMES)), None)
+
+
+def processor_s(browser: "Chromium") -> float:
+    """The processor time that its page took, in seconds, once the domain Performance is enabled."""
+    metrics = browser.call("Performance.getMetrics")["metrics"]
+    return next(one["value"] for one in metrics if one["name"] == "TaskDuration")
 
 
 class Failed(AssertionError):
@@ -254,6 +262,11 @@ class Chromium(Browser):
     def type(self, text: str) -> None:
         """Types into the entry that has the focus."""
         self.call("Input.insertText", text=text)
+
+    def key(self, kind: str, key: str, **more: object) -> None:
+        """A key goes down, by `rawKeyDown`, or up, by `keyUp`."""
+        code = key if len(key) > 1 else {"+": "NumpadAdd", "-": "NumpadSubtract"}.get(key, f"Key{key.upper()}")
+        self.call("Input.dispatchKeyEvent", type=kind, key=key, code=code, windowsVirtualKeyCode=_KEYS[key], **more)
 
     def forget(self) -> None:
         """Forgets what was logged and asked for."""

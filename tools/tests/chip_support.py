@@ -32,14 +32,25 @@ def has_compiler() -> bool:
 
 @cache
 def chip_folder(board: str = "stm32f103") -> Path:
-    """The folder of a board's ELF, emulate-CHIP and libCHIP.so: built once for all tests of a run."""
+    """The folder of a board's ELF and of what is made of it: built once for all tests of a run."""
     folder = Path(builds(), f"chip-{board}")
     with open(f"{folder}.lock", "w") as lock:
         fcntl.flock(lock, fcntl.LOCK_EX)
         if not folder.exists():
-            make_chip(SINK, Path(f"{folder}.part"), board)
+            make_chip(SINK, Path(f"{folder}.part"), board, "arm")
             os.rename(f"{folder}.part", folder)
     return folder
+
+
+@cache
+def chip_model(board: str, name: str) -> Path:
+    """The path of a board's emulated chip, a program or a library: built once for all tests of a run."""
+    path = chip_folder(board) / name
+    with open(f"{path.parent}.lock", "w") as lock:
+        fcntl.flock(lock, fcntl.LOCK_EX)
+        if not path.exists():
+            make_chip(SINK, path.parent, board, str(path))
+    return path
 
 
 def elf_of(board: str) -> str:
@@ -47,8 +58,8 @@ def elf_of(board: str) -> str:
     return str(chip_folder(board) / f"{board}.elf")
 
 
-def make_chip(sink: Path, folder: Path, board: str, target: str = "emulate") -> None:
-    """Has make build it of a folder as tools/sink is."""
+def make_chip(sink: Path, folder: Path, board: str, target: str) -> None:
+    """Has make build a target of a folder as tools/sink is."""
     words = ["make", "-C", sink, f"OUT={folder}", f"BOARD={board}", target]
     done = subprocess.run(words, capture_output=True, text=True)
     if done.returncode:
@@ -71,7 +82,7 @@ ROOM = 65_536
 @cache
 def library(name: str) -> ctypes.CDLL:
     """The model of a board's chip, with its types (tools/sink/emulator/model.h)."""
-    found = ctypes.CDLL(str(chip_folder(name) / f"lib{BOARDS[name].chip}.so"))
+    found = ctypes.CDLL(str(chip_model(name, f"lib{BOARDS[name].chip}.so")))
     found.model_load.restype = found.model_run.restype = found.model_set.restype = ctypes.c_bool
     found.model_run.argtypes = found.model_power_off.argtypes = [ctypes.c_uint64]
     found.model_turn_at.argtypes = [ctypes.c_uint64, ctypes.c_int, ctypes.c_int]

@@ -1,5 +1,6 @@
 """Firefox without a window, driven by its own remote protocol, Marionette, which needs nothing but Firefox; and the
 choice of a browser: Chromium, or Firefox where the environment has NGC_BROWSER=firefox."""
+import atexit
 import base64
 import json
 import os
@@ -8,6 +9,7 @@ import socket
 import subprocess
 import tempfile
 import time
+from functools import cache
 from pathlib import Path
 
 from browser_support import ANSWERS_S, Browser, Chromium, Failed, chromium
@@ -191,3 +193,11 @@ MISSING = f"{'Firefox' if IS_FIREFOX else 'Chromium'} isn't installed: tools/tes
 def start() -> Browser:
     """Starts the browser. Raises OSError or Failed."""
     return (Firefox if IS_FIREFOX else Chromium)(PATH or "")
+
+
+@cache
+def started() -> Browser:
+    """One browser for all tests of a process: to start one costs seconds. Raises as `start`."""
+    browser = start()
+    atexit.register(browser.close)
+    return browser

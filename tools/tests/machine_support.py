@@ -17,9 +17,10 @@ ASKS = 3
 
 
 class Axes:
-    """The axes of a machine, and what they do. `home` leads to `home_at`; the probe is on at `probe_nm` of Z, and a
-    stop takes `way_nm` more. `switches` are the axes that can be homed. `refuses` is why a move is refused, `fails` how
-    one ends; both are for one move. An alarm comes at the question of the number `alarm_at`."""
+    """The axes of a machine, and what they do; a move is over after `asks` questions. `home` leads to `home_at`; the
+    probe is on at `probe_nm` of Z, and a stop takes `way_nm` more. `switches` are the axes that can be homed. `refuses`
+    is why a move is refused, `fails` how one ends; both are for one move. An alarm comes at the question of the number
+    `alarm_at`."""
 
     def __init__(self) -> None:
         self.at_nm = [0, 0, 0]
@@ -33,6 +34,7 @@ class Axes:
         self.machine = self.stands
         self.words: list[str] = []
         self.asked = self.alarm_at = 0
+        self.asks = ASKS
         self._left = 0  # questions until the move is over
         self._goal: list[int] = []
         self._number = 0
@@ -61,7 +63,7 @@ class Axes:
             return "refused the alarm stands: home comes first"
         if self.machine is not self.stands:
             return "refused a move is under way"
-        self._number, self._left = int(words[1]), ASKS
+        self._number, self._left = int(words[1]), self.asks
         length = nanometres(words[5]) if words[-2:-1] == ["for"] else 0
         self._goal = self.home_at if words[0] == "home" else self._along(words[2], length)
         self.machine = replace(self.stands, does=" ".join([words[0], *words[2:3]]) if words[2:] else "home Z")
@@ -88,6 +90,10 @@ class Axes:
         if self._left == 0:
             self._end(self.fails or "done")
         return self.machine
+
+    def finish(self) -> None:
+        """A move that goes on for so many questions comes to its end."""
+        self._left = 1
 
     def alarm(self, cause: str) -> None:
         """The motors stand at once."""

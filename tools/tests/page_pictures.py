@@ -14,6 +14,7 @@ from pathlib import Path
 sys.path.insert(0, str(Path(__file__).resolve().parent))
 
 from firefox_support import PATH, start
+from out_support import text_of
 from session_support import TOOLS
 from test_documents import blocks, chapters
 from test_moves import PROBE, World
@@ -193,7 +194,7 @@ class Pictures(Walk):
         self.browser.wait("document.getElementById('lost').checkVisibility()")
         self.shoot("lost")
         record = replace(self.recorded(), age_ms=23)  # as on a computer that has time for it
-        Path("position").write_bytes(record.text())
+        Path("position").write_bytes(text_of(record))
         self.begin()
         self.opened()
         self.browser.press("3-D", ".path button")

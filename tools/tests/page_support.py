@@ -191,6 +191,8 @@ class Served(InFolder):
 
     OUT = "axis"
     MACHINE = ""
+    JOBS = ""
+    """The folder of programs, nothing for none."""
 
     def setUp(self) -> None:
         """Starts the player and the server."""
@@ -206,6 +208,7 @@ class Served(InFolder):
         """Starts both, as after power came back."""
         self.begin_player()
         words = ["--machine", "motion.toml"] if self.MACHINE else []
+        words += ["--jobs", self.JOBS] if self.JOBS else []
         self.server = self.start("ngc-page", "mill.dev", "first.toml", self.OUT, "--player", "progress", "--ngc", ngc(),
                                  "--listen", "127.0.0.1:0", *words)
         self.address = self.server.stdout.readline().strip()

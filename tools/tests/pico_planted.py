@@ -174,8 +174,8 @@ def shown_by(name: str) -> str:
 
 def main(*names: str) -> int:
     """Plants each. Where a fault has no words made they aren't waited for long."""
-    Driver.waits_s = 3
     begun, failed = time.process_time(), 0 if names else each_chip.main("pico") + of_pico.main()
+    Driver.waits_s = 3
     for name in names or FAULTS:
         said = shown_by(name)
         failed += not said

@@ -26,6 +26,7 @@ sys.path.insert(0, str(Path(__file__).resolve().parent))
 
 from pulled_plug import STEP_NM, Uncut, Wrong, linked, run_uncut, steps_after, whole_lines
 from session_support import FIRST, PATIENCE_S, memory
+from out_support import text_of
 
 from ngc_tools.failure import Failure
 from ngc_tools.formats.device import Device
@@ -231,7 +232,7 @@ class Job:
         mark = source.mark(size)
         source.close()
         now = replace(record, lines=len(self.made), size=size, at_nm=self._at_nm(len(self.made)), mark=mark, stopped="")
-        path.write_bytes(now.text())
+        path.write_bytes(text_of(now))
 
     def _at_nm(self, count: int) -> tuple[int, ...]:
         return tuple(each * nm for each, nm in zip(steps_after(self.made[:count]), STEP_NM))

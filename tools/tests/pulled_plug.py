@@ -31,6 +31,7 @@ from typing import TypeVar
 sys.path.insert(0, str(Path(__file__).resolve().parent))
 
 from session_support import FIRST, PATIENCE_S, memory
+from out_support import after, text_of
 
 from ngc_tools.ngc.console import Console, Ended, Status
 from ngc_tools.operator.meter import LIMITS, Meter
@@ -91,7 +92,7 @@ def steps_after(lines: list[bytes], start: tuple[int, ...] = (0, 0, 0)) -> tuple
     """Where pulses lead, in steps."""
     position = Position(STEP_NM)
     position.steps = list(start)
-    return tuple(position.take_all(read_line(line, number) for number, line in enumerate(lines, 1)).steps)
+    return tuple(after(position, (read_line(line, number) for number, line in enumerate(lines, 1))).steps)
 
 
 @cache
@@ -296,7 +297,7 @@ class Session:
         for path in (self.fifo, self.socket, self.log):
             path.unlink(missing_ok=True)
         os.mkfifo(self.fifo)
-        self.record.write_bytes(Record(str(self.fifo), at_nm=options.nanometres(stands)).text())
+        self.record.write_bytes(text_of(Record(str(self.fifo), at_nm=options.nanometres(stands))))
         self.timer: threading.Timer | None = None
         self.is_pulled = self.over = False
         self.player = self._start_player()

@@ -8,7 +8,7 @@ from pathlib import Path
 from typing import NamedTuple
 
 from chip_parts import BOARDS
-from chip_support import chip_folder, elf_of
+from chip_support import chip_model, elf_of
 from player_support import SANITIZERS, built, has_sanitizers
 from session_support import PATIENCE_S, TOOLS
 
@@ -26,7 +26,7 @@ DUTY_MILLIONTHS = 24_000_000_000 / (BOARD.duty_steps if BOARD else 7200)
 def bench(boot: int = 1) -> list[str]:
     """The command that puts a sink on the bench (tools/sink/bench.c)."""
     if IS_CHIP:
-        return [str(chip_folder(BOARD.name) / f"emulate-{BOARD.chip}"), elf_of(BOARD.name), str(boot)]
+        return [str(chip_model(BOARD.name, f"emulate-{BOARD.chip}")), elf_of(BOARD.name), str(boot)]
     return [built("-std=c99", *(SANITIZERS if has_sanitizers() else ("-O2",)), "-I", SINK, sources=PARTS), str(boot)]
 
 
@@ -39,6 +39,21 @@ def seen(outputs: tuple[int, ...]) -> tuple[int, ...]:
     return direction, int(duty * DUTY_MILLIONTHS), mist, flood, *[0 for _ in tool]
 
 
+class Made(NamedTuple):
+    """What the pins did: a step of axes, which count down, or outputs."""
+
+    tick: int
+    step: tuple[int, int, int] | None
+    outputs: tuple[int, ...] | None
+
+
+def lasting(made: list[Made]) -> list[tuple[int, ...]]:
+    """The outputs that last: a Pico clears pins two cycles before it sets others."""
+    told = [each for each in made if each.outputs]
+    return [each.outputs for each, after in zip(told, [*told[1:], None])
+            if not IS_CHIP or after is None or after.tick - each.tick > 1]
+
+
 def changes(outputs: list[tuple[int, ...]]) -> list[tuple[int, ...]]:
     """Outputs as they change, from all off. On the chip the speed follows with the PWM's next period: a state before it
     does is left out."""
@@ -48,14 +63,6 @@ def changes(outputs: list[tuple[int, ...]]) -> list[tuple[int, ...]]:
         if not is_between and each != found[-1]:
             found.append(each)
     return found[1:]
-
-
-class Made(NamedTuple):
-    """What the pins did: a step of axes, which count down, or outputs."""
-
-    tick: int
-    step: tuple[int, int, int] | None
-    outputs: tuple[int, ...] | None
 
 
 def steps_of(axes: int, down: int) -> tuple[int, int, int]:

@@ -14,6 +14,7 @@ sys.path.insert(0, str(Path(__file__).resolve().parent))
 from pace_support import PROGRAMS, excess, stream
 from player_support import PlayerTest, Sanitized, record
 from session_support import FIRST, PATIENCE_S, ngc
+from out_support import text_of
 from sink_support import ServedSink
 from test_moves import MACHINE, Moving, program
 from test_moves_sink import OverSink as MovingOverSink
@@ -89,7 +90,7 @@ class Turning(PlayerTest):
     def known(self, screws: str = "+ + +") -> None:
         """A record of a machine at 0 with such screws."""
         Path("pins").unlink(missing_ok=True)
-        Path("position").write_bytes(Record("/before", screws=screws).text())
+        Path("position").write_bytes(text_of(Record("/before", screws=screws)))
 
     def turned(self, *words: str) -> str:
         """Plays OUT without times: the pins."""
@@ -220,7 +221,7 @@ class AsLines(PlayerTest):
 
     def times(self, pins: str) -> list[str]:
         """Has the player carry out `out`: its lines, each behind its time."""
-        Path("position").write_bytes(Record("/before", screws="+ + +").text())
+        Path("position").write_bytes(text_of(Record("/before", screws="+ + +")))
         for left in (pins, "times"):
             Path(left).unlink(missing_ok=True)
         done = self.run_player("--no-ask-tool", "--untimed", "--pins", pins, "--machine", "motion.toml", "--times",
@@ -323,7 +324,7 @@ class WithoutLines(Moving):
 
     def test_stopped(self) -> None:
         """A jog that ends amid extra steps moved nothing, and the next one makes what is left of them."""
-        Path("position").write_bytes(Record("/before", screws="? - ?").text())
+        Path("position").write_bytes(text_of(Record("/before", screws="? - ?")))
         self.world.loosen((50, 300, 999), (0, 0, 0))
         self.started()
         number, why = self.link.jog("Y+", "3")  # 20 ms a step
@@ -373,7 +374,7 @@ class OverSink(PlayerTest):
         sink = ServedSink(waits_ms)
         self.addCleanup(sink.kill)
         Path("motion.toml").write_text(f'{MOTION}[sink]\nline = "{sink.path}"\nbaud = 2000000\n')
-        Path("position").write_bytes(Record("/before", screws="+ + +").text())
+        Path("position").write_bytes(text_of(Record("/before", screws="+ + +")))
         return sink
 
     def made(self, sink: ServedSink) -> list[Steps]:

@@ -22,7 +22,7 @@ from ngc_tools.page.band import MOVING, OWN_LINES
 from ngc_tools.page.deeds import DEEDS, SWITCHES, WAITING
 from ngc_tools.page.session import WITHOUT_LINES
 
-PAGE = (TOOLS.parent / "docs" / "TOOLS.md").read_text().partition("## ngc-operate: ")[2].partition("\n## ")[0]
+PAGE = (TOOLS.parent / "docs" / "tools" / "ngc-operate.md").read_text()
 STATIC = TOOLS / "ngc_tools" / "page" / "static"
 UNSAID = {"mdi", "tick", "exit", "?"}
 """Commands that nobody types, and other names."""
@@ -37,7 +37,7 @@ class Pages(unittest.TestCase):
     """What the pages say of commands."""
 
     def test_tools(self) -> None:
-        """TOOLS.md has a row for each command, and none for others."""
+        """The page has a row for each command, and none for others."""
         rows = re.findall(r"^\| ([^|]*) \|", PAGE.partition("| Typed |")[2], re.MULTILINE)
         first = {word for row in rows for word in cited(row) if word[0].isalpha() and word.islower()}
         self.assertEqual(first - {"anyway"}, BY_WORD.keys() - UNSAID)
@@ -55,7 +55,7 @@ class Pages(unittest.TestCase):
         self.assertEqual({form.word for form in FORMS} - BY_WORD.keys(), set())
 
     def test_while_something_runs(self) -> None:
-        """What TOOLS.md says is taken then, and of a pipe or a file."""
+        """What the page says is taken then, and of a pipe or a file."""
         said = re.search(r"While something runs, ([^|]*?) are taken, each with Enter; of a pipe or a file the first five",
                          PAGE.replace("\n", " "))
         words = cited(said[1].replace("the switches", " ".join(f"`{name} on`" for name in sorted(SWITCHES))))
@@ -65,7 +65,7 @@ class Pages(unittest.TestCase):
         self.assertFalse(is_aside("stop") or is_aside("G0 X1") or is_override("go"))
 
     def test_in_an_alarm(self) -> None:
-        """What TOOLS.md says is taken in an alarm."""
+        """What the page says is taken in an alarm."""
         said = re.search(r"nothing but (.*?) is taken until the machine is homed\. (.*?) Lines that were",
                          PAGE.replace("\n", " "))
         words = set(cited(said[1])) | set(cited(said[2])) & {"reference"}
@@ -83,9 +83,9 @@ class Asks(unittest.TestCase):
         """
         asked = {command.word for command in COMMANDS if command.asked is not Asked.NEVER}
         self.assertEqual(asked - DEEDS.keys(), SWITCHES)
-        self.assertEqual(DEEDS.keys() - asked, {"stands", "switch", "turn", "measurefrom", "answer", "jogstop", "loss",
-                                                "restart"})
-        self.assertEqual(WAITING - {"stands", "switch", "measurefrom", "restart"},
+        self.assertEqual(DEEDS.keys() - asked, {"stands", "switch", "turn", "measurefrom", "answer", "shape", "step",
+                                                "jogstop", "loss", "restart"})
+        self.assertEqual(WAITING - {"stands", "switch", "shape", "measurefrom", "step", "restart"},
                          {command.word for command in COMMANDS if command.asked is Asked.AWAITED} - SWITCHES)
         self.assertEqual(SWITCHES, {"single", "optional", "delete", "measures"})
 
@@ -138,7 +138,8 @@ class Words(unittest.TestCase):
 class Buttons(unittest.TestCase):
     """Which buttons are enabled."""
 
-    SETTING_UP = {"load", "mdi", "tool", "zero", "touch", "undo", "restore", "above", "park", "macro"}
+    SETTING_UP = {"load", "mdi", "tool", "zero", "touch", "undo", "offset", "restore", "above", "park", "macro",
+                  "from"}
     MOVES = {"home", "jog", "seek", "probe", "measure"}
     ALWAYS = {"hold", "release", "rehearse"}
     CHOICES = {"single", "optional", "delete", "measures", "percent", "spindle"}
@@ -155,7 +156,7 @@ class Buttons(unittest.TestCase):
         first.status = replace(first.status, place=0)
         self.check(first, self.ALWAYS, self.CHOICES, self.SETTING_UP, self.MOVES, going - {"rewind"})
         apart = told(Standing(is_apart=True))
-        self.assertFalse(any(apart[word] for word in ("zero", "above", "park", "probe", "measure")))
+        self.assertFalse(any(apart[word] for word in ("zero", "above", "park", "probe", "measure", "from")))
         self.assertTrue(apart["load"] and apart["macro"])
 
     def test_while_it_runs(self) -> None:

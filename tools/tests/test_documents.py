@@ -17,6 +17,7 @@ sys.path.insert(0, str(Path(__file__).resolve().parent))
 
 from player_support import builds, proved
 from session_support import PATIENCE_S, TOOLS, InFolder, Terminal, ngc, told
+from out_support import text_of
 from test_rehearse import HOLE, OUT
 
 from ngc_tools.formats.out import Switch
@@ -32,19 +33,14 @@ _COMMAND = re.compile(r"(?:\$ )?((?:ngc|ngc-\w+|mkfifo|make|cp|grep|sed|tail|pla
 _INLINE = re.compile(r"`((?:tools/|examples/)?(?:ngc-\w+|grep|\w+\.py) [^`]*)`")
 
 EXAMPLES = {form.word: form.example + "\n" for form in FORMS} | {"load": "load 3\nM2\n"}
-PLAYER = "player: carry out OUT"
+PLAYER = "tools/player.md"
+NAMES = ("operate", "page", "check", "plot", "rehearse", "device", "adapt", "split")
+SYNOPSES = [f"tools/ngc-{name}.md" for name in NAMES]
 
 # The chapters with commands; each is tried by a test below.
-CHAPTERS = {
-    "TOOLS.md": (PLAYER, "ngc-operate: a console for people",
-                 "ngc-page: a page in the browser",
-                 "After a loss of power, with these two", "The plug is pulled",
-                 "ngc-check: each refused line, and what is dangerous", "ngc-plot: a picture, extents, times",
-                 "ngc-rehearse: what a resume would do", "ngc-device: what a device stands for",
-                 "ngc-adapt: CAM text as ngc accepts it",
-                 "ngc-split: a program above the device's limit"),
-    "RECOVERY.md": ("`recover`: back the way it came", "A half-done block"),
-    "POST_PROCESSOR.md": ("",), "OUTPUT.md": (),
+CHAPTERS = {page: ("",) for page in (PLAYER, "tools/tests.md", *SYNOPSES)} | {
+    "RECOVERY.md": ("`recover`: back the way it came", "OUT is a pipe", "A half-done block"),
+    "POST_PROCESSOR.md": ("",), "OUTPUT.md": (), "TOOLS.md": (),
     "SESSION.md": ("The device", "A first session"),
     "../README.md": ("",),
     "PAGE.md": ("",), "MOTION.md": ("",),
@@ -88,9 +84,9 @@ def spoken(block: str) -> tuple[str, list[str]]:
 
 @cache
 def player() -> str:
-    """The path of tools/player, built as docs/TOOLS.md says."""
+    """The path of tools/player, built as its page says."""
     folder = Path(builds(), "documents").absolute()
-    build = next(command for command, _ in commands(chapters("TOOLS.md")[PLAYER]) if command.startswith("make "))
+    build = next(command for command, _ in commands(chapters(PLAYER)[""]) if command.startswith("make "))
     words = [*build.split(), f"OUT={folder}", f"ARCHIVES={' '.join(proved())}"]
     folder.mkdir(exist_ok=True)
     done = subprocess.run(words, cwd=TOOLS.parent, capture_output=True, text=True)
@@ -171,25 +167,32 @@ class Pages(unittest.TestCase):
 
 
 class Tools(Documents):
-    """docs/TOOLS.md."""
+    """docs/TOOLS.md, and the page of each tool."""
+
+    def test_pages(self) -> None:
+        """Each tool has a row, whose page is there."""
+        rows = [re.fullmatch(r"\[(\S+)\]\((\S+)\)", row[0]).groups() for row in tables(chapters("TOOLS.md")[""])[0]]
+        names = {path.name for path in TOOLS.glob("ngc-*")}
+        self.assertEqual(names | {"player", "tools/sink"}, {name for name, _ in rows})
+        self.assertEqual({str(path.relative_to(DOCS)) for path in DOCS.glob("tools/*.md")} - {"tools/tests.md"},
+                         {page for _, page in rows if "/" in page})
+        self.assertEqual([page for _, page in rows if not (DOCS / page).is_file()], [])
 
     def test_player(self) -> None:
         """A pipe with a player; tools/player is built, and its words are those of the page."""
-        _, tried = self.chapter("TOOLS.md", "player")
-        _, (words, more), (fifo, _), (play, shown), *_ = tried
-        record = shown[shown.index("out /"):]
+        (_, _), (words, more), (fifo, _), (play, _) = self.chapter(PLAYER, "")[1]
         self.shell(fifo)
         child = self.begin(play)
         open("axis", "wb").close()
         self.assertEqual(child.wait(PATIENCE_S), 0)
-        self.assertEqual([line.split()[0] for line in record.splitlines()],
+        self.assertEqual([line.split()[0] for line in blocks(chapters(PLAYER)["The record"])[0].splitlines()],
                          [line.split()[0] for line in Path("position").read_text().splitlines() if line.strip()])
         done = subprocess.run([player()], capture_output=True, text=True)
         self.assertEqual((done.returncode, done.stderr), (2, f"player: usage: {words} {more.strip()}\n"))
 
     def test_operate(self) -> None:
         """The session, to the byte, and the record that the player keeps of it."""
-        text, tried = self.chapter("TOOLS.md", "ngc-operate")
+        text, tried = self.chapter("tools/ngc-operate.md", "")
         (synopsis, _), (make, _), (fifo, _), (play, _), (operate, rest) = tried
         self.same_options("ngc-operate", text, synopsis)
         program, session = rest[:rest.index("metered")], rest[rest.index("metered"):]
@@ -205,38 +208,13 @@ class Tools(Documents):
         shown += terminal.read_to(b"never")
         self.assertEqual((terminal.status(), player.wait(PATIENCE_S)), (0, 0))
         self.assertEqual(shown.decode().replace("\r\n", "\n"), session)
-        record = chapters("TOOLS.md")[PLAYER]
-        wanted = next(block for block in blocks(record) if block.startswith("out ")).split("\n", 1)[1]
+        wanted = blocks(chapters(PLAYER)["The record"])[0].split("\n", 1)[1]
         found = re.sub("(?m)^age .*\n", "", Path("position").read_text().split("\n", 1)[1])
         self.assertEqual(found.rstrip(" \n") + "\n", wanted)
 
-    def test_after_a_loss_of_power(self) -> None:
-        """A move that was cut off behind the motors is taken up where these stand."""
-        _, ((look, _), (play, _), (operate, typed)) = self.chapter("TOOLS.md", "After a loss of power")
-        self.device()
-        self.run_ngc("load 10\nG0 X12\nM2\nstart\ntick 9000\n")
-        os.mkfifo("axis")
-        Path("position").write_bytes(Record(str(self.folder / "axis"), at_nm=(7_200_000, 0, 0)).text())
-        self.assertEqual(self.shell(look), "reference 7.200000 0.000000 0.000000\n")
-        player = self.begin(play)
-        terminal = self.operate(operate)
-        shown = b""
-        for line, end in zip(typed.splitlines(True), (b"ngc> ",) * 3, strict=True):
-            shown += terminal.read_to(end)
-            terminal.send(line.removeprefix("ngc> ").encode())
-        for end, answer in ((b"Nothing ends: ", b"600"), (b"anything else ends: ", b"yes"), (b"holds: ", b"yes"),
-                            (b"ngc> ", b"quit")):
-            shown += terminal.read_to(end)
-            terminal.send(answer + b"\n")
-        terminal.read_to(b"never")
-        self.assertEqual((terminal.status(), player.wait(PATIENCE_S)), (0, 0))
-        self.assertIn(b"segment 0 of line 1: G0 X12\r\n", shown)
-        self.assertIn(b"idle; X 12.000000 Y 0.000000 Z 0.000000; next line 1 of 2: G0 X12\r\n", shown)
-        self.assertEqual(player.stdout.read().splitlines()[-1], "reference 12.000000 0.000000 0.000000")
-
     def test_words_that_go_together(self) -> None:
         """An option in the brackets of another one is refused without that one."""
-        synopses = [self.chapter("TOOLS.md", title)[1][0][0] for title in CHAPTERS["TOOLS.md"]]
+        synopses = [self.chapter(page, "")[1][0][0] for page in SYNOPSES]
         pairs = [(synopsis.partition(" [")[0].split(), *pair) for synopsis in synopses
                  for pair in re.findall(r"\[(--[a-z-]+) [A-Z]+ \[(--[a-z-]+) ([A-Z]+)\]", synopsis)]
         self.assertEqual(len(pairs), 6, pairs)
@@ -247,7 +225,7 @@ class Tools(Documents):
 
     def test_plug(self) -> None:
         """Their words, and a moment of each."""
-        _, tried = self.chapter("TOOLS.md", "The plug")
+        _, tried = self.chapter("tools/tests.md", "")
         moment = "--moments 1 --blocks 10"
         moments = f"{moment} --player bin/player"
         own = ((moments, "1 moments in "), (f"{moments} --cut", "1 moments in "), ("--chains 1", " 1 chains, "))
@@ -258,12 +236,12 @@ class Tools(Documents):
 
     def test_page(self) -> None:
         """The options of the page; tests/test_page.py has the rest."""
-        text, ((synopsis, _),) = self.chapter("TOOLS.md", "ngc-page")
+        text, ((synopsis, _),) = self.chapter("tools/ngc-page.md", "")
         self.same_options("ngc-page", text, synopsis)
 
     def test_check(self) -> None:
         """A refused line, settings, and settings that are refused."""
-        text, tried = self.chapter("TOOLS.md", "ngc-check")
+        text, tried = self.chapter("tools/ngc-check.md", "")
         (synopsis, _), (check, said), (only, _), (first, report), (ramps, times) = tried
         self.same_options("ngc-check", text, synopsis + only)
         shutil.copy(CAM / "freecad_linuxcnc.ngc", "part.ngc")
@@ -280,7 +258,7 @@ class Tools(Documents):
 
     def test_plot(self) -> None:
         """A program where the work is, and a picture beside an example with its figures."""
-        text, ((synopsis, _), (pipe, _), (ring, said)) = self.chapter("TOOLS.md", "ngc-plot")
+        text, ((synopsis, _), (pipe, _), (ring, said)) = self.chapter("tools/ngc-plot.md", "")
         self.same_options("ngc-plot", text, synopsis)
         shutil.copy("examples/pocket.ngc", "part.ngc")
         self.assertEqual(self.shell(pipe), "")
@@ -291,7 +269,7 @@ class Tools(Documents):
 
     def test_rehearse(self) -> None:
         """A hole whose way out is cut off."""
-        text, ((synopsis, _), (resume, said), (carried, where)) = self.chapter("TOOLS.md", "ngc-rehearse")
+        text, ((synopsis, _), (resume, said), (carried, where)) = self.chapter("tools/ngc-rehearse.md", "")
         self.same_options("ngc-rehearse", text, synopsis)
         self.device()
         self.run_ngc("tool 1 0\n")
@@ -301,7 +279,7 @@ class Tools(Documents):
 
     def test_device(self) -> None:
         """The half-done block that docs/DEVICE.md speaks of first."""
-        text, ((command, _),) = self.chapter("TOOLS.md", "ngc-device")
+        text, ((command, _),) = self.chapter("tools/ngc-device.md", "")
         self.same_options("ngc-device", text, command)
         self.device()
         self.run_ngc("mdi G0 X0.002\ntick 2\n")
@@ -311,14 +289,14 @@ class Tools(Documents):
 
     def test_adapt(self) -> None:
         """The list of what is changed."""
-        text, ((synopsis, _), (adapt, said)) = self.chapter("TOOLS.md", "ngc-adapt")
+        text, ((synopsis, _), (adapt, said)) = self.chapter("tools/ngc-adapt.md", "")
         self.same_options("ngc-adapt", text, synopsis)
         shutil.copy(CAM / "fusion_mach3.tap", "fusion_mach3.tap")
         self.assertEqual(self.shell(adapt), said)
 
     def test_split(self) -> None:
         """Its words."""
-        text, ((synopsis, _),) = self.chapter("TOOLS.md", "ngc-split")
+        text, ((synopsis, _),) = self.chapter("tools/ngc-split.md", "")
         self.same_options("ngc-split", text, synopsis)
 
 
@@ -369,38 +347,31 @@ class Helps(Documents):
 
 
 class Readme(Documents):
-    """README.md: what stands there side by side, and its job."""
-
-    WIDTH = 29  # of what stands on the left
+    """README.md: what stands before its first chapter, and a line of a dry run."""
 
     def setUp(self) -> None:
-        """Reads what comes before the first chapter."""
+        """Reads it."""
         super().setUp()
         shutil.copy("examples/mill.ngc", "mill.ngc")
         self.text, self.tried = self.chapter("../README.md", "")
-        self.sides = [[(line[:self.WIDTH].strip(), line[self.WIDTH:]) for line in block.splitlines()]
-                      for block in blocks(self.text)[:3:2]]
 
     def test_dry_run(self) -> None:
-        """The program, whose comment is cut short, and the text of its dry run."""
-        command = "ngc dry mill.ngc --settings mill.toml"
-        self.assertIn(f"`{command}`", self.text)
-        comment, *lines = (line for line, _ in self.sides[1] if line)
-        whole, *program = Path("mill.ngc").read_text().splitlines()
-        self.assertTrue(whole.startswith(comment.removesuffix("..)")))
-        self.assertEqual(lines, program)
-        self.assertEqual([text for _, text in self.sides[1]], self.shell(command).splitlines())
+        """What is printed of one line."""
+        text = chapters("../README.md")["What it does"]
+        line, said = re.search("for\\s+`(.*)` of `examples/mill.ngc` it is `(.*)`", text).groups()
+        self.assertIn(line, Path("mill.ngc").read_text().splitlines())
+        self.assertIn(said, self.shell("ngc dry mill.ngc --settings mill.toml").splitlines())
 
-    def test_resume(self) -> None:
-        """The answers to what is typed, after the tutorial's loss of power; then the program goes on to its end."""
-        for title in CHAPTERS["TUTORIAL.md"][1:3]:
-            for command, _ in self.chapter("TUTORIAL.md", title)[1]:
-                self.shell(command if not command.startswith("player ") else "true")
-        typed = "".join(line + "\n" for line, _ in self.sides[0] if line)
-        answers = [re.split(" {2,}", text)[0] for _, text in self.sides[0]]
-        said = self.shell("ngc run mill.dev mill.toml out-2", text=typed).splitlines()
-        self.assertEqual(said[:len(answers)], answers)
-        self.assertEqual(said[-2], "idle")
+    def test_recover(self) -> None:
+        """What the console says is what docs/RECOVERY.md has, which is tried; `..` stands for lines of it."""
+        shown = re.escape(blocks(self.text)[0]).replace(re.escape("..\n"), "(?:.*\n)+")
+        self.assertRegex(blocks(chapters("RECOVERY.md")["`recover`: back the way it came"])[1], shown)
+
+    def test_contract(self) -> None:
+        """The contract is that of the code."""
+        code = (TOOLS.parent / "crates/ng_step/src/stepper.rt").read_text()
+        for line in blocks(self.text)[1].splitlines():
+            self.assertIn(line.partition("  //")[0].rstrip() + "\n", code)
 
     def test_job(self) -> None:
         """Each command, and what is typed at the console, but for the run, which takes a minute."""
@@ -462,7 +433,7 @@ class Recovery(Documents):
         at_nm = (3_200_000, 1_000_000, -1_000_000)
         kept = Record(f"{self.folder}/out", 3202, size, outputs, at_nm, source.mark(size), age_ms=23)
         source.close()
-        Path("position").write_bytes(kept.text())
+        Path("position").write_bytes(text_of(kept))
         rehearse = re.search(r"`(ngc-rehearse [^`]*)`", text)[1]
         self.assertEqual(self.shell(rehearse).splitlines()[1:3], [
             "the open segment begins behind line 2002 of out",
@@ -471,11 +442,35 @@ class Recovery(Documents):
         line, way = re.search("(?m)^back through .* lines of OUT, to its line (.*): (.* mm) in", typed).groups()
         said = self.shell(f"{go} {line} 2>&1", text="no\n", status=2)
         self.assertIn(f"\nback to line {line} of out: {way} in ", said)
-        self.assertEqual(Path("position").read_bytes(), kept.text())
+        self.assertEqual(Path("position").read_bytes(), text_of(kept))
         self.begin(play)
         answers = re.findall(r"(?:ngc> |: )(recover|yes|quit)\n", typed)
         shown = re.sub(r"(ngc> |: )(?:recover|yes|quit)\n", r"\1", typed)
         self.assertEqual(self.shell(f"{operate} --ngc {ngc()}", "".join(word + "\n" for word in answers)), shown)
+
+    def test_pipe(self) -> None:
+        """A move that was cut off behind the motors is taken up where these stand."""
+        _, ((look, _), (play, _), (operate, typed)) = self.chapter("RECOVERY.md", "OUT is a pipe")
+        self.device()
+        self.run_ngc("load 10\nG0 X12\nM2\nstart\ntick 9000\n")
+        os.mkfifo("axis")
+        Path("position").write_bytes(text_of(Record(str(self.folder / "axis"), at_nm=(7_200_000, 0, 0))))
+        self.assertEqual(self.shell(look), "reference 7.200000 0.000000 0.000000\n")
+        player = self.begin(play)
+        terminal = self.operate(operate)
+        shown = b""
+        for line, end in zip(typed.splitlines(True), (b"ngc> ",) * 3, strict=True):
+            shown += terminal.read_to(end)
+            terminal.send(line.removeprefix("ngc> ").encode())
+        for end, answer in ((b"Nothing ends: ", b"600"), (b"anything else ends: ", b"yes"), (b"holds: ", b"yes"),
+                            (b"ngc> ", b"quit")):
+            shown += terminal.read_to(end)
+            terminal.send(answer + b"\n")
+        terminal.read_to(b"never")
+        self.assertEqual((terminal.status(), player.wait(PATIENCE_S)), (0, 0))
+        self.assertIn(b"segment 0 of line 1: G0 X12\r\n", shown)
+        self.assertIn(b"idle; X 12.000000 Y 0.000000 Z 0.000000; next line 1 of 2: G0 X12\r\n", shown)
+        self.assertEqual(player.stdout.read().splitlines()[-1], "reference 12.000000 0.000000 0.000000")
 
     def test_recovery(self) -> None:
         """A rehearsal by the tool, and by hand over a copy, with the OUT of the example's resume."""
@@ -566,9 +561,9 @@ class Machine(Documents):
     """docs/MACHINE.md, and the files for the player."""
 
     def test_files(self) -> None:
-        """The player takes those of docs/TOOLS.md; of docs/MACHINE.md all but that these pins have no inputs."""
+        """The player takes those of its page; of docs/MACHINE.md all but that these pins have no inputs."""
         Path("out").touch()
-        tools = [block for block in blocks(chapters("TOOLS.md")[PLAYER]) if block.startswith("[")]
+        tools = blocks(chapters(PLAYER)["Ramps"])
         self.assertEqual([block.split()[0] for block in tools],
                          ["[motion]", "[window]", "[wait]", "[backlash]", "[spindle]"])
         Path("player.toml").write_text("\n".join(tools))

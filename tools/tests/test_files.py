@@ -12,6 +12,7 @@ from unittest import mock
 sys.path.insert(0, str(Path(__file__).resolve().parent))
 
 from session_support import FIRST, TOOLS, InFolder
+from out_support import text_of
 
 from ngc_tools import files
 from ngc_tools.files import NotWritten, kind, read, write_new
@@ -36,7 +37,7 @@ class Written(InFolder):
         """A device, an OUT and a record beside the settings."""
         self.device()
         self.run_ngc("mdi G0 X0.002\ntick 9\nquit\n")
-        Path("position").write_bytes(Record("/home/mill/out").text())
+        Path("position").write_bytes(text_of(Record("/home/mill/out")))
 
     def test_new(self) -> None:
         """A new file has 0640 less the umask, and nothing is left beside it."""

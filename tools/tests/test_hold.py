@@ -17,7 +17,7 @@ from ngc_tools.ngc.console import NO_TICK, Console
 from ngc_tools.page.deeds import DEEDS, BadWords, Given
 from ngc_tools.page.face import PageFace
 from ngc_tools.page.http import RequestRefused
-from ngc_tools.page.jog import HeldJog
+from ngc_tools.page.jog import HeldJog, Wish
 from ngc_tools.page.pages import LOST_S, MOST, OLDEST_S, Pages, Stamp
 from ngc_tools.page.session import PageSession
 from ngc_tools.link.progress import HeldBack, Link
@@ -145,9 +145,9 @@ class Session:
         self.face.hold()
         self.jogs.end()
 
-    def jog(self, way: str, rate: str, press: int) -> bool:
+    def jog(self, wish: Wish) -> bool:
         """Takes a wish."""
-        return self.jogs.wish(way, rate, press)
+        return self.jogs.wish(wish)
 
 
 class Lost(unittest.TestCase):
@@ -252,7 +252,7 @@ class Lost(unittest.TestCase):
         self.pages.came(ONE)
         self.pages.take_over(OTHER)
         self.pages.take_over(ONE)
-        self.assertFalse(self.session.jog("X+", "60", 1) or jogs.is_wanted())
+        self.assertFalse(self.session.jog(Wish("X+", "60", 1)) or jogs.is_wanted())
         with self.assertRaisesRegex(RequestRefused, "somebody held"):
             DEEDS["jog"](Given(self.session, self.pages, {}, wish | {"press": 2}))
         DEEDS["jog"](Given(self.session, self.pages, {}, wish | {"press": 2, "down": str(self.pages.stamp())}))

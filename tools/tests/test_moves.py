@@ -14,6 +14,7 @@ sys.path.insert(0, str(Path(__file__).resolve().parent))
 
 from player_support import SANITIZERS, SOURCES, PlayerTest, built, has_sanitizers, record, sector
 from session_support import PATIENCE_S, TOOLS
+from out_support import text_of
 
 from ngc_tools.formats.out import Switch
 from ngc_tools.formats.record import BadRecord, FileMark, Record
@@ -367,6 +368,45 @@ class Jogging(Moving):
             return now > seen[-1][0] + 0.5
 
         self.wait_for("the motors stand", stands)
+
+    def test_cut_off(self) -> None:
+        """Before a move's first pulse the record on the disk says that it is under way: a player that finds that isn't
+        sure where the motors are, over moves and other players too, until somebody tells it, or all axes are homed."""
+        self.started()
+        self.link.jog("X+", "6")  # a pulse each 10 ms
+        self.wait_for("it moves", lambda: self.world.place[0] > 0)
+        self.kept("off", "stopped moving")
+        self.lost()
+        self.assertEqual(self.refused("--untimed", "axis", "first.toml", "position"),
+                         "position: the motors were moved without lines, and ngc may not know where they are: --at X Y"
+                         " Z tells where the machine stands")
+        self.started("--untimed")
+        self.assertEqual(self.link.ask().word, "unsure")
+        self.assertEqual(self.how(self.link.jog("Y+", "600", "1")), "done")
+        self.assertEqual(self.link.ask().word, "unsure")
+        self.wait_for("it is kept", lambda: Record.read("position").at_nm[1] == 1_000_000)
+        self.lost()
+        self.started("--untimed")
+        self.assertEqual(self.link.ask().word, "unsure")
+        self.told()
+        self.wait_for("it is kept", lambda: Record.read("position").stopped == "")
+        self.lost()
+        self.started("--untimed")
+        self.assertEqual(self.link.ask().word, "works")
+        self.link.home("Z")
+        self.wait_for("it homes", lambda: self.world.place[2] > 0)
+        self.lost()
+        self.started("--untimed")
+        self.assertEqual(self.link.ask().word, "unsure")
+        self.assertEqual(self.how(self.link.home()), "done")
+        self.assertEqual((self.link.ask().word, self.at()), ("moved", (-8, -7, 9)))
+        self.kept("homed XYZ", "off")
+
+    def lost(self) -> None:
+        """The player is gone, as by a loss of power."""
+        self.child.kill()
+        self.child.communicate()
+        self.pipe.close()
 
     def test_travel(self) -> None:
         """None goes beyond its travel."""
@@ -754,17 +794,19 @@ class Files(Moving):
     def test_records(self) -> None:
         """Both read the lines that a home and a move without lines leave."""
         whole = Record("/axis", homed="XZ", is_off=True, stopped="limit")
-        self.assertEqual(Record.of_text(whole.text(), "position"), whole)
+        self.assertEqual(Record.of_text(text_of(whole), "position"), whole)
         longest = Record("/" + "a" * 235, 10**14, 10**14, Switch(2, 9_999_999_999_999, True, True, 128, 128),
                          (-(10**18 - 1),) * 3, FileMark(2**63 - 1, 2**63 - 1, 2**32 - 1), "emergency", 9999, "XYZ",
                          True, "998 998 998")
-        self.assertEqual(Record.of_text(longest.text(), "position"), longest)
+        self.assertEqual(Record.of_text(text_of(longest), "position"), longest)
         beside = replace(longest, out="/" + "a" * 100, path_nm=(-2_500, 0, 999_999_999_999_999_999))
-        self.assertIn(b"\npath -0.002500 0.000000 999999999999.999999\nscrews ", beside.text())
-        self.assertEqual(Record.of_text(beside.text(), "position"), beside)
-        self.assertEqual(replace(longest, path_nm=(1, 2, 3)).text(), longest.text())  # OUT's name leaves no room
-        self.assertEqual(replace(beside, path_nm=beside.at_nm).text(), replace(beside, path_nm=None).text())
-        Path("position").write_bytes(longest.text())
+        self.assertIn(b"\npath -0.002500 0.000000 999999999999.999999\nscrews ", text_of(beside))
+        self.assertEqual(Record.of_text(text_of(beside), "position"), beside)
+        self.assertEqual(text_of(replace(longest, path_nm=(1, 2, 3))), text_of(longest))  # OUT's name leaves no room
+        there = replace(beside, path_nm=beside.at_nm)  # before the first pulse that leaves it
+        self.assertEqual(Record.of_text(text_of(there), "position"), there)
+        self.assertEqual(text_of(replace(there, is_off=False)), text_of(replace(beside, is_off=False, path_nm=None)))
+        Path("position").write_bytes(text_of(longest))
         self.assertEqual(self.refused("axis", "first.toml", "position"),
                          "position: the emergency stop stopped the motors, and where they are isn't known: --at X Y Z"
                          " tells it")

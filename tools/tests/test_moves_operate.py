@@ -2,6 +2,7 @@
 import os
 import signal
 import sys
+import time
 import unittest
 from dataclasses import replace
 from pathlib import Path
@@ -142,6 +143,25 @@ class Moves(Core):
         self.assertIn(f"reference {HOMED}", self.do("home"))
         self.assertEqual(self.status().at, tuple(HOMED.split()))
 
+    def test_cut_off(self) -> None:
+        """A player that isn't sure where the motors are, though `ngc` has them there too: nothing goes from there
+        before somebody tells it, and a jog makes it no surer."""
+        self.begin(self.link)
+        self.axes.word = "unsure"
+        self.assertIn("not sure where they are", " ".join(self.do("where")))
+        cut_off = ("the motors moved without lines as their last player ended, as by a loss of power: the record has"
+                   " them at X 0.000000 Y 0.000000 Z 0.000000, and they may have gone on. Nothing is done.\n  reference"
+                   " player takes that place, and home tells it anew; anyway G0 X1 goes on from there")
+        self.assertEqual(self.do("G0 X1"), [cut_off])
+        self.assertIn("zero X anyway goes on from there", self.do("zero X")[-1])
+        self.assertIn("ngc isn't told where the machine is", " ".join(self.do("jog X+ 600 for 1", "jog X- 600 for 1")))
+        self.assertEqual((self.axes.word, self.out(), self.status().at[0]), ("unsure", [], "0.000000"))
+        self.do("reference player")
+        self.assertEqual(self.axes.word, "works")
+        self.axes.word = "unsure"
+        self.do("anyway G0 X1")
+        self.assertEqual((self.axes.word, self.axes.at_nm[0]), ("works", 1_000_000))
+
     def test_at_a_stop(self) -> None:
         """At M0 a jog is taken, and `run` asks whether the program goes on from there."""
         self.begin(self.link)
@@ -189,6 +209,18 @@ class Moves(Core):
             self.assertIn(said, self.do(f"G0 X{x}"))
             self.assertEqual((self.status().at[0], released[:1]), (f"{x}00000", [True]))
             released.clear()
+
+    def test_held_from_here(self) -> None:
+        """Motors that are held while they are waited for weren't held before that: for a while it may be from here."""
+        self.begin(self.link)
+        self.do("G0 X0.3")
+        time.sleep(0.6)  # longer than it may be
+        now = self.link.ask()
+        reports = iter([replace(now, is_held=True, received=now.received + 1)] * 3 + [now] * 3)
+        self.link.ask = lambda: next(reports)
+        self.assertTrue(self.operator.work.await_motors())
+        self.assertNotIn("the motors are held, and not from here: release lets them go on",
+                         [text for _, text in self.face.said])
 
     def test_waits_still(self) -> None:
         """Of a player that works, and carries nothing out, that is said once after a while; a wish to hold ends it."""

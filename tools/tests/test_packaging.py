@@ -22,6 +22,7 @@ sys.path.insert(0, str(PACKAGING))
 import completion
 import deb
 import manual
+import source
 import tree
 
 from ngc_tools.cli import setup
@@ -163,6 +164,31 @@ class Files(InFolder):
         done = subprocess.run(["./runtime", "", "abc", "x"], capture_output=True, text=True,
                               env={**os.environ, "ASAN_OPTIONS": "allocator_may_return_null=1"})
         self.assertEqual((done.returncode, done.stdout), (0, "the runtime's functions: as they should be\n"))
+
+    def test_version(self) -> None:
+        """The copy of the crates that a package's ngc is built of says of which commit and kit it is, and differs in
+        nothing else; what is proved here is in it, and stays here as it is."""
+        names = [source.VERSION, "crates/ngc/src/main.rt"]
+        for name in names:
+            Path("here", name).parent.mkdir(parents=True)
+            shutil.copy(TOOLS.parent / name, Path("here", name))
+        Path("here/crates/ng_num/out/rlib").mkdir(parents=True)
+        Path("here/crates/ng_num/out/rlib/ng_num.rlib").write_text("proved")
+        commit, kit = "c" * 40 + "+changed", "rattle-kit-13f logic dac8208d650f15bf"
+        source.make(Path("here"), names, Path("copy"), commit, kit)
+        self.assertEqual(Path("copy/crates/ng_num/out/rlib/ng_num.rlib").read_text(), "proved")
+        self.assertEqual(Path("copy", names[1]).read_text(), Path("here", names[1]).read_text())
+        here, copy = (Path(folder, source.VERSION).read_text() for folder in ("here", "copy"))
+        number = re.search(r"^ngc ([\d.]+)$", (TOOLS.parent / "crates/ngc_cases/data/command_lines.words").read_text(),
+                           re.MULTILINE)[1]
+        told = f'const VERSION: &str =\n    "{number}\\ncommit: {commit}\\nkit: {kit}";\n'
+        self.assertIn(told, copy)
+        self.assertEqual(copy.replace(told, f'const VERSION: &str = "{number}";\n'), here)
+        for commit, kit in (('c"', "kit"), ("c", "kit\n"), ("c", "")):
+            with self.assertRaises(ValueError):
+                source.told(here, commit, kit)
+        with self.assertRaises(ValueError):
+            source.told(copy, "c", "kit")
 
     @unittest.skipUnless(shutil.which("dpkg-deb"), "no dpkg-deb here")
     def test_same_bytes(self) -> None:

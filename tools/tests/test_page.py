@@ -34,7 +34,7 @@ from ngc_tools.page.aside import Aside, NotDone
 from ngc_tools.page.band import Standing
 from ngc_tools.page.drawing import SWITCH, DrawingRequest, draw, draw_exactly, job_of
 from ngc_tools.page.face import PageFace, Question
-from ngc_tools.page.jog import HeldJog
+from ngc_tools.page.jog import HeldJog, Wish
 from ngc_tools.page.pages import LOST_S
 from ngc_tools.page.rehearse import RehearsalRequest, rehearsed
 from ngc_tools.page.session import SessionCommand, PageSession
@@ -488,14 +488,14 @@ class Moves(Served):
             wish = {"axis": "Y", "sign": -1, "rate": "300", "press": press}
             count = self.jogs()
             while self.jogs() < count + 2:
-                self.assertEqual(page.post("jog", wish), (200, {}))
+                self.assertEqual(page.post("jog", wish), (200, {"goes": True}))
                 page.next()
             end()
             page.until("it is over", lambda state, before=before: not state["busy"] and state["entries"] > before)
             self.assertIn("stop", self.machine.axes.words)
         count = len(self.machine.axes.words)
         self.assertEqual(page.post("jogstop", {"press": 7}), (200, {}))
-        self.assertEqual(page.post("jog", wish | {"press": 7}), (200, {}))  # it comes late
+        self.assertEqual(page.post("jog", wish | {"press": 7}), (200, {"goes": False}))  # it comes late
         self.assertFalse(page.rested()["moving"])
         self.assertEqual(len(self.machine.axes.words), count)
 
@@ -505,12 +505,12 @@ class Moves(Served):
         wish = {"axis": "Y", "sign": -1, "rate": "300", "press": 1}
         before = page.rested()["entries"]
         while self.jogs() < 2:
-            self.assertEqual(page.post("jog", wish), (200, {}))
+            self.assertEqual(page.post("jog", wish), (200, {"goes": True}))
             page.next()
         other.post("hold")
         page.until("it is over", lambda state: not state["busy"] and state["entries"] > before)
         count = len(self.machine.axes.words)
-        self.assertEqual(page.post("jog", wish), (200, {}))
+        self.assertEqual(page.post("jog", wish), (200, {"goes": False}))
         self.assertFalse(page.rested()["moving"])
         self.assertEqual(len(self.machine.axes.words), count)
 
@@ -958,7 +958,7 @@ class Given(unittest.TestCase):
         """What a command didn't take up is done at its end, not within the next one."""
         session, done = PageSession.__new__(PageSession), []
         session.face, session.stand = PageFace(), SimpleNamespace(status=None)
-        session.operator = SimpleNamespace(do=done.append, over=False)
+        session.operator = SimpleNamespace(do=done.append, over=False, runs=SimpleNamespace(ends=0))
         session.face.give_aside("percent 50")
         session._do(SessionCommand("tool", lambda: done.append("tool"), 0, 0))
         self.assertEqual((done, session.face.asides()), (["tool", "percent 50"], []))
@@ -968,7 +968,7 @@ class Given(unittest.TestCase):
         next one."""
         session, done = PageSession.__new__(PageSession), []
         session.face, session.stand = PageFace(), SimpleNamespace(status=None)
-        session.operator = SimpleNamespace(do=done.append, over=False)
+        session.operator = SimpleNamespace(do=done.append, over=False, runs=SimpleNamespace(ends=0))
         session.ended, session.over, session._wake = "", threading.Event(), threading.Condition()
         session.under, session._next, session._stops = None, None, False
 
@@ -1003,9 +1003,9 @@ class Given(unittest.TestCase):
         for behind, is_finished in ((2, False), (0, True)):
             session = PageSession.__new__(PageSession)
             session.face = PageFace()
-            session.operator = SimpleNamespace(console=SimpleNamespace(status=lambda: at_start),
-                                               session=SimpleNamespace(seen=SimpleNamespace(behind=behind)))
-            session._see_end(SessionCommand("run", lambda: None, 0, 0), replace(at_start, entries=3, place=9))
+            seen = SimpleNamespace(seen=SimpleNamespace(behind=behind), program=SimpleNamespace(way=(0, 1)))
+            session.operator = SimpleNamespace(console=SimpleNamespace(status=lambda: at_start), session=seen)
+            session._see_end(SessionCommand("run", lambda: None, 0, 0), replace(at_start, entries=3, place=9), 0)
             self.assertEqual(session.is_finished, is_finished)
 
 
@@ -1091,7 +1091,7 @@ class Shown(unittest.TestCase):
 
     def test_old(self) -> None:
         """While something is under way a place that was told a while ago isn't shown as the place now, as where the
-        player, or this computer, stands still for a second."""
+        player, or this computer, stands still for a second; so it is while home leads out of an alarm."""
         pictured = self.pictured("run")
         pictured.session.begins_at, pictured.session.ended, pictured.report.word = None, "", "works"
         pictured.session.past = pictured.session.past_mm = pictured.session.past_axes = ""
@@ -1101,6 +1101,10 @@ class Shown(unittest.TestCase):
                                  (None, now - 1, None), (view, 0.0, None)):
             pictured.face = SimpleNamespace(reported_at=at, view=shown)
             self.assertEqual(pictured._stale(), stale, (shown, now - at))
+        pictured.report.word = "alarm"
+        for shown, at in ((view, now - 1), (None, 0)):
+            pictured.face = SimpleNamespace(reported_at=now - 1, view=shown)
+            self.assertEqual(pictured._stale(), {"why": "alarm", "at": at})
 
     def test_finished(self) -> None:
         """Nothing is finished as long as a command is under way."""
@@ -1129,11 +1133,29 @@ class HeldJogs(unittest.TestCase):
     def test_presses(self) -> None:
         """A press that was let go isn't taken up by a wish that comes late; the next one is."""
         jog = HeldJog()
-        self.assertEqual((jog.wish("X+", "600", 3), jog.is_wanted()), (True, True))
+        old, new = (Wish("X+", "600", press) for press in (2, 3))
+        self.assertEqual((jog.wish(new), jog.is_wanted()), (True, True))
         jog.let_go(3)
-        self.assertEqual((jog.is_wanted(), jog.wish("X+", "600", 3), jog.wish("X+", "600", 2)), (False, False, False))
-        self.assertEqual((jog.wish("Y-", "60", 4), jog.is_wanted(), jog.way, jog.rate), (True, True, "Y-", "60"))
-        self.assertEqual((jog.wish("X+", "600", 3), jog.way, jog.last), (False, "Y-", 4))
+        self.assertEqual((jog.is_wanted(), jog.wish(new), jog.wish(old)), (False, False, False))
+        other = Wish("Y-", "60", 4)
+        self.assertEqual((jog.wish(other), jog.is_wanted(), jog.taken), (True, True, other))
+        self.assertEqual((jog.wish(new), jog.taken, jog.last), (False, other, 4))
+
+    def test_by_keys(self) -> None:
+        """One by keys holds from when the page said it; silence ends its press, which nothing takes up any more. That
+        of a button goes on where its page is heard again."""
+        for is_by_keys in (True, False):
+            jog = HeldJog()
+            wish = Wish("X+", "600", 1, 0.03, is_by_keys)
+            self.assertEqual((jog.wish(wish), jog.is_wanted()), (True, True))
+            time.sleep(0.04)
+            self.assertFalse(jog.is_wanted())
+            self.assertEqual(jog.wish(wish), not is_by_keys)
+        self.assertTrue(jog.wish(Wish("X+", "600", 3, 9, True)) and jog.wish(Wish("X+", "600", 3, -0.01, True)))
+        self.assertTrue(jog.is_wanted())  # one that was said before came later
+        jog = HeldJog()
+        self.assertEqual((jog.wish(Wish("X+", "600", 2, -0.01, True)), jog.is_wanted()), (True, False))
+        self.assertEqual(jog.wish(Wish("X+", "600", 2, 9, True)), False)
 
     def test_ends(self) -> None:
         """A hold ends a press, and so does a jog that ends by itself; the next press is another one."""
@@ -1144,12 +1166,13 @@ class HeldJogs(unittest.TestCase):
             def jog_while(*words: object) -> None:
                 done.append(words[:2])
 
-        self.assertTrue(jog.wish("X+", "600", 1))
+        one, two = (Wish("X+", "600", press) for press in (1, 2))
+        self.assertTrue(jog.wish(one))
         jog.end()
-        self.assertEqual((jog.is_wanted(), jog.wish("X+", "600", 1)), (False, False))
-        self.assertTrue(jog.wish("X+", "600", 2))
+        self.assertEqual((jog.is_wanted(), jog.wish(one)), (False, False))
+        self.assertTrue(jog.wish(two))
         jog.go(Refusing)
-        self.assertEqual((done, jog.wish("X+", "600", 2), jog.wish("X+", "60", 3)), ([("X+", "600")], False, True))
+        self.assertEqual((done, jog.wish(two), jog.wish(Wish("X+", "60", 3))), ([("X+", "600")], False, True))
 
 
 class Asides(InFolder):

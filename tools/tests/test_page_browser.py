@@ -6,22 +6,24 @@ import sys
 import threading
 import unittest
 from dataclasses import replace
-from functools import cache
 from pathlib import Path
 from statistics import median
 
 sys.path.insert(0, str(Path(__file__).resolve().parent))
 
-from browser_support import LONG, Browser
-from firefox_support import IS_FIREFOX, MISSING, PATH, start
+from browser_support import LONG, processor_s
+from firefox_support import IS_FIREFOX, MISSING, PATH, started
 from machine_support import SocketMachine
 from page_support import OTHER, SHORT, SLOW, Page, Served, slow_by
 from session_support import PATIENCE_S, TOOLS, ngc
+from out_support import text_of
 
 from ngc_tools.formats.device import Device
 from ngc_tools.formats.record import Record
 
 DOCS = TOOLS.parent / "docs"
+SHOTS = os.environ.get("NGC_SHOTS")
+"""A folder for pictures of sheets, for people to look at."""
 SIZES = ((1280, 800), (1024, 768), (1920, 1080))
 UPRIGHT = ((820, 1180), (390, 844), (360, 640))
 HOSTILE = "(<img src=x onerror=window.hacked=1>)\n(MSG, <script>window.hacked=1</script>)\nG17 G21 G90 G94\nM0\nM2\n"
@@ -164,14 +166,6 @@ RUN = """fetch('run', { method: 'POST', body: '{}', headers: { 'Content-Type': '
 """Asks for it as a touch does that was made before."""
 
 
-@cache
-def started() -> Browser:
-    """One browser for all tests."""
-    browser = start()
-    unittest.addModuleCleanup(browser.close)
-    return browser
-
-
 def keep_checking(page: Page, over: threading.Event) -> None:
     """Has programs checked, one after the other."""
     while not over.is_set():
@@ -192,6 +186,14 @@ class InBrowser(Served):
         self.browser.open(self.address)
         self.browser.wait("window.ngc?.state?.yours && ngc.jobId !== null")
         self.browser.hurry()
+
+    def shoot(self, name: str) -> None:
+        """Makes pictures, where somebody wants some."""
+        for size in ((1280, 800), (820, 1180), (390, 844)) if SHOTS else ():
+            self.browser.size(*size)
+            self.browser.frame()
+            self.browser.shoot(Path(SHOTS, f"{name}-{size[0]}.png"))
+        self.browser.size(1280, 800)
 
     def choose(self, text: str, name: str = "part.ngc") -> None:
         """Chooses a program, and waits until it is looked at."""
@@ -363,14 +365,9 @@ class Looks(InBrowser):
 
     def seconds(self, does: str) -> float:
         """The processor time of the page while it does something."""
-        before = self.ticks()
+        before = processor_s(self.browser)
         self.browser.js(does)
-        return self.ticks() - before
-
-    def ticks(self) -> float:
-        """The processor time that the page took, in seconds."""
-        metrics = self.browser.call("Performance.getMetrics")["metrics"]
-        return next(one["value"] for one in metrics if one["name"] == "TaskDuration")
+        return processor_s(self.browser) - before
 
 
 class Work(InBrowser):
@@ -703,7 +700,7 @@ class Power(InBrowser):
         self.wait_for("the record is kept", lambda: Path("position").exists())
         self.pull()
         record = Record.of_text(Path("position").read_bytes(), "position")
-        Path("position").write_bytes(replace(record, at_nm=(3_000_000, 0, 4_000_000)).text())
+        Path("position").write_bytes(text_of(replace(record, at_nm=(3_000_000, 0, 4_000_000))))
         self.begin_again()
         browser.wait("document.getElementById('run').textContent === 'Where is it?'")
         self.assertEqual(browser.js("[ngc.state.motors[0], ngc.state.at[0]].join()"), "3.000000,0.000000")

@@ -11,8 +11,8 @@ from pathlib import Path
 
 sys.path.insert(0, str(Path(__file__).resolve().parent))
 
-from browser_support import ANSWERS_S, LONG, Browser
-from firefox_support import MISSING, PATH, start
+from browser_support import ANSWERS_S, LONG, Browser, Chromium
+from firefox_support import MISSING, PATH, started
 from page_support import OTHER, Served
 from session_support import TOOLS, ngc
 from test_moves import MACHINE, PROBE, World, program
@@ -35,6 +35,14 @@ G1 X0 F600
 M2
 """
 """Its line 4 is a cut of three seconds."""
+FROM = """G17 G21 G90 G94 G49
+G0 X0 Y0 Z5
+G1 Z3 F600
+G1 X2
+X0
+G0 Z5
+M2
+"""
 LOSS = """G17 G21 G90 G94
 M3 S1000
 G0 X2 Y2
@@ -158,7 +166,7 @@ class Day(Walk):
     def day(self) -> None:
         """Each step, in turn, and each button that is named there."""
         for step in (self.homes, self.jogs, self.tools, self.zero, self.loads, self.runs, self.holds, self.stops,
-                     self.quits):
+                     self.from_line, self.quits):
             step()
         self.assertEqual(self.done, steps("A day"))
         self.assertEqual(buttons("A day") - self.pressed, set())
@@ -185,6 +193,15 @@ class Day(Walk):
         self.browser.press("1", ".choices button:nth-child(3)")
         self.browser.press("X\u2212", ".pad button")
         self.rests(f"Math.abs(s.motors[0] - {stood} + 1) < 1e-6")
+        self.press("By keys or gamepad", "#tab-setup button")
+        for _ in range(PRESSES if isinstance(self.browser, Chromium) else 0):
+            for kind in ("rawKeyDown", "keyUp"):
+                self.browser.key(kind, "ArrowRight")
+            if self.browser.js(SOON % f"Math.abs(ngc.state.motors[0] - {stood}) < 1e-6"):  # a step of the same length
+                break
+        else:
+            self.assertNotIsInstance(self.browser, Chromium)
+        self.rests()
         self.done.append("Setup: jog")
 
     def tools(self) -> None:
@@ -228,6 +245,10 @@ class Day(Walk):
             if undoes:
                 self.press("Undo", "#tab-setup button")
                 self.rests("s.work[2] === s.at[2]")
+        self.press("Offsets\u2026", "#tab-setup button")
+        rows = "document.querySelector('#over .offsets').innerText"
+        self.browser.wait(f"{rows}.includes('G59.3') && {rows}.includes('machine here: X 0.000')")
+        self.browser.press("Back", "#over button")
         self.done.append("Setup: work zero")
 
     def loads(self) -> None:
@@ -244,6 +265,9 @@ class Day(Walk):
         self.wait("s.program.lines === 2 && !s.busy")
         self.load(DAY)
         self.done.append("Load")
+        self.press("Stock", "#stock")
+        self.wait("ngc.stock.picture?.found && !ngc.stock.worker")
+        self.browser.press("Back", "#over button")
         for kind, shown in (("3-D", "turn"), ("Top", "shift")):
             self.browser.press(kind, ".path button")
             before = self.browser.js(f"String(ngc.picture.view.{shown})")
@@ -301,8 +325,32 @@ class Day(Walk):
         self.rests("s.finished && s.work[1] === '0.000000'")  # the line with a slash was left out
         self.done.append("A stop")
 
+    def from_line(self) -> None:
+        """A line is touched, and the program goes on from it, by a way that is asked, behind a look."""
+        self.tab("Setup")
+        self.press("Tell me at a stop, a tool change, the end", "#tab-setup button")
+        self.load(FROM)
+        self.tab("Program")
+        self.browser.press("X0", "#program .row")
+        self.press("From line 5", "#from")
+        self.pressed.add("From line 812\u2026")
+        for asked, answer in (("Up to which Z", "9"), ("How fast", "300")):
+            self.browser.wait(f"document.querySelector('#over .asked').textContent.includes('{asked}')")
+            self.browser.fill("#over .entry input", answer)
+            self.browser.press("Go on", "#over .go")
+        self.browser.press("Yes: stores and begins it", "#over .go")
+        self.browser.wait("document.querySelectorAll('#over .look button').length === 3")
+        self.browser.js("document.querySelectorAll('#over .look button').forEach(one => one.click())")
+        self.browser.press("Yes: goes there", "#over .go")
+        self.rests("s.finished && s.work[2] === '5.000000' && s.program.way[1] === 5")
+        self.done.append("From a line")
+
     def quits(self) -> None:
-        """The server ends."""
+        """What ran stands in the record; the server ends."""
+        self.tab("Log")
+        self.press("Record of runs", "#runs")
+        self.browser.wait("document.querySelector('#over pre').textContent.includes('from line 5')")
+        self.browser.press("Back", "#over button")
         self.press("Quit", "#quit")
         self.browser.press("Quit", "#over button")
         self.assertEqual(self.server.wait(ANSWERS_S), 0)
@@ -445,8 +493,7 @@ class Walks(Day, Loss):
     @classmethod
     def setUpClass(cls) -> None:
         """Starts the browser."""
-        cls.browser = start()
-        cls.addClassCleanup(cls.browser.close)
+        cls.browser = started()
 
     def test_day(self) -> None:
         """A day, from home to quit."""

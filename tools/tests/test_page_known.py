@@ -7,10 +7,12 @@ import subprocess
 import sys
 import threading
 import unittest
+from dataclasses import replace
 from pathlib import Path
 
 sys.path.insert(0, str(Path(__file__).resolve().parent))
 
+from out_support import text_of
 from page_support import OTHER, Page, Served
 from session_support import PATIENCE_S, ngc
 from test_moves import AT_SPEED, DOOR, MACHINE, X_LOW, World, program
@@ -221,6 +223,33 @@ class Known(Served):
         state = page.until("it is gone", lambda state: state["player_gone"])
         self.assertEqual((state["stale"]["why"], state["stale"]["by_record"]), ("player", True))
         self.assertGreater(float(state["past_mm"]), 0)
+
+    def test_cut_off_at_once(self) -> None:
+        """Power is lost at a jog's first pulses: by the record the motors stand where they stood before it, and the
+        page doesn't say so. Nothing goes from there before somebody tells where the machine is."""
+        page = self.page()
+        page.post("jog", {"axis": "X", "sign": 1, "rate": "600", "length": "9"})
+        self.wait_for("it moves", lambda: self.world.place[0] > 0)
+        self.pull()
+        marked = replace(self.recorded(), at_nm=(0, 0, 0), is_off=False, path_nm=None)
+        self.assertEqual(marked.stopped, "moving")
+        Path("position").write_bytes(text_of(marked))  # as it was synced before the first one
+        self.begin()
+        page = self.page(OTHER)
+        state = page.until("it is looked at", lambda state: state["motors"])
+        self.assertEqual((state["word"], state["tone"], state["unsure"], state["known"], state["apart"]),
+                         ("Place unsure", "ask", True, True, [False] * 3))
+        self.assertEqual((state["stale"]["why"], state["past_axes"], state["can"]["zero"]),
+                         ("power", [True] * 3, False))
+        self.assertEqual(page.post("mdi", {"line": "G0 X1"}), (200, {}))
+        state = page.until("it is refused", lambda state: not state["busy"] and "may have gone on" in page.said())
+        self.assertEqual(state["motors"], ["0.000000"] * 3)
+        self.assertEqual(page.post("jog", {"axis": "Y", "sign": 1, "rate": "600", "length": "1"}), (200, {}))
+        state = page.until("it jogs", lambda state: not state["busy"] and state["motors"][1] == "1.000000")
+        self.assertEqual((state["word"], state["unsure"], state["stale"]["why"]), ("Two places", True, "power"))
+        self.assertEqual(page.post("reference", {"at": "player"})[0], 200)
+        state = page.until("it is told", lambda state: not state["unsure"] and not state["busy"])
+        self.assertEqual((state["word"], state["stale"], state["at"]), ("Idle", None, state["motors"]))
 
     def test_counted_over_a_stop(self) -> None:
         """A player that goes on with another session has counted all along: nothing is by a record."""

@@ -1,6 +1,5 @@
 """Probing on the page: its sheets in each size, and a corner of the work that a person touches with it."""
 import json
-import os
 import sys
 import unittest
 from pathlib import Path
@@ -14,8 +13,6 @@ from test_page_measure import AtMachine
 from ngc_tools.operator.routines import ROUTINES
 
 PROBED = "[setter]\nprobe_tool = 1\nprobe_radius_um = 500\nfast_mm_min = 600\nslow_mm_min = 60\n"
-SHOTS = os.environ.get("NGC_SHOTS")
-"""A folder for pictures of the sheets, for people to look at."""
 TITLES = {"edge": "Edge", "outside": "Outside corner", "inside": "Inside corner", "surface": "Surface", "bore": "Bore",
           "boss": "Boss", "pocket": "Pocket", "web": "Web"}
 
@@ -33,14 +30,6 @@ class Sheets(test_page_browser.Moves):
         long = '"A name that is as long as a name may be" = ["M9"]\n'
         Path("first.macros").write_text('Lift = ["M5", "G53 G0 Z0"]\n' + long)
         super().begin_player()
-
-    def shoot(self, name: str) -> None:
-        """Makes pictures, where somebody wants some."""
-        for size in ((1280, 800), (820, 1180), (390, 844)) if SHOTS else ():
-            self.browser.size(*size)
-            self.browser.frame()
-            self.browser.shoot(Path(SHOTS, f"{name}-{size[0]}.png"))
-        self.browser.size(1280, 800)
 
     def test_sheets(self) -> None:
         """Each routine has its picture and its entries, which take lengths alone; nothing moves by them."""

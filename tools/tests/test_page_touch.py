@@ -87,6 +87,19 @@ class Fingers(test_page_browser.Moves):
         browser.wait("ngc.state.homed === 'XYZ' && !ngc.state.busy")
         self.assertFalse(browser.js("document.getElementById('toast').checkVisibility()"))
 
+    def test_below_a_sheet(self) -> None:
+        """What is told beside the lowest buttons gives way to the buttons of a sheet that opens by itself."""
+        browser = self.browser
+        browser.fill("#line", "G0 X99999")
+        browser.press("Do", "#do")
+        browser.wait("document.getElementById('toast').checkVisibility()")
+        self.machine.axes.alarm("emergency_stop")
+        browser.wait("!document.getElementById('over').hidden && document.querySelector('#over .foot button')")
+        browser.frame()
+        self.assertTrue(browser.js("document.getElementById('toast').checkVisibility()"))
+        self.assertLess(browser.js("document.getElementById('toast').getBoundingClientRect().bottom"),
+                        browser.js("document.querySelector('#over .foot').getBoundingClientRect().top"))
+
     def test_warned(self) -> None:
         """What a touch-off warns of stands where the finger was too."""
         browser = self.browser
@@ -189,7 +202,7 @@ class Fingers(test_page_browser.Moves):
         browser.press("Home all", "#tab-setup button")
         browser.wait("ngc.state.homed === 'XYZ' && !ngc.state.busy")
         self.assertEqual(browser.js(f"[{x}, {unit}]"), ["\u2212298.000", "mm"])
-        browser.press("Readout in inches", "#tab-setup button")
+        browser.press("Inches, read and typed", "#tab-setup button")
         self.assertEqual(browser.js(f"[{x}, {unit}]"), ["\u221211.7323", "in"])  # 298 / 25.4
         amber = "document.querySelector('.axis small').classList.contains('apart')"
         self.assertTrue(browser.js(amber))  # the program's are millimetres

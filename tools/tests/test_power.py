@@ -12,7 +12,7 @@ from unittest.mock import patch
 sys.path.insert(0, str(Path(__file__).resolve().parent))
 
 import power
-from power_axes import Screws
+from power_axes import HOME, Screws
 from power_chain import Chain, Plan
 from power_disk import CUT, SYNC, WRITE, Call, left_of, mark_lasting
 from power_path import Ledger, Legs, Uncut, Wrong, memory, run_uncut
@@ -111,7 +111,7 @@ class Power(unittest.TestCase):
         """Each planted fault is found, where the motors aren't or what isn't on, and nothing where none is planted."""
         for plant in power.PLANTS:
             found = power.try_plant(self.tools, plant, 1)
-            self.assertRegex(found, "motors stand at|is made with|legs lead|is at its end|are on the disk", plant)
+            self.assertRegex(found, "motors stand at|is made (at|with)|legs lead|is at its end|are on the disk", plant)
         self.assertEqual(power.try_plant(self.tools, "", 1), "")
 
     def test_lost_behind_a_jog(self) -> None:
@@ -133,6 +133,36 @@ class Power(unittest.TestCase):
             chain = Chain(self.tools, Path(folder).resolve(), job, random.Random(1), [Plan()])
             chain.run()
         self.assertEqual((lost_at, chain.lost, chain.ledger.made), ([(300, 0, 0)], 1, len(job.uncut.moves)))
+
+    def test_lost_behind_a_home(self) -> None:
+        """Power is lost as all is handed out, and nothing is made, over a sink; the machine is homed, and power is lost
+        again right behind that: legs lead back, and what is left is made."""
+        text = b"G17 G21 G90 G94\nM3 S1000\nG1 X0.06 F600\nM2\n"
+        job = power.Job(text, run_uncut(ngc(), FIRST, text, []), over="sink", has_ramps=True, has_home=True)
+        lost_at, command, after = [], Person.command, Chain.after
+
+        def loses(person: Person, said: str) -> str:
+            """What is typed next; power is lost once it is homed."""
+            typed = command(person, said)
+            if "homed: X Y Z" in said:
+                lost_at.append(person.ledger.steps)
+                person.shop.kill()
+                raise Lost
+            return typed
+
+        def homes(chain: Chain, *what: object) -> object:
+            """What power left; the next session begins with a home, once."""
+            measured = after(chain, *what)
+            chain.homes = chain.lost == 1
+            return measured
+
+        with tempfile.TemporaryDirectory(dir=memory()) as folder, patch.object(Person, "command", loses), patch.object(
+                Chain, "after", homes):
+            chain = Chain(self.tools, Path(folder).resolve(), job, random.Random(1), [
+                Plan(deeds="console out sync 2 kill"), Plan()])
+            self.addCleanup(chain.close)
+            chain.run()
+        self.assertEqual((lost_at, chain.lost, chain.ledger.made), ([HOME], 2, len(job.uncut.moves)))
 
     def judged(self, over: str, share: float, seed: int) -> None:
         """Jobs of seeds from this one on, over a file, a pipe or a sink, for a share of the seconds."""

@@ -1,4 +1,5 @@
 """What the judge of losses of power (power.py) found in tools/player."""
+import os
 import sys
 import time
 import unittest
@@ -10,6 +11,8 @@ from player_support import PlayerTest, preloaded
 from power_axes import HOME_TOML, SWITCH_STEPS, SWITCHES
 from session_support import PATIENCE_S
 from sink_support import ServedSink
+
+from ngc_tools.formats.record import Record
 
 # A disk that keeps nothing of the record while the file `full` is there.
 FULL = r"""#define _GNU_SOURCE
@@ -39,6 +42,26 @@ int fdatasync(int file) {
     return error;
 }
 """
+# A disk that takes 100 ms for each record; what a loss of power would leave of the last one is in the file `disk`.
+SYNCED = r"""#define _GNU_SOURCE
+#include <dlfcn.h>
+#include <fcntl.h>
+#include <stdio.h>
+#include <unistd.h>
+int fdatasync(int file) {
+    char text[512];
+    int (*real)(int) = dlsym(RTLD_NEXT, "fdatasync");
+    ssize_t size = pread(file, text, sizeof text, 0);
+    usleep(100000);
+    int error = real(file);
+    int disk = open("disk.part", O_CREAT | O_WRONLY | O_TRUNC, 0600);
+    if (write(disk, text, (size_t)size) == size) {
+        rename("disk.part", "disk");
+    }
+    close(disk);
+    return error;
+}
+"""
 SECOND_TICKS = 8_000_000
 NO_RECORD = "the record can't be kept"
 
@@ -47,7 +70,7 @@ class NoRecord(PlayerTest):
     """A record that can't be kept any more."""
 
     def test_jog(self) -> None:
-        """It ends the move that is under way, and no other is taken before another session: nobody waits for one that
+        """A move ends before its first pulse, and no other is taken before another session: nobody waits for one that
         is never made."""
         Path("out").touch()
         Path("motion.toml").write_text("[motion]\naccel_mm_s2 = [500, 500, 500]\n")
@@ -65,7 +88,8 @@ class NoRecord(PlayerTest):
         Path("full").unlink()
         self.assertEqual(link.jog("X-", "60", "1")[1], f"{NO_RECORD}: another session comes first")
         link.anew()
-        self.wait_for("another session goes on", lambda: link.ask().word == "moved")
+        self.wait_for("another session goes on", lambda: link.ask().word == "works")
+        self.assertEqual(link.ask().at, "0.000000 0.000000 0.000000")
         number, refused = link.jog("X+", "600", "0.1")
         self.assertEqual(refused, "")
         self.wait_for("it is over", lambda: link.machine().ended == number)
@@ -74,8 +98,33 @@ class NoRecord(PlayerTest):
         child.communicate(timeout=PATIENCE_S)
 
 
-class LostAmidHome(PlayerTest):
-    """A player over a step sink that is killed while it homes, with a record that is slow."""
+class Marked(PlayerTest):
+    """A move without lines, on a slow disk."""
+
+    def test_before(self) -> None:
+        """The record that says that it is under way is synced before its first pulse."""
+        Path("out").write_text("P 0 1 0 50\n" * 20)
+        Path("motion.toml").write_text("[motion]\naccel_mm_s2 = [500, 500, 500]\n")
+        child = self.begin("--follow", "--no-ask-tool", "--machine", "motion.toml", "--progress", "progress", "out",
+                           "first.toml", "position", env=preloaded("synced", SYNCED))
+        link = self.linked()
+        link.synced(Path("out").stat().st_size)
+        self.wait_for("its lines are carried out", lambda: link.ask().carried == 20)
+        self.wait_for("it is kept", lambda: Record.read("disk").lines == 20)
+        number, refused = link.jog("X+", "6", "1")
+        self.assertEqual(refused, "")
+        self.wait_for("it moves", lambda: link.ask().at != "0.000000 0.020000 0.000000")
+        found = Record.read("disk")
+        self.assertEqual((found.lines, found.at_nm, found.stopped), (20, (0, 20_000, 0), "moving"))
+        link.stop()
+        self.wait_for("it is over", lambda: link.machine().ended == number)
+        self.wait_for("it is kept", lambda: Record.read("disk").stopped == "")
+        child.terminate()
+        child.communicate(timeout=PATIENCE_S)
+
+
+class AmidHome(PlayerTest):
+    """A player over a step sink that homes."""
 
     def begun(self) -> None:
         """A sink with switches, and an OUT without a line."""
@@ -94,6 +143,43 @@ class LostAmidHome(PlayerTest):
                                 "first.toml", "position", env=self.env)
         self.link = self.linked()
 
+    def homes(self, wait_s: float) -> None:
+        """It begins with Z, and some time is over then."""
+        self.link.home("Z")
+        self.wait_for("it moves", lambda: self.link.ask().at != "0.000000 0.000000 0.000000")
+        time.sleep(wait_s)
+
+
+class NoRecordAmidHome(AmidHome):
+    """Its record can't be kept for a while."""
+
+    def test_lines_after_it(self) -> None:
+        """Wherever the home is broken off, also at a switch that was to halt the sink, another session's lines are
+        carried out."""
+        self.env = preloaded("full", FULL)
+        for number in range(8):
+            Path("out").unlink(missing_ok=True)
+            self.begun()
+            self.started()
+            self.homes(number * 0.03)
+            Path("full").touch()
+            self.wait_for("it is broken off", lambda: self.link.ask().word == "broken")
+            Path("full").unlink()
+            self.link.anew()
+            self.wait_for("another session begins", lambda: self.link.ask().word == "moved")
+            self.link.at(self.link.ask().at)
+            Path("out").write_text("P 0 0 -1 50\n" * 10)
+            self.link.synced(os.path.getsize("out"))
+            self.wait_for("its lines are made", lambda: self.link.ask().carried == 10)
+            self.child.terminate()
+            self.child.communicate(timeout=PATIENCE_S)
+            self.sink.end()
+            Path("progress").unlink(missing_ok=True)
+
+
+class LostAmidHome(AmidHome):
+    """It is killed, with a record that is slow."""
+
     def test_place(self) -> None:
         """Whenever it is killed, the next player knows where the motors are, or says that it doesn't."""
         self.env = preloaded("slow", SLOW)
@@ -101,9 +187,7 @@ class LostAmidHome(PlayerTest):
         for number in range(10):
             self.begun()
             self.started()
-            self.link.home("Z")
-            self.wait_for("it moves", lambda: self.link.ask().at != "0.000000 0.000000 0.000000")
-            time.sleep(number * 0.04)
+            self.homes(number * 0.04)
             self.child.kill()
             self.child.communicate()
             for line in ("serve 1", "serve 0", f"run {SECOND_TICKS} 0", "serve 20"):  # it makes what it has

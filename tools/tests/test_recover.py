@@ -19,11 +19,14 @@ from unittest.mock import Mock, patch
 
 sys.path.insert(0, str(Path(__file__).resolve().parent))
 
+from out_support import after, text_of
 from player_support import PlayerTest, built, record
+from power_axes import HOME_TOML, SWITCH_STEPS, SWITCHES
 from pulled_file import Options, Yes, program, pull
 from pulled_plug import program as stairs
 from pulled_plug import run_uncut
 from session_support import FIRST, InFolder, ngc, told
+from sink_support import ServedSink
 
 from ngc_tools.cli.rehearse import main as rehearse
 from ngc_tools.formats.device import Device
@@ -42,7 +45,7 @@ from ngc_tools.operator.recovery import Looking, OutFound, Recovery
 from ngc_tools.operator.sentences import GO_ON, LOOK, LOOK_AGAIN, LOOK_SWITCHED, SWITCHED_THERE
 from ngc_tools.operator.synced import SyncedLink
 from ngc_tools.operator.way_back import WayBack
-from ngc_tools.link.out_file import OutFile
+from ngc_tools.link.out_file import OutFile, born_ns
 from ngc_tools.link.progress import Report
 
 # A path by hand: spindle on, +X +X at 50 us, a wait, +Y at 200 us, +X -Z at 70 us. It leads to 3 1 -1.
@@ -512,6 +515,84 @@ class Finding(InFolder):
             finder.find("other", FileRecord(11, (0, 0, 1)))
         self.assertEqual(finder.find("other", FileRecord(11, (0, 0, -3))).size, 44)
 
+    def homed(self, line: str, *more: str, is_noted: bool = True) -> Finder:
+        """Six steps of X and then `line` were handed out, and then the device is told that the machine is at X-0.020,
+        where it is homed, with what else is given; by the note, or by none."""
+        self.device()
+        self.run_ngc(f"mdi G0 X0.006\ntick 9\nmdi {line}\ntick 99\n")
+        console = Console(ngc(), "mill.dev", "first.toml", "out")
+        self.addCleanup(console.kill)
+        console.status()
+        device, size = Device.read("mill.dev"), os.path.getsize("out")
+        with open("out", "rb") as file:
+            note = OutNote(os.fstat(file.fileno()).st_ino, born_ns(file.fileno()), device.epoch, 0,
+                           device.state.entries, size, size, 0, device.state.point_nm)
+        self.assertEqual(OutNote.of_text(note.text()), note)
+        for command in ("reference -0.02 0 0", *more):
+            console.ask(command)
+        console.kill()
+        return Finder(ngc(), "first.toml", Path("mill.dev").read_bytes(), note if is_noted else None)
+
+    def found(self, finder: Finder, kept: FileRecord) -> tuple[int, tuple[int, int, int], bool]:
+        """How many bytes of OUT lead to the end of what was handed out, where that is, and whether the motors are
+        beside it."""
+        found = finder.find("out", kept)
+        self.assertEqual(found.missing, b"")
+        return found.size, found.steps, found.is_off
+
+    def test_told_elsewhere(self) -> None:
+        """A device that was told another place, as by a home, doesn't make OUT another one's: by the note, by the
+        device's log, or by the motors, where it was told that they are. They are 4 steps from OUT's end, or beside it.
+        """
+        again = "reference -0.03 0 0"
+        for is_noted, more, steps in ((False, (), (-20, 0, 0)), (True, (), (-20, 0, 0)), (True, (), (-9, 0, 4)),
+                                      (False, (), (-9, 0, 4)), (True, (again,), (-30, 0, 0))):
+            finder = self.homed("G0 X0.010", *more, is_noted=is_noted)
+            self.assertEqual(self.found(finder, FileRecord(66, steps, (6, 0, 0))), (110, (10, 0, 0), True))
+            by_hand = FileRecord(66, (6, 0, 0))  # brought back
+            self.assertEqual(self.found(finder, by_hand), (110, (10, 0, 0), False))
+            Path("out").unlink()
+        self.homed("G0 X0.010")
+        for _ in range(3):
+            self.run_ngc("")
+        finder = Finder(ngc(), "first.toml", Path("mill.dev").read_bytes())
+        self.assertEqual(self.found(finder, FileRecord(66, (-20, 0, 0), (6, 0, 0))), (110, (10, 0, 0), True))
+        with self.assertRaisesRegex(CannotTell, "out doesn't lead to where the device has the machine"):
+            finder.find("out", FileRecord(66, (-9, 0, 4), (6, 0, 0)))
+
+    def test_round_told_elsewhere(self) -> None:
+        """A circle that is left never leads on from where the machine was homed."""
+        for is_noted in (True, False):
+            finder = self.homed("G2 X0.006 I0.003 F60", is_noted=is_noted)
+            size = os.path.getsize("out")
+            self.assertGreater(size, 66)
+            self.assertEqual(self.found(finder, FileRecord(66, (-20, 0, 0), (6, 0, 0))), (size, (6, 0, 0), True))
+            Path("out").unlink()
+
+    def test_round_handed_out_there(self) -> None:
+        """One that was handed out there does, also where the record still has the path before; without a note, where
+        the log tells it no more, neither is taken."""
+        home, kept = (-20, 0, 0), FileRecord(110, (-20, 0, 0), (10, 0, 0))
+        note = self.homed("G0 X0.010").note
+        self.run_ngc("mdi G2 X-0.02 I0.003 F60\ntick 99\n")
+        size = os.path.getsize("out")
+        self.assertGreater(size, 110)
+        finder = Finder(ngc(), "first.toml", Path("mill.dev").read_bytes())
+        self.assertEqual(self.found(finder, kept), (size, home, False))
+        self.run_ngc("")
+        self.run_ngc("reference 0.05 0 0\n")  # homed once more
+        image = Path("mill.dev").read_bytes()
+        device = Device(image)
+        note = replace(note, epoch=device.epoch, entries=device.snapshot.entries, size=size, begins=size,
+                       at_nm=(-20_000, 0, 0))
+        again = FileRecord(110, (50, 0, 0), (10, 0, 0))
+        self.assertEqual(self.found(Finder(ngc(), "first.toml", image, note), again), (size, home, True))
+        self.run_ngc("reference -0.02 0 0\n")
+        self.run_ngc("")
+        self.run_ngc("")
+        with self.assertRaisesRegex(CannotTell, "nothing tells any more whether the lines that are left lead on from"):
+            Finder(ngc(), "first.toml", Path("mill.dev").read_bytes()).find("out", kept)
+
     def test_rehearsal(self) -> None:
         """Of a move of 20 steps that was cut after 6 lines, of which 5 are carried out, behind one of 3 steps."""
         self.device()
@@ -520,7 +601,7 @@ class Finding(InFolder):
         source = OutFile("out")
         mark = source.mark(88)
         source.close()
-        Path("position").write_bytes(Record(f"{self.folder}/out", 8, 88, OFF, (3000, 0, 5000), mark).text())
+        Path("position").write_bytes(text_of(Record(f"{self.folder}/out", 8, 88, OFF, (3000, 0, 5000), mark)))
         words = ("mill.dev", "first.toml", "--out", "out", "--position", "position", "--ngc", ngc())
         status, said, _ = told(rehearse, *words)
         self.assertEqual((status, said.splitlines()[:8]), (0, [
@@ -644,13 +725,12 @@ class WithOperator(PlayerTest):
         source = OutFile("out")
         mark = source.mark(each * lines)
         source.close()
-        Path("position").write_bytes(Record(f"{self.folder}/out", lines, each * lines, OFF, at_nm, mark).text())
+        Path("position").write_bytes(text_of(Record(f"{self.folder}/out", lines, each * lines, OFF, at_nm, mark)))
 
-    def operate(self, *answers: str, out: str = "out", words: tuple[str, ...] = ("--untimed",)
-                ) -> tuple[Operator, Typing]:
+    def operate(self, *answers: str, out: str = "out", words: tuple[str, ...] = ("--untimed",),
+                pins: tuple[str, ...] = ("--pins", "pins")) -> tuple[Operator, Typing]:
         """An operator over a player that follows."""
-        self.begin("--follow", *words, "--no-ask-tool", "--pins", "pins", "--progress", "progress", out,
-                   "first.toml", "position")
+        self.begin("--follow", *words, "--no-ask-tool", *pins, "--progress", "progress", out, "first.toml", "position")
         self.linked()
         link = SyncedLink("progress", out, device=self.noted) if out == "out" else self.linked()
         self.addCleanup(link.close)
@@ -723,8 +803,8 @@ class Recovering(WithOperator):
         size = source.size()
         mark = source.mark(size)
         source.close()
-        at = Position((1000, 1000, 1000)).take_all(read_line(line, 1) for line in lines)
-        Path("position").write_bytes(Record(f"{self.folder}/out", len(lines), size, OFF, at.nm, mark).text())
+        at = after(Position((1000, 1000, 1000)), (read_line(line, 1) for line in lines))
+        Path("position").write_bytes(text_of(Record(f"{self.folder}/out", len(lines), size, OFF, at.nm, mark)))
         operator, face = self.operate("yes", "yes", "yes")
         operator.do("recover")
         self.assertIn("The motors are there: X 0.002000 Y 0.003000 Z -0.004000.", "\n".join(face.said))
@@ -748,7 +828,7 @@ class Recovering(WithOperator):
         mark = source.mark(size)
         source.close()
         at_nm = (3000, 0, -1000 * back)
-        Path("position").write_bytes(Record(f"{self.folder}/out", len(lines), size, OFF, at_nm, mark).text())
+        Path("position").write_bytes(text_of(Record(f"{self.folder}/out", len(lines), size, OFF, at_nm, mark)))
         operator, face = self.operate("yes", "yes", "no", "yes", "yes", "yes", "no")
         operator.do("recover")
         self.assertEqual(face.asked[-1], (LOOK_SWITCHED.strip().splitlines()[-1], [on]))
@@ -765,7 +845,7 @@ class Recovering(WithOperator):
         reader = subprocess.Popen(["cat", "axis"], stdout=subprocess.DEVNULL)
         self.cut_off("axis")
         reader.wait()
-        Path("position").write_bytes(Record(f"{self.folder}/axis", at_nm=(5000, 0, 4000)).text())
+        Path("position").write_bytes(text_of(Record(f"{self.folder}/axis", at_nm=(5000, 0, 4000))))
         operator, face = self.operate("61", "no", "", "yes", "no", "30", "no", "yes", "no", out="axis")
         operator.do("reference player")
         operator.do("resume")
@@ -786,7 +866,7 @@ class Recovering(WithOperator):
         """Where the player doesn't go there, as in an alarm, `ngc` isn't told that it did."""
         self.half_done()
         os.mkfifo("axis")
-        Path("position").write_bytes(Record(f"{self.folder}/axis", at_nm=(5000, 0, 4000)).text())
+        Path("position").write_bytes(text_of(Record(f"{self.folder}/axis", at_nm=(5000, 0, 4000))))
         operator, face = self.operate("yes", "0.006", "600", "yes", out="axis")
         operator.session.meter.link.legs = lambda *_: None
         operator.do("recover")
@@ -897,7 +977,7 @@ class Recovering(WithOperator):
         mark = source.mark(size)
         source.close()
         lines = text[:size].count(b"\n")
-        Path("position").write_bytes(Record(f"{self.folder}/out", lines, size, OFF, at, mark).text())
+        Path("position").write_bytes(text_of(Record(f"{self.folder}/out", lines, size, OFF, at, mark)))
         operator, face = self.operate("yes", "yes", "no")
         operator.do("recover")
         self.assertIn("on was, there: the spindle, clockwise at 900. yes switches it on first, anything else leaves it"
@@ -933,7 +1013,7 @@ class Recovering(WithOperator):
         """A pipe keeps no lines: by legs, over a height that is typed, and never without one."""
         self.half_done()
         os.mkfifo("axis")
-        Path("position").write_bytes(Record(f"{self.folder}/axis", at_nm=(5000, 0, 4000)).text())
+        Path("position").write_bytes(text_of(Record(f"{self.folder}/axis", at_nm=(5000, 0, 4000))))
         operator, face = self.operate("yes", "", "yes", "0.003", "", "yes", "0.006", "600", "no", "yes", "0.006", "600",
                                       "yes", "yes", out="axis")
         for said in (None, "Z 0.003 lies below Z 0.004000: legs go up first, and down last.",
@@ -1110,6 +1190,61 @@ class BesideThePath(WithOperator):
                       " record isn't that of this OUT", face.said)
 
 
+class ToldElsewhere(WithOperator):
+    """The device is told another place while lines are left in OUT, and power is lost again before `recover`."""
+
+    noted = "mill.dev"
+    LEGS = BesideThePath.LEGS
+
+    def begin(self, *words: str, **how: object) -> subprocess.Popen[str]:
+        """Keeps the player."""
+        self.player = super().begin(*words, **how)
+        return self.player
+
+    def told_then_lost(self, *words: str, typed: tuple[str, ...]) -> None:
+        """A session in which somebody types these, and then power is lost."""
+        operator, _ = self.operate(words=("--untimed", *words))
+        for line in typed:
+            operator.do(line)
+        self.lost(operator)
+
+    def lost(self, operator: Operator) -> None:
+        """Power is lost."""
+        operator.console.kill()
+        self.player.kill()
+        self.player.communicate()
+
+    def test_homed(self) -> None:
+        """Six steps of X were handed out, two are carried out, and the machine is homed at X-0.020; then, in another
+        session, power is lost on the way down of legs to X2. Legs lead there again, and on along 4 lines."""
+        self.device()
+        self.run_ngc("mdi G0 X0.003\ntick 9\nmdi G0 X0.006\ntick 9\n")
+        self.record_of(2, (2000, 0, 0))
+        self.told_then_lost("--at", "-0.02", "0", "0", typed=("reference player",))
+        operator, _ = self.operate(words=())
+        operator.session.meter.link.legs("0.004", "0.002 0 0", 66, "1")
+        self.wait_for("they go down", lambda: "reference 0.002000 0.000000 0.003" in Path("position").read_text())
+        self.lost(operator)
+        Path("pins").unlink()
+        self.told_then_lost(typed=())
+        operator, face = self.operate("yes", *self.LEGS)
+        operator.do("recover")
+        made = self.pins()
+        self.assertEqual(made[made.index("P 0 0 -1 100"):], ["P 0 0 -1 100"] * 4 + ["P 1 0 0 50"] * 4, face.said)
+        self.assertEqual(operator.look()[0].at, ("0.006000", "0.000000", "0.000000"))
+
+    def test_given_up(self) -> None:
+        """A block that is given up, with lines of it left: recover leads to where it began, not along them."""
+        self.half_done()
+        self.record_of(5, (3000, 0, 2000))
+        self.told_then_lost(typed=("reference player", "abandon"))
+        operator, _ = self.operate("yes", "yes", "yes")
+        operator.do("recover")
+        self.assertEqual(self.pins(), ["P 0 0 -1 50"] * 2)
+        status = operator.look()[0]
+        self.assertEqual((status.at, status.half), (("0.003000", "0.000000", "0.000000"), "none"))
+
+
 class Questions(WithOperator):
     """What is asked from a cut to cutting again, as docs/RECOVERY.md counts it: with the spindle on, and all answered
     as they lead on. `recover` is the one command."""
@@ -1118,12 +1253,16 @@ class Questions(WithOperator):
         """Cuts OUT."""
         real(size)
 
-    def lost(self, out: str) -> tuple[str, ...]:
-        """G1 Z-0.010 is open, under a spindle that turned; all of OUT is carried out. Where the motors are then."""
+    def handed_out(self, out: str, first: str = "M3 S900") -> None:
+        """G1 Z-0.010 is open, under a spindle that turned."""
         self.device()
-        text = "M3 S900\nG0 X0.003\nG1 Z-0.010 F60\nM2\n"
-        reader = subprocess.Popen(["cat", out], stdout=subprocess.DEVNULL) if out == "axis" else None
+        text = f"{first}\nG0 X0.003\nG1 Z-0.010 F60\nM2\n"
         self.run_ngc(f"load {len(text)}\n{text}start\ntick 18\nquit\n", out)
+
+    def lost(self, out: str, first: str = "M3 S900") -> tuple[str, ...]:
+        """The same, and all of OUT is carried out. Where the motors are then."""
+        reader = subprocess.Popen(["cat", out], stdout=subprocess.DEVNULL) if out == "axis" else None
+        self.handed_out(out, first)
         mark, lines, size, at = None, 0, 0, Position((1000, 1000, 1000), (3000, 0, -6000))
         if reader:
             reader.wait()
@@ -1131,30 +1270,45 @@ class Questions(WithOperator):
             source = OutFile("out")
             texts, size = Path("out").read_text().splitlines(), source.size()
             lines, mark = len(texts), source.mark(size)
-            at = Position((1000, 1000, 1000)).take_all(read_line(text, 1) for text in texts)
+            at = after(Position((1000, 1000, 1000)), (read_line(text, 1) for text in texts))
             source.close()
-        Path("position").write_bytes(Record(f"{self.folder}/{out}", lines, size, OFF, at.nm, mark).text())
+        Path("position").write_bytes(text_of(Record(f"{self.folder}/{out}", lines, size, OFF, at.nm, mark)))
         return tuple(str(at).split())
 
-    def asked(self, out: str, *answers: str, words: tuple[str, ...] = ()) -> list[str]:
+    def asked(self, out: str, *answers: str, words: tuple[str, ...] = ("--untimed",), typed: tuple[str, ...] = (),
+              pins: tuple[str, ...] = ("--pins", "pins")) -> list[str]:
         """The first words of each question."""
-        operator, face = self.operate(*answers, out=out, words=("--untimed", *words))
-        operator.do("recover")
+        operator, face = self.operate(*answers, out=out, words=words, pins=pins)
+        for line in (*typed, "recover"):
+            operator.do(line)
         self.assertEqual(operator.look()[0].half, "none", face.said)
         last = [said.strip().splitlines()[-1] for said, _ in face.asked]
         return [said.split(":")[0].split("?")[0].split(",")[0] for said in last]
 
     def test_file(self) -> None:
-        """Along OUT; without the first one where the place was told, as by --at where the record has it."""
+        """Along OUT."""
         self.lost("out")
         self.assertEqual(self.asked("out", "yes", "yes", "yes", "yes"), [
             "Do they stand there", "on was", "yes goes there", "yes goes on with the cut"])
 
+    def test_file_all_off(self) -> None:
+        """With all off one less."""
+        self.lost("out", "M5")
+        self.assertEqual(self.asked("out", "yes", "yes", "yes"), [
+            "Do they stand there", "yes goes there", "yes goes on with the cut"])
+
     def test_file_told(self) -> None:
-        """The place is told to the player."""
+        """The place is told to the player, as the record has it."""
         at = self.lost("out")
-        self.assertEqual(self.asked("out", "yes", "yes", "yes", words=("--at", *at)), [
+        self.assertEqual(self.asked("out", "yes", "yes", "yes", words=("--untimed", "--at", *at)), [
             "on was", "yes goes there", "yes goes on with the cut"])
+
+    def test_file_told_elsewhere(self) -> None:
+        """By legs."""
+        self.lost("out")
+        words = ("--untimed", "--at", "0", "0", "0")
+        self.assertEqual(self.asked("out", "0.001", "", "yes", "yes", "yes", words=words), [
+            "by legs then", "How fast down", "on was", "yes goes there", "yes goes on with the cut"])
 
     def test_pipe(self) -> None:
         """By legs."""
@@ -1163,6 +1317,55 @@ class Questions(WithOperator):
         self.assertEqual(self.asked("axis", "yes", "0.001", "", "yes", "yes", "yes"), [
             "Do they stand there", "by legs then", "How fast down", "on was", "yes goes there",
             "yes goes on with the cut"])
+
+    def test_pipe_told(self) -> None:
+        """The same where the place is told."""
+        os.mkfifo("axis")
+        at = self.lost("axis")
+        self.assertEqual(self.asked("axis", "0.001", "", "yes", "yes", "yes", words=("--untimed", "--at", *at)), [
+            "by legs then", "How fast down", "on was", "yes goes there", "yes goes on with the cut"])
+
+    def over_sink(self, out: str = "out") -> tuple[str, ...]:
+        """All of OUT is carried out over a sink, which has switches, and then the player loses its power. The words of
+        a player over it."""
+        sink = ServedSink(3_000)
+        self.addCleanup(sink.kill)
+        for number, axis, way in SWITCHES:
+            sink.tell(f"switch {number} {axis} {way} {way * SWITCH_STEPS}")
+        Path("mill.toml").write_text(f"[motion]\naccel_mm_s2 = [20000, 20000, 20000]\n{HOME_TOML}"
+                                     f'[sink]\nline = "{sink.path}"\nbaud = 2000000\n')
+        words = ("--machine", "mill.toml")
+        Path("out").touch()
+        child = self.begin(*(("--follow",) if out == "out" else ()), "--no-ask-tool", *words, "--progress", "progress",
+                           out, "first.toml", "position")
+        link = self.linked()
+        self.handed_out(out)
+        link.synced(os.path.getsize("out"))
+        link.last()
+        self.wait_for("all is carried out", lambda: link.kept()[0] == 9)
+        child.kill()
+        child.communicate()
+        return words
+
+    def test_sink(self) -> None:
+        """A sink that kept its power tells where the motors are."""
+        words = self.over_sink()
+        self.assertEqual(self.asked("out", "yes", "yes", "yes", words=words, pins=()), [
+            "on was", "yes goes there", "yes goes on with the cut"])
+
+    def test_pipe_and_sink(self) -> None:
+        """Over a pipe it can't tell what it made, and home comes first."""
+        os.mkfifo("axis")
+        words = self.over_sink("axis")
+        answers = "2.95", "", "yes", "yes", "yes"
+        self.assertEqual(self.asked("axis", *answers, words=words, typed=("home",), pins=()), [
+            "by legs then", "How fast down", "on was", "yes goes there", "yes goes on with the cut"])
+
+    def test_sink_homed(self) -> None:
+        """Once the machine is homed legs lead back."""
+        words = self.over_sink()
+        self.assertEqual(self.asked("out", "2.95", "", "yes", "yes", "yes", words=words, typed=("home",), pins=()), [
+            "by legs then", "How fast down", "on was", "yes goes there", "yes goes on with the cut"])
 
 
 class EndsWhereItBegan(WithOperator):
@@ -1187,12 +1390,12 @@ class EndsWhereItBegan(WithOperator):
         whole = "".join(f"{line}\n" for line in lines[:count])
         Path("out").write_text(whole)
         found = Settings.read("first.toml").step_nm
-        at = Position(found).take_all(read_line(line, 1) for line in lines[:count])
+        at = after(Position(found), (read_line(line, 1) for line in lines[:count]))
         source = OutFile("out")
         mark = source.mark(len(whole))
         source.close()
         record = Record(f"{self.folder}/out", count, len(whole), OFF, at.nm, mark)
-        Path("position").write_bytes(record.text())
+        Path("position").write_bytes(text_of(record))
         Path("pins").unlink(missing_ok=True)
 
     def begin(self, *words: str, **how: object) -> subprocess.Popen[str]:
@@ -1283,18 +1486,19 @@ class EndsWhereItBegan(WithOperator):
         self.assertEqual(Path("mill.dev.out").read_bytes(), before)
         operator.session.passed(operator.console.status())
         note, device = link.noted(), Device.read("mill.dev")
-        self.assertEqual((note.epoch, note.records, note.entries, note.size, note.begins),
-                         (device.epoch, 0, device.state.entries, 11, 11))
+        self.assertEqual((note.epoch, note.records, note.entries, note.size, note.begins, note.at_nm),
+                         (device.epoch, 0, device.state.entries, 11, 11, (1000, 0, 0)))
 
     def test_as_left(self) -> None:
         """Over any number of power ons `run` goes on with the next line of a program without a question, as long as
-        nothing else was done since; a line of one's own that moved is still known after them."""
+        all is as it was; a line of one's own that moved is still known after them."""
         self.device()
         operator, face = self.begun("")
-        operator.load("a program", b"G21 G90\nG0 X0.003\nM0\nG0 X0.006\nM0\nG0 X0.009\nM2\n")
+        operator.load("a program", b"G21 G90\nG0 X0.003\nM0\nG0 X0.006\nM0\nG0 X0.007\nM0\nG0 X0.009\nM2\n")
         operator.do("run")
-        for typed, questions in (("", []), ("G0 Y0.002", ["go on all the same"])):
-            operator.do(typed)
+        for typed, questions in (("", []), ("G0 Y0.002;G0 Y0", []), ("G0 Y0.002", ["go on all the same"])):
+            for line in typed.split(";"):
+                operator.do(line)
             for _ in range(3):
                 link = operator.session.meter.link
                 self.wait_for("the record has all", lambda: link.kept()[0] == len(self.lines()))

@@ -11,6 +11,7 @@ from unittest.mock import patch
 sys.path.insert(0, str(Path(__file__).resolve().parent))
 
 from session_support import FIRST, InFolder, ngc, told
+from out_support import after
 from test_device import DATA, stored
 
 from ngc_tools.ngc.console import Console
@@ -200,7 +201,7 @@ class Rehearsals(InFolder):
                      lines=700 + 1 + 2000 + 2 + 1000 + 900)
         whole = [read_line(line, 1) for line in Path("out").read_bytes().splitlines()]
         for lines in (1, 701, 702, 2702, 3704, 4603):
-            position = Position((1000, 1000, 1000), (700_000, 0, 0)).take_all(whole[:lines])
+            position = after(Position((1000, 1000, 1000), (700_000, 0, 0)), whole[:lines])
             self.assertIn(f"; {position.reference()}\n", self.rehearse("--carried-out", str(lines)))
 
     def test_held_program(self) -> None:
@@ -209,7 +210,7 @@ class Rehearsals(InFolder):
                      lines=3500)
         whole = [read_line(line, 1) for line in Path("out").read_bytes().splitlines()]
         for lines in (1001, 2000, 2001, 3500):
-            position = Position((1000, 1000, 1000)).take_all(whole[:lines])
+            position = after(Position((1000, 1000, 1000)), whole[:lines])
             self.assertIn(f"; {position.reference()}\n", self.rehearse("--carried-out", str(lines)))
 
     def test_full_log(self) -> None:

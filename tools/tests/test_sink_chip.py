@@ -14,7 +14,7 @@ sys.path.insert(0, str(Path(__file__).resolve().parent))
 
 import chip_planted
 import chip_scenarios
-from chip_support import COMPILER, SINK, chip_folder, elf_of, has_compiler, make_chip
+from chip_support import COMPILER, SINK, chip_model, elf_of, has_compiler, make_chip
 from sink_frames import REST, begin_frame, steep, words_frame
 
 
@@ -72,7 +72,7 @@ class OnChip(unittest.TestCase):
     def test_clock_stands(self) -> None:
         """Where a sender is late the clock of `serve` stands, though it says all the time that it is there: each word
         is made in its time."""
-        child = subprocess.Popen([chip_folder() / "emulate-stm32f103", elf_of("stm32f103"), "1"], text=True,
+        child = subprocess.Popen([chip_model("stm32f103", "emulate-stm32f103"), elf_of("stm32f103"), "1"], text=True,
                                  stdin=subprocess.PIPE, stdout=subprocess.PIPE)
         self.addCleanup(child.communicate)
         line = os.open(child.stdout.readline().strip(), os.O_RDWR | os.O_NOCTTY)
@@ -95,6 +95,21 @@ class OnChip(unittest.TestCase):
         self.assertEqual(len(ticks), 137)
         self.assertLessEqual(max(abs(after - at - 4000) for at, after in zip(ticks, ticks[1:])), 80)
 
+    def test_line_is_full(self) -> None:
+        """A sender that says more than the line carries by the clock of `serve` waits, as over a line that is one."""
+        child = subprocess.Popen([chip_model("stm32f103", "emulate-stm32f103"), elf_of("stm32f103"), "1"], text=True,
+                                 stdin=subprocess.PIPE, stdout=subprocess.PIPE)
+        self.addCleanup(child.communicate)
+        line = os.open(child.stdout.readline().strip(), os.O_RDWR | os.O_NOCTTY)
+        self.addCleanup(os.close, line)
+        child.stdin.write("serve 20000\n")
+        child.stdin.flush()
+        frame = words_frame(0, 0, *[steep(4000, 1)] * 48)
+        for _ in range(100_000 // len(frame)):
+            os.write(line, frame)
+        child.communicate("serve 0\nrun 8000 0\n")
+        self.assertEqual(child.returncode, 0)
+
     def test_images(self) -> None:
         """The files for programmers have the ELF's bytes, from where the chip or its bootloader begins."""
         for board, begins in (("stm32f103", FLASH), ("stm32f103_boot", FLASH + 0x2000), ("stm32f411", FLASH)):
@@ -111,7 +126,7 @@ class OnChip(unittest.TestCase):
         """What isn't an ELF for this chip is refused by name."""
         with tempfile.TemporaryDirectory() as folder:
             shutil.copy(SINK / "Makefile", Path(folder, "elf"))
-            words = [chip_folder() / "emulate-stm32f103", f"{folder}/elf", "1"]
+            words = [chip_model("stm32f103", "emulate-stm32f103"), f"{folder}/elf", "1"]
             done = subprocess.run(words, capture_output=True, text=True)
         self.assertEqual((done.returncode, done.stdout), (2, ""))
         self.assertIn("emulate ELF BOOT", done.stderr)

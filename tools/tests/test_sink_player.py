@@ -14,9 +14,11 @@ sys.path.insert(0, str(Path(__file__).resolve().parent))
 from pace_support import excess, straight
 from player_support import PlayerTest, Sanitized, played, record
 from session_support import FIRST, PATIENCE_S, TOOLS
-from sink_support import IS_CHIP, LATE_TICKS, TICK_NS, Made, ServedSink, changes, seen
+from sink_support import IS_CHIP, LATE_TICKS, TICK_NS, Made, ServedSink, changes, lasting, seen
 
-EXAMPLES = sorted((TOOLS.parent / "examples").glob("*.ngc"))
+EXAMPLES = [path for path in sorted((TOOLS.parent / "examples").glob("*.ngc"))
+            if path.stem in os.environ.get("NGC_EXAMPLES", path.stem).split()]
+"""All of them, or those that are named."""
 COARSE = (FIRST.replace("[1000, 1000, 1000]", "[50000, 50000, 50000]").replace("[50000000]", "[50000000, 62500000, 0]")
           .replace("period_us = 50\n", "period_us = 100\n"))
 FINE = FIRST.replace("[1000, 1000, 1000]", "[2500, 2500, 2500]")
@@ -115,7 +117,7 @@ class Whole(OverSink, unittest.TestCase):
         """The outputs are those of OUT's S lines, in order."""
         lines = [map(int, " ".join(words[1:]).replace(".", "").split()) for words in self.out() if words[0] == "S"]
         wanted = changes([seen(tuple(numbers)) for numbers in lines])
-        self.assertEqual(changes([each.outputs for each in made if each.outputs])[:len(wanted)], wanted)
+        self.assertEqual(changes(lasting(made))[:len(wanted)], wanted)
 
     def test_examples(self) -> None:
         """Of all examples the sink makes OUT's pulses and switches, each within a tick of the plan's; motors can follow
@@ -333,8 +335,9 @@ class Stops(OverSink, unittest.TestCase):
 
     def test_no_answer(self) -> None:
         """A sink that says nothing at the start."""
-        sink = self.serve()
+        sink = self.serve(0)
         sink.tell("cut 100000000")
+        sink.tell(f"serve {PATIENT_MS}")
         Path("out").write_text(LONG)
         self.assertRegex(self.refused(*self.words()), "no step sink answers: is it switched on")
         self.assertFalse(Path("position").exists())
@@ -385,7 +388,9 @@ class ByChance(OverSink, unittest.TestCase):
         self.assertEqual(status, 0, said)
         made = sink.end()
         self.assertEqual(self.check_record(made), len(self.out()), said)
-        self.assertLess(excess(self.timed(self.check_made(made)), (200_000,) * 3), 4, said)
+        ticks = self.check_made(made)
+        if not IS_CHIP:  # whose steps are up to a microsecond to and fro
+            self.assertLess(excess(self.timed(ticks), (200_000,) * 3), 4, said)
         return said
 
     def test_by_chance(self) -> None:

@@ -6,7 +6,7 @@ from pathlib import Path
 
 sys.path.insert(0, str(Path(__file__).resolve().parent))
 
-from firefox_support import MISSING, PATH, start
+from firefox_support import MISSING, PATH, started
 from test_moves import STOP
 from test_page_day import Walk
 
@@ -22,8 +22,7 @@ class ByTouch(Walk):
     @classmethod
     def setUpClass(cls) -> None:
         """Starts the browser."""
-        cls.browser = start()
-        cls.addClassCleanup(cls.browser.close)
+        cls.browser = started()
 
     def cuts(self) -> None:
         """The job cuts in line 4."""

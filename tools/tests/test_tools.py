@@ -1,12 +1,12 @@
 """What all tools have in common: help, wrong words, how they find `ngc`, an output that nobody reads."""
 import ast
 import os
-import re
 import shutil
 import subprocess
 import sys
 import tomllib
 import unittest
+from collections.abc import Callable
 from importlib import import_module
 from pathlib import Path
 from unittest.mock import patch
@@ -31,8 +31,13 @@ def imported(path: Path) -> set[str]:
     return {name.partition(".")[0] for name in names}
 
 
+def main_of(name: str) -> Callable[[list[str]], int]:
+    """What a tool calls, to be called in this process: to start one takes longer than what it does here."""
+    return import_module(f"ngc_tools.cli.{name.removeprefix('ngc-').replace('-', '_')}").main
+
+
 class Tools(InFolder):
-    """Each of the eleven."""
+    """Each of the ten."""
 
     def run_tool(self, name: str, *words: str, path: str = "", tools: Path = TOOLS) -> tuple[int, str, str]:
         """Runs a tool with this PATH: the exit status and what it writes."""
@@ -57,9 +62,10 @@ class Tools(InFolder):
         can't be read, why."""
         shutil.copytree(TOOLS, "installed", ignore=shutil.ignore_patterns("tests", "player", "sink", "__pycache__"))
         for name in NAMES:
-            self.assertEqual(self.run_tool(name, "--version"), (0, f"{name}\nbuilt from a checkout\n", ""), name)
+            said = told(main_of(name), "--version")
+            self.assertEqual(said, (0, f"{name}\nbuilt from a checkout\n", ""), name)
         Path("installed/BUILD").write_text("version: 1.0~x\ncommit: c\nkit: k\n")
-        for name in NAMES:
+        for name in ("ngc-check-disk", "ngc-page"):
             said = f"{name}\nversion: 1.0~x\ncommit: c\nkit: k\n"
             self.assertEqual(self.run_tool(name, "--version", tools=Path("installed")), (0, said, ""), name)
         Path("installed/BUILD").unlink()
@@ -70,7 +76,7 @@ class Tools(InFolder):
 
     def test_folder(self) -> None:
         """No Python of the folder in which a tool is started is run, by a tool or by what it starts."""
-        for name in ("sitecustomize", "usercustomize", "argparse", "json", "re", "ngc_tools"):
+        for name in ("sitecustomize", "usercustomize", "argparse", "json", "re", "start", "ngc_tools"):
             Path(f"{name}.py").write_text("open('ran', 'w').close()\n")
         Path("part.ngc").write_text("G21 G90 G17 G54 G94 G98\nG1 X1 F100\nM2\n")
         Path("motion.toml").write_text("[motion]\naccel_mm_s2 = [500, 500, 500]\n")
@@ -87,13 +93,12 @@ class Tools(InFolder):
         self.assertEqual({name for name in names if names.count(name) > 1}, set())
 
     def test_entry_points(self) -> None:
-        """What `pip install` puts on PATH is what the scripts call, and all of its folders are packages."""
+        """What `pip install` puts on PATH are the scripts' modules, and all of its folders are packages."""
         points = tomllib.loads((TOOLS / "pyproject.toml").read_text())["project"]["scripts"]
-        called = {}
-        for name in NAMES:
-            module, = re.findall(r"^from (ngc_tools\.cli\.\w+) import main\b", (TOOLS / name).read_text(), re.MULTILINE)
-            called[name] = f"{module}:main"
-        self.assertEqual(points, called)
+        modules = {name: name.removeprefix("ngc-").replace("-", "_") for name in NAMES}
+        self.assertEqual(points, {name: f"ngc_tools.cli.{module}:main" for name, module in modules.items()})
+        for name, module in modules.items():
+            self.assertIn(f'run_tool("{module}")\n', (TOOLS / name).read_text())
         folders = {path.parent for path in TOOLS.glob("ngc_tools/**/*.py")}
         self.assertGreater(len(folders), 6)
         self.assertEqual([folder for folder in folders if not (folder / "__init__.py").is_file()], [])
@@ -101,7 +106,7 @@ class Tools(InFolder):
     def test_wrong_words(self) -> None:
         """Status 2, on standard error, with the tool's name."""
         for name in NAMES:
-            status, said, error = self.run_tool(name, "--nothing")
+            status, said, error = told(main_of(name), "--nothing")
             self.assertEqual((status, said), (2, ""), name)
             self.assertTrue(error.splitlines()[-1].startswith(f"{name}: error: "), error)
 
@@ -115,7 +120,7 @@ class Tools(InFolder):
         shutil.copytree(TOOLS, "tools", ignore=shutil.ignore_patterns("tests"))
         os.symlink(ngc(), "tools/ngc")
         for name, words in WORDS.items():
-            main = import_module(f"ngc_tools.cli.{name.removeprefix('ngc-')}").main
+            main = main_of(name)
             with patch.dict(os.environ, PATH=""):
                 self.assertEqual(told(main, *words), (2, "", f"{name}: {NOT_FOUND}"))
             self.assertEqual(told(main, *words, "--ngc", "first.toml"),
@@ -126,10 +131,10 @@ class Tools(InFolder):
 
     def test_imports(self) -> None:
         """Python's standard library alone."""
-        paths = [*TOOLS.glob("ngc-*"), *TOOLS.glob("ngc_tools/**/*.py"), *TOOLS.glob("posts/*.py")]
+        paths = [*TOOLS.glob("ngc-*"), TOOLS / "start.py", *TOOLS.glob("ngc_tools/**/*.py"), *TOOLS.glob("posts/*.py")]
         self.assertGreater(len(paths), 40)
         for path in paths:
-            others = imported(path) - {*sys.stdlib_module_names, "ngc_tools"}
+            others = imported(path) - {*sys.stdlib_module_names, "start", "ngc_tools"}
             self.assertEqual((others, path), (set(), path))
 
     def test_nobody_reads(self) -> None:

@@ -124,7 +124,7 @@ class Zero(Core):
     def test_undo(self) -> None:
         """It takes one step back, once, and not where something else was set since."""
         self.begin()
-        nothing = "nothing to undo: it takes back the last zero or touch, once"
+        nothing = "nothing to undo: it takes back the last zero, touch or offset, once"
         self.assertEqual(self.do("undo"), [nothing])
         self.do("G0 X1", "zero X", "G0 X0.5", "zero X")
         self.assertEqual(self.operator.touch.undoes, "G10 L2 P1 X1 Y0 Z0")

@@ -6,6 +6,7 @@ import sys
 import time
 import unittest
 from collections.abc import Callable
+from contextlib import nullcontext
 from pathlib import Path
 from types import SimpleNamespace
 
@@ -13,10 +14,10 @@ sys.path.insert(0, str(Path(__file__).resolve().parent))
 
 from browser_support import chromium
 from session_support import PATIENCE_S, InFolder
-from walk import Covered, Step, Walk, shortened, told, walked
+from walk import ROUTINES, Covered, Step, Walk, shortened, told, walked
 from walk_late import Lateness
 from walk_page import Seen, Tabs
-from walk_rules import Truth, Wrong
+from walk_rules import Judge, Truth, Wrong
 
 WALK_S = float(os.environ.get("NGC_WALK_S", "90"))
 SHORTEN_S = 60.0
@@ -83,6 +84,27 @@ class Told(unittest.TestCase):
             Walk._told_place(walk, [{"what": "reference", "body": '{"at": "player"}'}], before)
             for axis, (found, off) in enumerate(zip(walk.truth.offset, (0.0, 0.005, 0.0))):
                 self.assertAlmostEqual(found, off, 6, (unit, axis))
+
+
+class Places(unittest.TestCase):
+    """Which place may be shown."""
+
+    def test_alarm(self) -> None:
+        """In an alarm one that was told a second ago is one of then; of a machine whose player was killed as it moved
+        nobody knows it."""
+        mill = SimpleNamespace(places=lambda begin, end: [(5.0, 0.0, 0.0)] if begin < 98.2 < end else [(6.0, 0.0, 0.0)],
+                               at_mm=(6.0, 0.0, 0.0), last=lambda _: [], pulses=0)
+        judge = Judge(SimpleNamespace(mill=mill), SimpleNamespace(slack_s=lambda _: 0.0))
+        for known, x, risk, is_right in ((True, "5.000", ", told 1.5 s ago", True), (True, "5.000", "", False),
+                                         (True, "4.000", ", told 1.5 s ago", False), (False, "4.000", "", True),
+                                         (False, "4.000", ", told 1.5 s ago", True)):
+            judge.truth.is_place_known = known
+            seen = Seen(0.0, {"motors": [x, "0", "0"], "work": [x, "0", "0"], "units": ["mm"] * 3, "blind": True,
+                              "past": "", "risk": f"As counted before the alarm{risk}: home tells where it is",
+                              "tone": "fail", "word": "ALARM"})
+            with self.subTest((known, x, risk)):
+                with nullcontext() if is_right else self.assertRaises(Wrong):
+                    judge.place(seen, 99.2, 100.0)
 
 
 class WaysOn(unittest.TestCase):
@@ -187,6 +209,29 @@ class Planted(InFolder):
         self.until(lambda walk: walk.bench.mill.rate_mm_s(time.monotonic()) > 3)
         later_s = 2 + 3 * LATE.slack_s(time.monotonic())  # than this computer may be by itself
         self.found(f"late {later_s:.1f}", "hold too late", ("hold", "button"))
+
+    def routine(self, number: int, fault: str, rule: str) -> None:
+        """A fault of a routine is found by its rule."""
+        self.plant(fault)
+        with self.assertRaises(Wrong) as raised:
+            for step in ROUTINES[number]:
+                self.does(step)
+                self.until(lambda walk: not walk.seen.busy or walk.seen.waits or walk.seen.question
+                           or walk.truth.within)
+            self.until(lambda _: False)
+        self.assertEqual(raised.exception.rule, rule, raised.exception)
+
+    def test_narrow(self) -> None:
+        """A routine of the probe that goes farther than it said."""
+        self.routine(0, "narrow", "past what was said")
+
+    def test_elsewhere(self) -> None:
+        """One that finds the work elsewhere."""
+        self.routine(2, "elsewhere", "not there")
+
+    def test_longer(self) -> None:
+        """A tool that is measured too long."""
+        self.routine(-1, "longer", "not so long")
 
     def loads(self) -> None:
         """LONG is loaded."""

@@ -31,7 +31,7 @@ from session_support import PATIENCE_S, memory
 from walk_late import Lateness
 from walk_machine import Bench
 from walk_page import Seen, Tabs
-from walk_rules import Judge, Truth, Wrong, changes, motors_of, number
+from walk_rules import Judge, Truth, Wrong, changes, motors_of, number, within_of
 
 STEPS = 50
 BEGINS_S = 1.0
@@ -61,7 +61,30 @@ PROGRAMS = (
 )
 LINES = ("G0 X1", "G0 X5 Y5", "G1 X3 F300", "G0 Z2", "G0 Z0", "M3 S500", "M5", "M8", "M9", "G91", "G90", "G20", "G21",
          "G91 G28 Z0", "G0 X500", "G1 Y2", "T1 M6", "T2 M6", "nonsense", "G43 H1", "G49", "G1 X30 F900", "M4 S1200",
-         "G4 P0.1", "G54", "G55", "(a word)")
+         "G4 P0.1", "G54", "G55", "(a word)", "G53 G0 Z4", "G53 G0 X30 Y30 Z-8")
+
+
+def _typed(*lines: str) -> tuple[Step, ...]:
+    """Lines, each of which is through before the next one."""
+    return tuple(step for line in lines for step in (("type", line), ("wait", "1.2")))
+
+
+def _probed(routine: str, *lines: str, entries: tuple[Step, ...] = ()) -> tuple[Step, ...]:
+    """The probe goes into the spindle, and where these lines lead; there a routine begins."""
+    return (("type", "T1 M6"), ("touch", "Tool 1 is in"), *_typed("G43 H1", "M5", "G53 G0 Z4", *lines),
+            ("touch", "Setup"), ("touch", "Probe the work\u2026 @Seek the probe"), ("touch", routine), *entries,
+            ("touch", "Probe"), ("touch", "Yes: begins"), ("wait", "5.0"), ("wait", "5.0"))
+
+
+ROUTINES = (
+    _probed("XYEdge", "G53 G0 X14 Y30", "G53 G0 Z-17"), _probed("XYOutside corner", "G53 G0 X15 Y15", "G53 G0 Z-17"),
+    _probed("XZSurface", "G53 G0 X30 Y30", "G53 G0 Z-8"),
+    _probed("XZBoss", "G53 G0 X10 Y40", "G53 G0 Z-12", entries=(
+        ("fill", "Its width, about, in mm", "8"), ("fill", "At most, to each face, in mm", "3"))),
+    (("type", "T2 M6"), ("touch", "Tool 2 is in"), *_typed("M5", "G53 G0 Z4"), ("touch", "Setup"),
+     ("touch", "Measure tool 2\u2026 @Touch off a tool"), ("touch", "Yes: measures"), *[("wait", "5.0")] * 4))
+"""The steps by which a routine of the probe, or a measure, begins, and some of its time; a button with a picture is
+named by its axes too. What comes of it is by chance."""
 NUMBERS = ("0", "1", "2.5", "-3", "4", "10", "-40", "0.1", "x")
 
 _WEIGHTS: tuple[tuple[str, float], ...] = (
@@ -71,7 +94,9 @@ _WEIGHTS: tuple[tuple[str, float], ...] = (
     (r"^(Set |Undo|Tool \d+ stands|Where the probe|[XYZ]([+\u2212]|$| @))", 2),
     (r"^(Back|No|Later|Close)", 2),
     (r"^(Program|Setup|Tools|Log)$", 1.2),
-    (r"^(Top|3-D|Fit|Light|Dark|All that)", 0.2), (r"^Quit", 0.25), (r"^(Load\u2026|Hold|Do$|Read the macros)", 0),
+    (r"^(Probe|Measure tool \d)", 3), (r"^X[YZ](Edge|Outside corner|Surface|Boss)$", 6), (r"^Read the macros", 0.2),
+    (r"^(Top|3-D|Fit|Light|Dark|All that|Stock|So far|After the job|Draw anew|As assumed|Flat|Ball|V$)", 0.2),
+    (r"^Quit", 0.25), (r"^(Load\u2026|Hold|Do$)", 0),
 )
 _WAYS_ON = (
     r"Take over", r"Yes, give it up", r"Yes: (cuts|drops)", r"(They|It) stand", r"Tool .* (is in|is out|in)$", r"Home$",
@@ -83,7 +108,7 @@ _FORWARDS, _WAITS = len(_WAYS_ON) - 3, 8
 """What a person touches who wants to get on, the first of these that there is; the last three once nothing else comes.
 """
 _MOVING = re.compile(r"^(Run|Continue|Let go on|Tool .* (in|out)$|Yes|It is done|Go on|Recover|Home|Restore|Resume"
-                     r"|Go along|Go by|Resume|Above work zero|Park|[XYZ]([+\u2212]| @|$))")
+                     r"|Go along|Go by|Resume|Above work zero|Park|Lift |To the boss|[XYZ]([+\u2212]| @|$))")
 _BY_RECORD = "by the record"
 """A yes to a question with these words says that the motors stand where the player has them."""
 _AXIS = re.compile(r"^([XYZ])([+\u2212]?)( @.*)?$")
@@ -314,6 +339,11 @@ class Walk:
         if not _MOVING.match(text):
             self._zero_asked(text)
             return
+        asked = (seen.question or {}).get("text", "") if text.startswith("Yes") else ""
+        truth.within = within_of(asked, self.bench.mill.at_mm, truth.offset or (0.0, 0.0, 0.0))
+        if truth.within is not None:
+            self.bench.mill.forget_reached()
+        truth.measures = asked.startswith("measure tool") or truth.measures and "would get" in asked
         was_quiet, axis = not truth.may_move, _AXIS.match(text)
         truth.may_move, truth.is_change_done = True, text.startswith("Tool")
         if axis:
@@ -620,6 +650,7 @@ class Chance:
 
     def __init__(self, seed: int, walk: Walk) -> None:
         self.random, self.walk = random.Random(seed), walk
+        self.routine: list[Step] = []  # what is left of the steps up to one
 
     def next(self) -> Step:
         """The next step."""
@@ -631,6 +662,8 @@ class Chance:
             return ("start", "server") if bench.has_player() else ("start", "player")
         if seen is None or seen.isLost:
             return chance.choice((("wait", "0.5"), ("reload",)))
+        if self.routine and chance.random() < 0.98:
+            return self.routine.pop(0)
         return self._at_machine() or self._at_page(seen)
 
     def _at_machine(self) -> Step | None:
@@ -658,6 +691,9 @@ class Chance:
             return "hold", chance.choice(("button", "space"))
         if draw < 0.20:
             return "wait", chance.choice(("0.1", "0.3", "1.0"))
+        if seen.tone == "idle" and not seen.sheet and chance.random() < 0.06:
+            self.routine = list(chance.choice(ROUTINES))
+            return self.routine.pop(0)
         ids = {one["id"] for one in seen.buttons}
         has_program = "No program" not in seen.detail
         if draw < 0.26 and any(one["id"] == "line" for one in seen.entries):

@@ -18,7 +18,7 @@ from pathlib import Path
 
 from player_support import SOURCES, built
 from session_support import PATIENCE_S, TOOLS, ngc
-from test_moves import DOOR, PROBE, STOP, World
+from test_moves import BOX, DOOR, POST, PROBE, STOP, World
 
 STEP_MM = 0.005
 ACCEL_MM_S2 = 500.0
@@ -38,6 +38,11 @@ max_rpm = 12000
 
 [setter]
 height_um = -40000
+at_um = [50000, 50000, 4000]
+probe_tool = 1
+probe_radius_um = 1000
+fast_mm_min = 300
+slow_mm_min = 60
 
 [inputs]
 emergency_stop = 0
@@ -57,6 +62,18 @@ pull_off_um = [1000, 1000, 500]
 at_um = [-9000, -9000, 4500]
 way_mm = [80, 80, 80]
 agree_um = 40
+"""
+LENGTHS_MM, RADII_MM = {0: 0.0, 1: 20.0, 2: 30.0}, {0: 0.0, 1: 1.0, 2: 1.5}
+"""What is in the spindle, by its slot: how far its end hangs below it, and how wide the ball at its end is; slot 1 is
+the probe's."""
+BODIES = ((BOX, (20, 20, -60), (40, 40, -35)), (BOX, (48, 48, -60), (52, 52, -40)),
+          (BOX, (-99, -99, -60), (99, 99, -45)), (POST, (10, 40), (4, -35)))
+"""The work, the setter, the table that both stand on, and a boss: from where to where, in mm; of the boss where its
+middle is, its radius and its top."""
+MACROS = """Lift = ["M5", "G53 G0 Z4"]
+"To the boss" = ["G53 G0 Z4", "G53 G0 X10 Y40"]
+Beyond = ["G53 G0 X99"]
+Rinse = ["M8", "G4 P0.1", "M9"]
 """
 _MADE, _PULSE, _LAST = struct.Struct("=8Q"), struct.Struct("=q3i3bx"), 1 << 17
 Point = tuple[float, float, float]
@@ -100,7 +117,12 @@ class Mill(World):
         super().__init__()
         for number, (high, axis, sign, at_mm) in enumerate(((1, 0, -1, -10), (2, 1, -1, -10), (3, 2, 1, 5))):
             self.switch(number, high, axis, sign, round(at_mm / STEP_MM))
-        self.switch(3, PROBE, 2, -1, round(-20 / STEP_MM))
+        for slot in LENGTHS_MM:
+            self.tool(slot, round(LENGTHS_MM[slot] / STEP_MM), round(RADII_MM[slot] / STEP_MM))
+        for number, (kind, low, high) in enumerate(BODIES):
+            self.solid(number, kind, *(tuple(round(mm / STEP_MM) for mm in point) for point in (low, high)))
+        self.touching(PROBE)
+        self.forget_reached()
 
     @property
     def pulses(self) -> int:
@@ -218,6 +240,8 @@ class Bench:
         """In the working folder; nothing is started yet."""
         Path("first.toml").write_text(SETTINGS)
         Path("motion.toml").write_text(MACHINE)
+        Path("first.macros").write_text(MACROS)
+        Path("mill.dev.measure").write_text('{"down_nm": -5000000, "within_nm": 20000000}')
         Path("out").touch()
         subprocess.run([ngc(), "format", "mill.dev"], check=True, capture_output=True)
         subprocess.run([ngc(), "run", "mill.dev", "first.toml", "out"], input="tool 1 20\ntool 2 30\n", text=True,

@@ -8,11 +8,17 @@ from pathlib import Path
 sys.path.insert(0, str(Path(__file__).resolve().parents[1]))
 
 from ngc_tools.cli.page import main
+from ngc_tools.operator import probing
 from ngc_tools.operator.face import REFUSED
+from ngc_tools.operator.routines import Plan, Probed
+from ngc_tools.operator.touch import Touch
+from ngc_tools.operator.touching import Box
 from ngc_tools.page import deeds, server
 from ngc_tools.page.session import PageSession
 
 STATE_OF, HOLD = server.state_of, PageSession.hold
+QUESTION, FOUND_BY, SET_LENGTH = probing._question, probing.found_by, Touch._set_length
+MM = 10**6  # nm
 
 
 def planted() -> str:
@@ -70,10 +76,29 @@ def hold(session: PageSession, *given: object) -> None:
     HOLD(session, *given)
 
 
+def question(wanted: object, box: Box, how: object) -> str:
+    """What is asked before a routine, with less of a way than it goes."""
+    (low, high), *rest = box
+    return QUESTION(wanted, ((low, high - 7 * MM), *rest) if planted() == "narrow" else box, how)
+
+
+def found_by(plan: Plan, *given: object) -> Probed:
+    """What a routine found, elsewhere."""
+    found = FOUND_BY(plan, *given)
+    away = 3 * MM if planted() == "elsewhere" else 0
+    return Probed({axis: nm + away for axis, nm in found.at.items()}, found.widths)
+
+
+def set_length(touch: Touch, slot: int, nm: int, *given: object) -> None:
+    """The length of a tool, a millimetre more of it."""
+    SET_LENGTH(touch, slot, nm + (MM if planted() == "longer" else 0), *given)
+
+
 deeds_switch, deeds_loss, deeds_zero = (deeds.DEEDS[name] for name in ("switch", "loss", "zero"))
 PLANTS: dict[str, Callable[[deeds.Given], dict | None]] = {"switch": dead, "loss": moves, "zero": refuses}
 
 if __name__ == "__main__":
     server.state_of, PageSession.hold = state_of, hold
+    probing._question, probing.found_by, Touch._set_length = question, found_by, set_length
     deeds.DEEDS.update(PLANTS)
     sys.exit(main())

@@ -5,8 +5,9 @@ import time
 from collections.abc import Iterator
 from dataclasses import dataclass
 
+from test_moves import BOX
 from walk_late import Lateness
-from walk_machine import ACCEL_MM_S2, STEP_MM, Bench, Outputs, Point
+from walk_machine import ACCEL_MM_S2, BODIES, LENGTHS_MM, RADII_MM, STEP_MM, Bench, Outputs, Point
 from walk_page import Seen
 
 FRESH_S = 0.8
@@ -24,6 +25,14 @@ NEAR_MM = {"mm": 0.0011, "in": 0.0026}
 _UNITS = {"mm": 1.0, "in": 25.4}
 _TURNS = {"\u21bb": 1, "\u21ba": 2}
 _NUMBER = re.compile(r"[-\u2212]?\d[\d,]*(?:\.\d+)?")
+TOUCH_MM = 0.06
+"""What was touched is told as near as that: both touches may differ by so much, and a step."""
+HEEDED_S = 0.05
+"""So long after the probe came on a move may go on as it went."""
+_FOUND = re.compile(r"probe [^:]*: machine (.*?); in G")
+_LENGTH = re.compile(r"tool (\d+) (-?[\d.]+)$")
+_WITHIN = re.compile(r"([XYZ]) from (-?[\d.]+) to (-?[\d.]+) \(")
+_ALONG = re.compile(r"([XYZ])(-?[\d.]+)")
 UNKNOWN = ("\u2013", "-", "\u2014", "?", "")
 
 
@@ -48,6 +57,36 @@ def point(texts: list[str]) -> Point | None:
         return None
     x, y, z = found
     return x, y, z
+
+
+@dataclass(frozen=True)
+class Within:
+    """Between which places of the machine a routine said that it moves, in mm, how fast at most, and where it is over
+    once the motors are there again; None where more may follow there."""
+
+    low: Point
+    high: Point
+    mm_s: float
+    ends_at: Point | None
+
+    def has(self, at: Point) -> bool:
+        """Whether a place lies between."""
+        return all(low - STEP_MM < mm < high + STEP_MM for low, mm, high in zip(self.low, at, self.high))
+
+
+def within_of(text: str, at: Point, offset: Point) -> Within | None:
+    """What a question says of where a routine moves, that begins at a place of the machine, while the page's numbers
+    are told wrong by an offset; None for other questions."""
+    ways: dict[str, list[float]] = {axis: [mm] for axis, mm in zip("XYZ", at)}
+    is_measure = text.startswith("measure tool")
+    if "no move leaves that" not in text.lower():
+        return None
+    found = (_ALONG.findall(text.partition(" at most, and back")[0]) if is_measure else
+             [(axis, end) for axis, *ends in _WITHIN.findall(text) for end in ends])
+    for axis, mm in found:
+        ways[axis].append(float(mm) - offset["XYZ".index(axis)])
+    low, high = (tuple(end(ways[axis]) for axis in "XYZ") for end in (min, max))
+    return Within(low, high, 25.0 if is_measure else 5.0, at if is_measure else None)
 
 
 def motors_of(seen: Seen) -> dict[str, float]:
@@ -78,11 +117,14 @@ class Truth:
     is_recovering: bool = False
     quiet_pulses: int = 0
     homes_at: int | None = None  # how many entries Log had as home was asked for last
+    within: Within | None = None  # where a routine that was agreed to said that it moves
+    measures: bool = False  # a tool is measured: its length is told next
 
     def rest(self) -> None:
         """What was asked for is over: from now on nothing moves. Where another zero was asked for, the one that is
         shown now is it."""
         self.may_move, self.ways, self.without_lines, self.is_change_done = False, None, False, False
+        self.within = None
         self.zero = None if self.is_zero_asked else self.zero
         self.is_zero_asked = False
 
@@ -96,6 +138,7 @@ class Judge:
         self._runs_at_rest_since = 0.0
         self._rests_in_motion_since = 0.0
         self._old_since = 0.0
+        self._logged = ("", 0)  # which page's Log had how many entries
         self._wall_s = min(_clocks() for _ in range(5))[1]
 
     def _count(self, name: str) -> None:
@@ -119,6 +162,7 @@ class Judge:
         since = told - FRESH_S - slack_s
         is_still = self.bench.mill.last_pulse_at() < since
         self.says_rest(seen, now, is_still)
+        self.found(seen)
         self.place(seen, since, told)
         if is_still:
             self.zero(seen)
@@ -140,17 +184,60 @@ class Judge:
     def moves(self) -> None:
         """Nothing moves that nobody asked for, nor along another axis, nor before somebody looked."""
         mill, truth = self.bench.mill, self.truth
-        pulses = mill.pulses
-        ways = mill.moved(truth.quiet_pulses, pulses)
+        begin, pulses = truth.quiet_pulses, mill.pulses
+        ways = mill.moved(begin, pulses)
         truth.quiet_pulses = pulses
         self._count("moves")
         if ways and not truth.may_move:
             raise Wrong("moved unasked", f"{ways}")
+        if truth.within is not None and truth.is_place_known:
+            self._stays(truth.within, begin, pulses)
         if truth.ways is not None and (others := {way: n for way, n in ways.items() if way not in truth.ways}):
             raise Wrong("moved another axis", f"{others}, asked for was {sorted(truth.ways)}")
         is_recovery = truth.is_recovering and not truth.is_change_done
         if ways and is_recovery and mill.turns_since > truth.touched_at:
             raise Wrong("moved before the look", f"the spindle came on, and {ways} followed without a touch")
+
+    def _stays(self, within: Within, begin: int, end: int) -> None:
+        """A routine doesn't leave what it said, nor goes on where it touches."""
+        mill, way_mm = self.bench.mill, within.mm_s ** 2 / (2 * ACCEL_MM_S2)
+        self._count("routines")
+        for pulse in [*mill.between(begin, end)][::-1]:
+            if not within.has(pulse.at_mm):
+                raise Wrong("past what was said", f"at {pulse.at_mm}; said was {within}")
+            if pulse.at_mm == within.ends_at:
+                self.truth.within = None
+                return
+        deep_mm = mill.reached[0] * STEP_MM
+        if deep_mm > way_mm + within.mm_s * (HEEDED_S + self.slack_s(self.truth.touched_at)) + 2 * STEP_MM:
+            raise Wrong("too deep", f"{deep_mm:.3f} mm into a body at {mill.at_mm}")
+
+    def found(self, seen: Seen) -> None:
+        """What a routine says that it touched is there: a face, or the middle of two; or the length of the tool."""
+        before, self._logged = self._logged, (seen.session, seen.logs)
+        new = seen.log[:max(0, seen.logs - before[1])] if before[0] == seen.session else []
+        offset = self.truth.offset
+        if offset is None or not self.truth.is_place_known:
+            return
+        for says in (says[len("00:00:00"):] for kind, says in new if kind == "said"):
+            if match := _FOUND.match(says):
+                for axis, mm in _ALONG.findall(match[1]):
+                    self._is_there("XYZ".index(axis), float(mm) - offset["XYZ".index(axis)], says)
+            elif self.truth.measures and (match := _LENGTH.match(says)):
+                self._is_long(int(match[1]), float(match[2]) - offset[2], says)
+
+    def _is_there(self, axis: int, mm: float, says: str) -> None:
+        """A ball that touches an edge is there by its radius at most."""
+        self._count("found")
+        slot = self.bench.mill.outputs.slot
+        faces = [*_faces(axis)] if axis < 2 else [top + LENGTHS_MM[slot] for top in _faces(2)]
+        if min(abs(mm - face) for face in faces) > RADII_MM[slot] + TOUCH_MM:
+            raise Wrong("not there", f"{says!r}: the machine's place is {mm:.3f}, and there are {faces}")
+
+    def _is_long(self, slot: int, mm: float, says: str) -> None:
+        self._count("lengths")
+        if slot == self.bench.mill.outputs.slot and abs(mm - LENGTHS_MM[slot]) > TOUCH_MM:
+            raise Wrong("not so long", f"{says!r}: tool {slot} is {LENGTHS_MM[slot]} mm long")
 
     def says_rest(self, seen: Seen, now: float, is_still: bool) -> None:
         """What moves is said to move, and what rests to rest."""
@@ -185,6 +272,9 @@ class Judge:
         elif seen.blind and seen.risk.startswith("Last known"):
             ago_s = _seconds(seen.risk)
             is_so = ago_s is None or self._was_at(wanted, unit, since - ago_s, told - ago_s + ROUNDED_S)
+        elif seen.blind and seen.risk.startswith("As counted before the alarm, told"):
+            ago_s = _seconds(seen.risk) or 0.0
+            is_so = not self._is_known(seen) or self._was_at(wanted, unit, since - ago_s, told - ago_s + ROUNDED_S)
         else:
             is_so = not self._is_known(seen) or self._was_at(wanted, unit, since, told)
         self._count("place")
@@ -304,6 +394,17 @@ class Judge:
                         f" {1000 * (heeded_s - HOLD_S):.0f} ms for the load; pauses in ms: {mill.pauses_ms(touched)}")
         if way_mm > stop_mm + rate * heeded_s + 10 * STEP_MM:
             raise Wrong("hold too far", f"{way_mm:.3f} mm at {rate:.1f} mm/s")
+
+
+def _faces(axis: int) -> Iterator[float]:
+    """Where bodies have faces along an axis, and their middles; of Z their tops."""
+    for kind, low, high in BODIES:
+        if axis == 2:
+            yield float(high[-1])
+        elif kind == BOX:
+            yield from (float(low[axis]), (low[axis] + high[axis]) / 2, float(high[axis]))
+        else:  # a ball beside its middle touches it anywhere round it
+            yield from (low[axis] + mm for mm in range(-high[0], high[0] + 1))
 
 
 def _clocks() -> tuple[float, float]:

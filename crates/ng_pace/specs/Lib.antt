@@ -13,6 +13,7 @@ pub mod WaitingPulses
 pub mod Wanted
 pub mod Stream
 pub mod Legs
+pub mod Haste
 pub mod Making
 pub mod Passing
 pub mod Path

@@ -25,8 +25,8 @@ ABOUT = """Write a CAM system's text as `ngc` accepts it, and list each line tha
 
 Comments, program and block numbers, units, G91.1, tolerances, arcs by radius, full circles without an end, G0 and G1
 without an axis, words of a rotary axis that stays at 0, tool numbers above 128, G28 and G30 of Z or of X and Y under
-G91, and a missing M2: each is written as `ngc` takes it, with the same motions. docs/TOOLS.md has the table. All other
-words stay as they are, and each line stays a line. `ngc dry` decides of what comes out."""
+G91, and a missing M2: each is written as `ngc` takes it, with the same motions. docs/tools/ngc-adapt.md has the
+table. All other words stay as they are, and each line stays a line. `ngc dry` decides of what comes out."""
 
 EXAMPLE = """example:
   ngc-adapt part.nc --lift 0 --settings mill.toml --output part.ngc

@@ -8,7 +8,7 @@ from contextlib import ExitStack, closing, suppress
 from importlib import import_module
 
 from ngc_tools.cli import line_times
-from ngc_tools.cli.run import new_parser, run
+from ngc_tools.cli.run import add_ngc, new_parser, run
 from ngc_tools.failure import Failure, WrongWords
 from ngc_tools.ngc.before_start import CannotBegin, look
 from ngc_tools.ngc.console import Console, Ended
@@ -52,6 +52,16 @@ exit status:
 def make_parser() -> argparse.ArgumentParser:
     """The words that it takes."""
     parser = new_parser("ngc-operate", ABOUT, EXAMPLE)
+    add_session(parser)
+    parser.add_argument("--machine", metavar="FILE",
+                        help="the machine's file: with its table [motion] times are those with ramps; `touch` takes"
+                        " height_um of its table [setter]")
+    add_ngc(parser)
+    return parser
+
+
+def add_session(parser: argparse.ArgumentParser) -> None:
+    """Adds the words of a session, for the page too."""
     parser.add_argument("device", metavar="DEVICE", help="the device, as `ngc format` made it")
     parser.add_argument("settings", metavar="SETTINGS", help="the machine's settings, in TOML")
     parser.add_argument("out", metavar="OUT", help="where pulses go: a named pipe with a player, a file, a serial line")
@@ -59,11 +69,6 @@ def make_parser() -> argparse.ArgumentParser:
     parser.add_argument("--ahead", type=int, metavar="N",
                         help="how many lines OUT may be ahead of the player at most (without it as many as the player"
                         f" wants, {LIMIT} of one that doesn't say it)")
-    parser.add_argument("--machine", metavar="FILE",
-                        help="the machine's file: with its table [motion] times are those with ramps; `touch` takes"
-                        " height_um of its table [setter]")
-    parser.add_argument("--ngc", metavar="PATH", help="the program ngc (else beside this tool, else on PATH)")
-    return parser
 
 
 def main(arguments: list[str] | None = None) -> int:

@@ -8,16 +8,17 @@ import sys
 from collections.abc import Mapping
 from dataclasses import dataclass
 
-from ngc_tools.cli.operate import as_found, bound, check_ahead, metered
+from ngc_tools.cli.operate import add_session, as_found, bound, check_ahead, metered
 from ngc_tools.cli.run import add_ngc, new_parser, run
 from ngc_tools.failure import Failure, WrongWords
 from ngc_tools.formats.device import Device
+from ngc_tools.formats.text import shown
 from ngc_tools.ngc.before_start import CannotBegin, look
 from ngc_tools.ngc.console import Console
 from ngc_tools.ngc.machine_report import Motion
 from ngc_tools.ngc.run import find_ngc
 from ngc_tools.ngc.usable_settings import look_at_settings
-from ngc_tools.operator.meter import LIMIT, Meter
+from ngc_tools.operator.meter import Meter
 from ngc_tools.operator.operator import Operator
 from ngc_tools.operator.recovery import OutFound
 from ngc_tools.operator.setter import Setter
@@ -62,18 +63,13 @@ _SWITCH_S = 0.0005  # after so long threads take turns, so that a tick doesn't w
 def make_parser() -> argparse.ArgumentParser:
     """The words that it takes."""
     parser = new_parser("ngc-page", ABOUT, EXAMPLE)
-    parser.add_argument("device", metavar="DEVICE", help="the device, as `ngc format` made it")
-    parser.add_argument("settings", metavar="SETTINGS", help="the machine's settings, in TOML")
-    parser.add_argument("out", metavar="OUT", help="where pulses go: a named pipe with a player, a file, a serial line")
-    parser.add_argument("--player", metavar="SOCKET", help="the socket of the player's --progress")
+    add_session(parser)
     parser.add_argument("--machine", metavar="FILE", help="the machine's file, as the player takes it: times with"
                         " ramps, and the height of the tool setter")
-    parser.add_argument("--ahead", type=int, metavar="N",
-                        help="how many lines OUT may be ahead of the player at most (without it as many as the player"
-                        f" wants, {LIMIT} of one that doesn't say it)")
     parser.add_argument("--start-player", metavar="COMMAND", help="starts a player where none listens at --player, and"
                         " once the last one is gone and `Start ngc again` is touched: one word, as"
                         " 'player -f -s progress -m player.toml out mill.toml position'")
+    parser.add_argument("--jobs", metavar="FOLDER", help="a folder of programs, which the page shows to be loaded")
     parser.add_argument("--listen", default="127.0.0.1:8585", metavar="HOST:PORT", help="where pages come from"
                         " (without it 127.0.0.1:8585); another HOST lets in whoever hears the network, which the key"
                         " crosses in clear: docs/PAGE.md has a safer way for a tablet")
@@ -98,6 +94,8 @@ def work(args: argparse.Namespace) -> int:
     if args.start_player is not None and args.player is None:
         raise WrongWords("--start-player COMMAND goes with --player SOCKET")
     starter = PlayerStarter(args.start_player, args.player) if args.start_player is not None else None
+    if args.jobs is not None and not os.path.isdir(args.jobs):
+        raise WrongWords(f"{shown(os.fsencode(args.jobs))}: --jobs takes a folder of programs")
     key = key_of(os.environ)
     ngc = find_ngc(args.ngc)
     if args.machine:
@@ -107,6 +105,8 @@ def work(args: argparse.Namespace) -> int:
     with listening(host, port) as file:
         session = PageSession(Opener(ngc, args, starter), PageFace(), args.machine or "")
         try:
+            if args.jobs:
+                session.show_jobs(args.jobs)
             session.start()
             serve(session, key, host, file, args.address)
         finally:

@@ -18,7 +18,7 @@ from ngc_tools.formats.position import millimetres
 from ngc_tools.formats.record import Record
 from ngc_tools.operator.display import on_words
 from ngc_tools.operator.recovery import Looking, Recovery
-from ngc_tools.link.out_file import OtherFile, OutFile, where_to_begin
+from ngc_tools.link.out_file import OutFile, check_record
 from ngc_tools.ngc.run import find_ngc
 from ngc_tools.ngc.usable_settings import look_at_settings
 
@@ -114,9 +114,7 @@ def recovered(args: argparse.Namespace, ngc: str, image: bytes) -> Recovery:
     record = Record.read(args.position)
     source = OutFile(args.out)
     try:
-        begun = where_to_begin(record, source)
-        if begun.size != record.size:
-            raise OtherFile(f"{args.position} speaks of {record.out}, not of {args.out}")
+        check_record(args.position, record, source)
         looking = Looking(ngc, args.settings, image, NoteFile(args.device).read())
         found = looking.look(args.out, source.file, record.lines, record.size, record.at_nm, record.outputs,
                              record.path_nm)
@@ -161,7 +159,7 @@ def _said(found: Found, lines: int, since: Device, device: Device) -> list[str]:
     """Where the motors were, for people."""
     state, program = found.state, Program(device.program)
     entries = since.snapshot.entries if since.records else since.state.entries
-    what = f"line {program.number(state.place)} of {program.count}" if state.half == 1 else "a line of the operator's"
+    what = f"{program.named_at(state.place)} of {program.last}" if state.half == 1 else "a line of the operator's"
     segment = f"segment {state.segment}" if state.opened == 1 else f"the approach to segment {state.segment}"
     said = [f"{lines} lines carried out, counted from {entries} entries on",
             f"the motors were in {what}: {shown_line(state.half_text)}",
@@ -176,5 +174,5 @@ def _end(device: Device) -> str:
     state, program = device.state, Program(device.program)
     if not state.half:
         return "the end of what was handed out"
-    line = f"line {program.number(state.place)}" if state.half == 1 else "the operator's line"
+    line = program.named_at(state.place) if state.half == 1 else "the operator's line"
     return f"{line}, segment {state.segment}, where resume begins"

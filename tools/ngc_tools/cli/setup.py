@@ -23,8 +23,8 @@ from ngc_tools.scratch import Scratch
 from ngc_tools.setup.asking import ask_accel, ask_axes, ask_line, ask_settings, ask_yes
 from ngc_tools.setup.texts import machine_text, settings_text
 
-ABOUT = """Ask once for a machine's axes, steps, travel and step sink, write its settings and its machine's file with a
-comment on each key, make its device, and check all of it.
+ABOUT = """Make the files of a machine: ask once for its axes, steps, travel and step sink, write its settings and its
+machine's file with a comment on each key, make its device, and check all of it.
 
 What is there stays as it is, and isn't asked for: remove a file to be asked again. Nothing is made before all is
 answered."""

@@ -10,7 +10,7 @@ from dataclasses import dataclass
 from pathlib import Path
 
 from ngc_tools.failure import Failure
-from ngc_tools.files import naming, read
+from ngc_tools.files import naming, read, sync_folder
 from ngc_tools.formats.device import SECTOR, SIZE
 
 NAME = "ngc-check-disk.records"
@@ -58,11 +58,7 @@ class Records:
         for sector in range(SECTORS):
             os.pwrite(self._file, record(self._run, 0), SECTOR * sector)
         os.fsync(self._file)
-        folder = os.open(self.path.parent, os.O_RDONLY | os.O_DIRECTORY | os.O_CLOEXEC)
-        try:
-            os.fsync(folder)
-        finally:
-            os.close(folder)
+        sync_folder(self.path)
 
     def write(self) -> None:
         """Writes the next record and syncs it. Raises OSError with the path; then it may be there or not."""

@@ -9,6 +9,9 @@ Point = tuple[int, int, int]
 SPINDLE = ("STOP_SPINDLE_TURNING", "START_SPINDLE_CLOCKWISE", "START_SPINDLE_COUNTERCLOCKWISE")
 """The commands of the spindle, by what a device stores of it."""
 _PLANES = {17: "XY", 18: "XZ", 19: "YZ"}
+_SETS = {"SELECT_PLANE": "plane", "USE_LENGTH_UNITS": "unit", "SET_FEED_RATE": "feed", "INVERSE_TIME": "inverse",
+         "SET_SPINDLE_SPEED": "speed", "SELECT_TOOL": "selected", "USE_TOOL_LENGTH_OFFSET": "length"}
+"""The commands that set a value to their argument."""
 
 
 @dataclass(frozen=True, slots=True)
@@ -33,34 +36,20 @@ class InForce:
 
     def after(self, command: Command) -> "InForce":
         """What is in force after a command."""
-        if command.name in MOTIONS:
+        name = command.name
+        if name in MOTIONS:
             return replace(self, inverse=0) if self.inverse else self
-        match command.name:
-            case "SELECT_PLANE":
-                return replace(self, plane=str(command.args[0]))
-            case "USE_LENGTH_UNITS":
-                return replace(self, unit=str(command.args[0]))
-            case "SET_FEED_RATE":
-                return replace(self, feed=int(command.args[0]))
-            case "INVERSE_TIME":
-                return replace(self, inverse=int(command.args[0]))
-            case "SET_SPINDLE_SPEED":
-                return replace(self, speed=int(command.args[0]))
-            case "SELECT_TOOL":
-                return replace(self, selected=int(command.args[0]))
-            case "CHANGE_TOOL":
-                return replace(self, tool=int(command.args[0]), spindle="STOP_SPINDLE_TURNING")
-            case "USE_TOOL_LENGTH_OFFSET":
-                return replace(self, length=int(command.args[0]))
-            case "SET_ORIGIN_OFFSETS":
-                return replace(self, origin=command.point)
-            case "MIST_ON" | "MIST_OFF":
-                return replace(self, mist=command.name == "MIST_ON")
-            case "FLOOD_ON" | "FLOOD_OFF":
-                return replace(self, flood=command.name == "FLOOD_ON")
-            case "START_SPINDLE_CLOCKWISE" | "START_SPINDLE_COUNTERCLOCKWISE" | "STOP_SPINDLE_TURNING":
-                return replace(self, spindle=command.name)
-        return self
+        if name in _SETS:
+            return replace(self, **{_SETS[name]: command.args[0]})
+        if name == "CHANGE_TOOL":
+            return replace(self, tool=int(command.args[0]), spindle="STOP_SPINDLE_TURNING")
+        if name == "SET_ORIGIN_OFFSETS":
+            return replace(self, origin=command.point)
+        if name in ("MIST_ON", "MIST_OFF"):
+            return replace(self, mist=name == "MIST_ON")
+        if name in ("FLOOD_ON", "FLOOD_OFF"):
+            return replace(self, flood=name == "FLOOD_ON")
+        return replace(self, spindle=name) if name in SPINDLE else self
 
     def to_program(self, at: Point) -> Point:
         """The program coordinates of a machine point, that of the tool's tip in Z, in nm."""

@@ -7,6 +7,10 @@ from ngc_tools.formats.text import shown, shown_line
 _COMMENT = re.compile(rb"\(([^()]*)\)")
 _CHANGE = re.compile(rb"M[ \t]*0*[ \t]*6(?![ \t]*[0-9.])", re.IGNORECASE)
 _MESSAGE = re.compile(rb"[ \t]*M[ \t]*S[ \t]*G[ \t]*,(.*)", re.IGNORECASE | re.DOTALL)
+WAY_BEGINS, WAY_ENDS = "(ngc: the way to line {}, tool {})\n", "(ngc: line {})\n"
+"""The first and the last line of those that lead to a line of a longer program, with the slot of the tool in the
+spindle there; the text has that line and the rest behind them."""
+_WAY = re.compile(rb"(?:[ \t]*%[ \t]*\r?\n)?\(ngc: the way to line ([1-9]\d{0,6}), tool (\d{1,3})\)\n")
 
 
 @dataclass(frozen=True, slots=True)
@@ -23,6 +27,34 @@ class Program:
     def number(self, place: int) -> int:
         """The number, from 1, of the line that begins at byte `place`."""
         return self.text.count(b"\n", 0, place) + 1
+
+    @property
+    def way(self) -> tuple[int, int]:
+        """How many lines lead to a line of a longer program, and the number of that line there; 0 and 1 of others."""
+        begins = _WAY.match(self.text)
+        end = self.text.find(WAY_ENDS.format(int(begins[1])).encode(), begins.end()) if begins else -1
+        return (self.number(end), int(begins[1])) if begins and end >= 0 else (0, 1)
+
+    @property
+    def way_slot(self) -> int | None:
+        """The slot of the tool that is in the spindle at the end of that way; None where there is none."""
+        begins = _WAY.match(self.text)
+        return int(begins[2]) if begins and self.way[0] else None
+
+    def named(self, number: int) -> str:
+        """Line `number` for people, by its number in the program that it is of."""
+        way, first = self.way
+        return f"line {number} of the way" if number <= way else f"line {number - way + first - 1}"
+
+    def named_at(self, place: int) -> str:
+        """The line that begins at byte `place`, for people."""
+        return self.named(self.number(place))
+
+    @property
+    def last(self) -> int:
+        """The number of its last line, in the program that it is of."""
+        way, first = self.way
+        return self.count - way + first - 1
 
     def line(self, place: int) -> str:
         """The line that begins at byte `place`, as people can read it."""

@@ -1,4 +1,4 @@
-"""A machine's file: its tables, their keys, and what each takes (docs/TOOLS.md, docs/MACHINE.md, docs/SINK.md)."""
+"""A machine's file: its tables, their keys, and what each takes (docs/tools/player.md, MACHINE.md, SINK.md)."""
 from collections.abc import Mapping
 from dataclasses import dataclass
 from pathlib import Path

@@ -10,22 +10,22 @@ from contextlib import suppress
 from dataclasses import dataclass
 from pathlib import Path
 
-from ngc_tools.files import naming, open_without_waiting
+from ngc_tools.files import naming, open_without_waiting, sync_folder
 from ngc_tools.formats.device import Device
 
 SUFFIX = ".out"
 _SIZE = 512  # bytes: a disk writes them whole or not at all
 _HEADER = struct.Struct("<8s8xQ")  # of a device, docs/DEVICE.md: its mark and its epoch
 _TEXT = re.compile(rb"out (\d{1,19}) (\d{1,19})\nlog (\d{1,13}) (\d{1,4}) (\d{1,13})\n"
-                   rb"bytes (\d{1,18}) (\d{1,18}) ([01])\n +\n")
+                   rb"bytes (\d{1,18}) (\d{1,18}) ([01])\n(?:at (-?\d{1,18}) (-?\d{1,18}) (-?\d{1,18})\n)? +\n")
 
 
 @dataclass(frozen=True, slots=True)
 class OutNote:
     """OUT, known by its inode and when it was made, had `size` bytes on the disk as the device had `entries` entries
     and the log of its `epoch` so many `records`, with nothing under way. The half-done segment began behind `begins`
-    bytes of it; that is `size` where none was. `as_left`: nothing was done since the program was left for its next
-    line."""
+    bytes of it; that is `size` where none was. They lead to `at_nm`, None where that isn't known. `as_left`: nothing
+    was done since the program was left for its next line."""
 
     inode: int
     born_ns: int
@@ -35,12 +35,14 @@ class OutNote:
     size: int
     begins: int
     as_left: int = 0
+    at_nm: tuple[int, int, int] | None = None
 
     def text(self) -> bytes:
         """What stands in the file, 512 bytes."""
         said = (f"out {self.inode} {self.born_ns}\nlog {self.epoch} {self.records} {self.entries}\n"
                 f"bytes {self.size} {self.begins} {self.as_left:d}\n")
-        return said.encode().ljust(_SIZE - 1) + b"\n"
+        at = "" if self.at_nm is None else "at {} {} {}\n".format(*self.at_nm)
+        return (said + at).encode().ljust(_SIZE - 1) + b"\n"
 
     def is_of(self, device: Device) -> bool:
         """Whether a device's log goes back to it."""
@@ -53,7 +55,10 @@ class OutNote:
     def of_text(text: bytes) -> "OutNote | None":
         """Reads one; None for any other text."""
         match = _TEXT.fullmatch(text)
-        return OutNote(*map(int, match.groups())) if match else None
+        if match is None:
+            return None
+        *numbers, x, y, z = match.groups()
+        return OutNote(*map(int, numbers), at_nm=None if x is None else (int(x), int(y), int(z)))
 
 
 class NoteFile:
@@ -79,7 +84,7 @@ class NoteFile:
         """Removes it. Raises OSError with the path."""
         with suppress(FileNotFoundError):
             os.unlink(self.path)
-            _sync_folder(self.path)
+            sync_folder(self.path)
 
     def write(self, note: OutNote) -> None:
         """Writes over the last one, and syncs it. Raises OSError with the path, also where something else stands there;
@@ -98,13 +103,4 @@ class NoteFile:
             finally:
                 os.close(file)
         if not found:
-            _sync_folder(self.path)
-
-
-def _sync_folder(path: str) -> None:
-    """Makes the name of a new file lasting. Raises OSError."""
-    folder = os.open(os.path.dirname(path) or ".", os.O_RDONLY | os.O_DIRECTORY | os.O_CLOEXEC)
-    try:
-        os.fsync(folder)
-    finally:
-        os.close(folder)
+            sync_folder(self.path)

@@ -1,5 +1,5 @@
 """Where the machine stands by the lines of OUT: whole steps, counted from a point in machine millimetres."""
-from collections.abc import Iterable, Sequence
+from collections.abc import Sequence
 from math import isqrt
 
 from ngc_tools.failure import BadNumber
@@ -37,12 +37,6 @@ class Position:
             self.steps[0] += line.x
             self.steps[1] += line.y
             self.steps[2] += line.z
-
-    def take_all(self, lines: Iterable[Line]) -> "Position":
-        """Counts lines of OUT, and returns itself."""
-        for line in lines:
-            self.take(line)
-        return self
 
     @property
     def nm(self) -> tuple[int, int, int]:

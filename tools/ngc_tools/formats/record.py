@@ -1,15 +1,12 @@
-"""The record of what a player carried out: one sector of text, as docs/TOOLS.md has it."""
+"""The record of what a player carried out: one sector of text, as docs/tools/player.md has it."""
 import re
-from dataclasses import dataclass, replace
+from dataclasses import dataclass
 
 from ngc_tools.failure import BadNumber, Failure
 from ngc_tools.files import opened
 from ngc_tools.formats.out import OFF, Switch, read_line
-from ngc_tools.formats.position import millimetres
 
 SIZE = 512  # bytes: a disk writes them whole or not at all
-LONGEST_PATH = 236  # bytes: with it counts of fifteen digits have room, and all else at its greatest
-OLDEST_MS = 9999  # as an age is written
 
 _COUNT = r"0|[1-9][0-9]{0,17}"
 _NUMBER = r"0|[1-9][0-9]{0,18}"
@@ -31,10 +28,6 @@ _AGE = re.compile(r"age ([1-9][0-9]{0,3})")
 _HOMED = re.compile(r"homed (?=[XYZ])(X?Y?Z?)")
 _OFF = re.compile("(off)")
 _STOPPED = re.compile(r"stopped ([a-z]+)")
-_SINK = "a lost step sink"
-ALARMS = {"emergency": "the emergency stop", "limit": "a limit",
-          **dict.fromkeys(("lost", "reset", "deaf", "cut", "sink", "killed"), _SINK)}
-"""By the word of a record: what stopped motors whose place isn't known since."""
 
 
 class BadRecord(Failure, ValueError):
@@ -50,16 +43,13 @@ class FileMark:
     born_ns: int
     digest: int
 
-    def __str__(self) -> str:
-        return f"{self.inode} {self.born_ns} {self.digest:08x}"
-
 
 @dataclass(frozen=True, slots=True)
 class Record:
     """The first `lines` lines of `out`, its first `size` bytes, are carried out. `outputs` are as the last switch left
     them, and the machine stands at `at_nm`. `mark` is that of a file, as a pipe has none. `stopped` is what ended the
-    player before OUT's end, in a word, one of ALARMS until the machine was homed. `age_ms` is how old a record on the
-    disk ever was as the next one came, in whole milliseconds; 0 where that isn't known, and OLDEST_MS for more. `homed`
+    player before OUT's end, in a word. `age_ms` is how old a record on the
+    disk ever was as the next one came, in whole milliseconds; 0 where that isn't known. `homed`
     are the axes that were homed since the player began, as `XYZ`; `is_off`: the motors left the path of OUT by a move
     without lines. `path_nm` is where the lines that are carried out lead, where the motors aren't there and it is
     known; it stands in the file where OUT's name leaves room. `screws`, as `+ - ?`, says where those of X, Y and Z are
@@ -78,33 +68,6 @@ class Record:
     screws: str = ""
     path_nm: tuple[int, int, int] | None = None
 
-    def text(self) -> bytes:
-        """What stands in the file, 512 bytes. Raises BadRecord if the path of OUT can't stand in it."""
-        check_path(self.out)
-        lines = [
-            f"out {self.out}",
-            f"lines {self.lines}",
-            f"bytes {self.size}",
-            f"outputs {self.outputs}",
-            "reference " + " ".join(map(millimetres, self.at_nm)),
-        ]
-        if self.mark:
-            lines.append(f"file {self.mark}")
-        if self.screws:
-            lines.append(f"screws {self.screws}")
-        if self.age_ms:
-            lines.append(f"age {self.age_ms}")
-        if self.homed:
-            lines.append(f"homed {self.homed}")
-        if self.is_off:
-            lines.append("off")
-        if self.stopped:
-            lines.append(f"stopped {self.stopped}")
-        if self.mark and self.path_nm not in (None, self.at_nm):
-            path = "path " + " ".join(map(millimetres, self.path_nm))
-            lines[6:6] = [path] if _size([*lines, path]) < SIZE else []
-        return _bytes(lines).ljust(SIZE - 1) + b"\n"
-
     @staticmethod
     def of_text(text: bytes, path: str) -> "Record":
         """Reads a record, the bytes of the file `path`. Raises BadRecord."""
@@ -119,25 +82,6 @@ class Record:
         """Reads the file `path`. Raises BadRecord, or OSError."""
         with opened(path) as file:
             return Record.of_text(file.read(SIZE + 1), str(path))
-
-
-def _bytes(lines: list[str]) -> bytes:
-    """Lines as they stand in a file."""
-    return ("\n".join(lines) + "\n").encode("utf-8", "surrogateescape")
-
-
-def _size(lines: list[str]) -> int:
-    """How many bytes they take."""
-    return len(_bytes(lines))
-
-
-def check_path(out: str) -> None:
-    """Raises BadRecord if a path of OUT can't stand in a record."""
-    size = len(out.encode("utf-8", "surrogateescape"))
-    if size > LONGEST_PATH:
-        raise BadRecord(f"{out}: too long a path for a record: it has {size} bytes, and at most {LONGEST_PATH} fit")
-    if "\n" in out:
-        raise BadRecord(f"{out}: a path with a line's end in it can't stand in a record")
 
 
 def _read(text: bytes) -> Record:
@@ -186,8 +130,3 @@ def machine_nm(text: str) -> int:
         raise BadNumber(f"not a number of millimetres with at most six decimals: {text}")
     size = int(match[2] or 0) * 10**6 + int((match[3] or "").ljust(6, "0"))
     return -size if match[1] == "-" else size
-
-
-def stopped(outputs: Switch) -> Switch:
-    """The same outputs with spindle and coolant off."""
-    return replace(outputs, spindle=0, mist=False, flood=False)

@@ -12,7 +12,7 @@ from ngc_tools.job.split import CannotPart, Part, Place
 from ngc_tools.ngc.copies import CommandRefused, Copy
 from ngc_tools.ngc.worlds import LineRefused, World
 
-_COMPARED = (*MOTIONS, "DWELL", "PROGRAM_STOP", "OPTIONAL_PROGRAM_STOP", "PALLET_SHUTTLE", "MESSAGE", "COMMENT")
+COMPARED = (*MOTIONS, "DWELL", "PROGRAM_STOP", "OPTIONAL_PROGRAM_STOP", "PALLET_SHUTTLE", "MESSAGE", "COMMENT")
 _SWITCHES = re.compile(rb"(S [^\n]*\n)")
 
 
@@ -57,11 +57,11 @@ def _acts(head: Iterable[Command], commands: Iterable[Command],
                 if in_force.to_program(at) != place.at or now != replace(place.in_force, inverse=0):
                     raise CannotPart("a part's head doesn't bring about what is in force before line"
                                      f" {place.line + 1}")
-        elif command.name in _COMPARED:
-            yield command, _matters(command, before)
+        elif command.name in COMPARED:
+            yield command, matters(command, before)
 
 
-def _matters(command: Command, in_force: InForce) -> InForce:
+def matters(command: Command, in_force: InForce) -> InForce:
     """What of that matters to a command: a dwell or a message has no plane, a traverse no feed."""
     if command.name not in MOTIONS:
         return replace(in_force.without_offsets(), plane="", unit="", feed=0, inverse=0)

@@ -16,13 +16,12 @@ _LEAST_ACCEL, _GREATEST_ACCEL = 3, 10**9  # steps a second, each second
 @dataclass(frozen=True, slots=True)
 class Limits:
     """What motors allow, by axes, in steps and seconds: accelerations of 3 to 1,000,000,000, rates of which 0 is any,
-    and rates at which a motor can start and stop at once. A motor may be `slack` steps off its pulses, 1 to 64. An
-    override is at most `most_percent` of OUT's rates, 100 to 200."""
+    and rates at which a motor can start and stop at once. An override is at most `most_percent` of OUT's rates, 100 to
+    200."""
 
     accel: Axes
     rate: Axes = (0, 0, 0)
     start: Axes = (0, 0, 0)
-    slack: int = 2
     most_percent: int = 100
 
 
@@ -70,7 +69,7 @@ def _limits(path: str | Path, motion: Mapping[str, Any], step_nm: Axes) -> Limit
     if any(mm and not steps for mm, steps in zip(rates_mm, rate)):
         raise BadMachine(f"{path}: motion: rate_mm_min is less than a step a second")
     start = _steps(motion.get("start_mm_min", [0, 0, 0]), step_nm, 60)
-    return Limits(accel, rate, start, slack=motion.get("slack_steps", 2), most_percent=motion.get("most_percent", 100))
+    return Limits(accel, rate, start, motion.get("most_percent", 100))
 
 
 def _steps(per_axis: list[int], step_nm: Axes, seconds: int) -> Axes:

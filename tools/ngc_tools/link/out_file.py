@@ -4,11 +4,10 @@ import errno
 import os
 import stat
 import zlib
-from dataclasses import replace
 from pathlib import Path
 
 from ngc_tools.failure import Failure
-from ngc_tools.files import is_device
+from ngc_tools.files import is_device, naming
 from ngc_tools.formats.record import FileMark, Record
 
 TAIL_BYTES = 4096  # of which a digest is kept
@@ -62,25 +61,20 @@ class OutFile:
 
     def _read_at(self, begin: int, size: int) -> bytes:
         """So many bytes, fewer at its end. Raises OSError, which names it."""
-        try:
+        with naming(self.path):
             return os.pread(self.file, size, begin)
-        except OSError as error:
-            raise OSError(error.errno, error.strerror, self.path) from None
 
 
-def where_to_begin(record: Record, out: OutFile) -> Record:
-    """The record with which a player goes on, by the one that it found: that of no line, if it is of another OUT.
-    Raises OtherFile if it can't be told how much of OUT is carried out, OSError if it can't be read."""
-    path = os.path.realpath(out.path)
-    begun = Record(path, 0, 0, record.outputs, record.at_nm, screws=record.screws)
-    path_nm = record.path_nm or (None if record.is_off else record.at_nm)  # where its player left the motors
+def check_record(path: str, record: Record, out: OutFile) -> None:
+    """Raises OtherFile if the lines that a record counts, that of the file `path`, aren't the first ones of OUT, and
+    OSError if it can't be read."""
     if record.size == 0:
-        return replace(begun, path_nm=path_nm) if record.out == path else begun
-    goes_on = replace(begun, lines=record.lines, size=record.size, is_off=record.is_off, path_nm=path_nm)
+        return
     there = out.mark(record.size) if out.holds(record.size) else None
-    if record.out != path:
-        is_renamed = there is not None and there.born_ns and there == record.mark
-        return goes_on if is_renamed else begun
+    if record.out != os.path.realpath(out.path):
+        if there is None or not there.born_ns or there != record.mark:
+            raise OtherFile(f"{path} speaks of {record.out}, not of {out.path}")
+        return
     if record.size > out.size():
         raise OtherFile(f"{out.path}: it has {out.size()} bytes, and by the record {record.size} are carried out:"
                         " its end is lost, or it is another file. Emptied (: > OUT) it begins anew with --anew, and"
@@ -88,11 +82,10 @@ def where_to_begin(record: Record, out: OutFile) -> Record:
     if there is None or record.mark is not None and there.digest != record.mark.digest:
         raise OtherFile(f"{out.path}: not the file whose first {record.lines} lines are carried out; --anew begins"
                         " with its first line")
-    if record.mark in (None, there):
-        return goes_on
-    raise OtherFile(f"{out.path}: another file than the one whose first {record.lines} lines are carried out, though"
-                    f" it begins with the same lines; --anew begins with its first line, --restored goes on after line"
-                    f" {record.lines}, where it is a copy")
+    if record.mark not in (None, there):
+        raise OtherFile(f"{out.path}: another file than the one whose first {record.lines} lines are carried out,"
+                        f" though it begins with the same lines; --anew begins with its first line, --restored goes on"
+                        f" after line {record.lines}, where it is a copy")
 
 
 class _Statx(ctypes.Structure):

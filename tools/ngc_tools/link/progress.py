@@ -17,7 +17,7 @@ SPINDLE_PERCENTS = range(10, 201)
 """What an override of the spindle may be."""
 _OTHER = "it is of another version: take a player and a console of one version"
 _KEPT = re.compile(r"lines (\d+) bytes (\d+) age (\d+)(?: path (\S+ \S+ \S+))?( sure)?")
-_WORDS = "works|held|moves|moved|alarm|broken|waits spindle"
+_WORDS = "works|held|moves|moved|unsure|alarm|broken|waits spindle"
 _REPORT = re.compile(rf"carried (\d+) received (\d+) ({_WORDS}|waits tool (\d{{1,3}})) reference (\S+ \S+ \S+)"
                      r" outputs (S \d \S+ \d \d \d+ \d+)(?: again (S \d \S+ \d \d \d+ \d+))? percent (\d+)"
                      r" spindle (\d+) wants (\d+) out (.*)",
@@ -26,8 +26,9 @@ UNDER_WAY = "moves"
 """What a report says while a move without lines is under way."""
 MOVED = "moved"
 """What a report says behind a move without lines, until the player is told that `ngc` knows where the machine is."""
-BROKEN = "broken"
-"""What a report says where no more line of this session is carried out."""
+UNSURE = "unsure"
+"""The same, where its last player was gone amid a move without lines: how far the motors are past its record nothing
+tells."""
 _POINT = r"none|\S+ \S+ \S+"
 _MACHINE = re.compile(rf"does (stands|(?:home|jog|seek) \S+) homed ([XYZ]+|none) alarm (\w+) on (\S+)"
                       rf" touched ({_POINT}) ended (\d+) (.*)", re.DOTALL)
@@ -61,7 +62,7 @@ class Report:
     is_held: bool = False  # it stands, since it is to
     percent: int = 100
     wants: int = 0
-    word: str = "works"  # else, where it doesn't wait for a tool: `moves`, MOVED, `alarm`, `broken`, `waits spindle`
+    word: str = "works"  # where it waits for no tool also UNDER_WAY, MOVED, UNSURE, `alarm`, BROKEN, `waits spindle`
     spindle: int = 100  # the spindle turns at so many percent of the speeds of `outputs`
     again: Switch | None = None  # what comes on again before the next line, since a person switched it off
 

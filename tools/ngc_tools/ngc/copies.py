@@ -1,9 +1,8 @@
 """Copies of a device, over which `ngc run` does what it would do over the device itself."""
 from collections.abc import Callable
-from contextlib import ExitStack
+from contextlib import AbstractContextManager, ExitStack
 from dataclasses import dataclass, field
 from pathlib import Path
-from types import TracebackType
 
 from ngc_tools.failure import Failure
 from ngc_tools.ngc.console import Console, Status
@@ -97,7 +96,7 @@ class _Console(Console):
         return [(self._replies(True), Status.read(self._replies(False)[0])) for _ in range(times)]
 
 
-class Copy:
+class Copy(AbstractContextManager):
     """A session of `ngc run` over a copy of a device. `ticks` are made, and `lines` of OUT handed out; `stops` are the
     places after the lines at which the program waited for `continue`, which is given; `idle` says that nothing is left
     to do. `tally` counts the lines if `counted` is set, and `taken` is given them as they are taken away; `rests` is
@@ -136,13 +135,7 @@ class Copy:
             at = [nanometres(number) for number in self.start.at]
             self.tally = Tally(Position(self._settings.step_nm, at))
 
-    def __enter__(self) -> "Copy":
-        """Begins with the block."""
-        return self
-
-    def __exit__(self, kind: type[BaseException] | None, error: BaseException | None,
-                 where: TracebackType | None) -> None:
-        """Ends with the block."""
+    def __exit__(self, *_: object) -> None:
         self.close()
 
     def close(self) -> None:

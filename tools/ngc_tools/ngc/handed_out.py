@@ -40,11 +40,16 @@ class FileRecord:
     steps: Steps
     path: Steps | None = None
 
+    @property
+    def is_off(self) -> bool:
+        """Whether the motors aren't where those bytes lead, and it is known where that is."""
+        return self.path not in (None, self.steps)
+
     def ends(self, rest: bytes) -> "list[_End]":
         """Where OUT may lead with what stands behind those bytes, the likelier first: lines may also have been handed
         out since from where the motors are."""
         here = [_End(_moved(self.steps, rest), False)]
-        return here if self.path in (None, self.steps) else [_End(_moved(self.path, rest), True), *here]
+        return [_End(_moved(self.path, rest), True), *here] if self.path is not None and self.is_off else here
 
 
 @dataclass(frozen=True, slots=True)
@@ -145,7 +150,7 @@ class Finder:
             found = self._by_end(text, size, ends[0]) if self.is_whole else None
             if found is None and self.note and self._is_noted(file.fileno()):
                 found = self._by_note(text, size, kept)
-            return found or self._found(text, size, ends, str(out))
+            return found or self._found(text, size, kept, ends, str(out))
 
     def _by_end(self, text: "bytes | mmap.mmap", size: int, end: _End) -> SegmentBeginning | None:
         """What the segment's own lines alone tell of an OUT that has all that was handed out, wherever the motors are
@@ -162,9 +167,7 @@ class Finder:
         """Where in such an OUT the open segment begins, or nothing is open; None where the place of the motors, and the
         lines with which OUT ends, don't say it. Raises as `find`."""
         if not self.device.state.half:
-            point = tuple(map(rounded, self.device.state.point_nm, self.step_nm))
-            is_there = self.device.state.point_known and point == ends
-            return _InWhole(size, size, ends, ends) if is_there else None
+            return _InWhole(size, size, ends, ends) if self._has_machine_at(ends) else None
         own = self._own()
         counts = [count for count in _places(own.own, own.start, ends) if _is_end(text, size, own.own, count)]
         return _InWhole(size, size - counts[0], own.start, ends) if len(counts) == 1 else None
@@ -212,15 +215,18 @@ class Finder:
         return self._is_noted(file) and (size > 0 or self.note.size == 0 and self._noted_device() is not None)
 
     def _since(self, device: Device, how: tuple[str, ...]) -> _Lines | None:
-        """What was handed out since the note, None for nothing without a half-done block. Raises CannotTell,
-        CommandRefused, Ended, OSError."""
+        """What was handed out since the note; for nothing, without a half-done block, where OUT led as it was noted,
+        wherever the machine is since, None where that isn't noted. Raises CannotTell, CommandRefused, Ended, OSError.
+        """
         before, last = b"", None
         for run in runs(device, True, self.note.records):
             last = self._again(device, self._begun(device, run), how)
             before += last.before
         if last is not None:
             return _Lines(_moved(last.start, last.before), before, last.own)
-        return _Lines(self._steps(self.segment(self.image)[0]), b"") if self.device.state.half else None
+        if self.device.state.half:
+            return _Lines(self._steps(self.segment(self.image)[0]), b"")
+        return None if self.note.at_nm is None else _Lines(self._rounded(self.note.at_nm), b"")
 
     def _noted(self, text: "bytes | mmap.mmap", size: int, kept: FileRecord, since: _Lines) -> SegmentBeginning:
         """OUT had what the note says, and goes on with what was handed out `since`, which leads to `since.start`."""
@@ -232,14 +238,15 @@ class Finder:
             stands = _moved_back(since.start, text[kept.size:min(begins, size)] + missing)
         return SegmentBeginning(begins, since.start, missing, stands != kept.steps, size == 0 and bool(missing), True)
 
-    def _found(self, text: "bytes | mmap.mmap", size: int, ends: list[_End], out: str) -> SegmentBeginning:
+    def _found(self, text: "bytes | mmap.mmap", size: int, kept: FileRecord, ends: list[_End], out: str
+               ) -> SegmentBeginning:
         """OUT leads to one of these, by the record."""
         lines = self._by_log()
         found = self._by_lines(text, size, lines, ends, _longest) if lines is not None else None
         if found is not None:
             return replace(found, is_told=not found.is_new)
         if not self.device.state.half:
-            return self._at_end(out, size, ends)
+            return self._at_end(out, size, kept, ends)
         found = self._by_lines(text, size, self._own(), ends, _shortest)
         if found is None:
             raise CannotTell(f"{out} doesn't end with lines of the half-done block: it isn't the OUT of this device, or"
@@ -301,15 +308,43 @@ class Finder:
                    lambda status: _key(status) >= (run.ends, 0)) as copy:
             return bytes(copy.text)
 
-    def _at_end(self, out: str, size: int, ends: list[_End]) -> SegmentBeginning:
-        """The end of OUT. Raises CannotTell if it doesn't lead to the point that the device knows."""
+    def _at_end(self, out: str, size: int, kept: FileRecord, ends: list[_End]) -> SegmentBeginning:
+        """The end of OUT. Raises CannotTell where that is neither where the device handed lines out to, nor are the
+        motors beside it where the device was told that they are."""
+        end = self._led(kept, ends, size)
+        if end is None and kept.is_off and self.device.state.entries and self._has_machine_at(kept.steps):
+            end = ends[0]
+        if end is None:
+            raise CannotTell(f"{out} doesn't lead to where the device has the machine: it isn't the OUT of this device,"
+                             " or the record isn't that of this OUT")
+        return SegmentBeginning(size, end.steps, is_off=end.is_off)
+
+    def _led(self, kept: FileRecord, ends: list[_End], size: int) -> _End | None:
+        """Where OUT, with so many bytes, leads: to where the device handed lines out to, or has the machine; None for
+        neither. Lines that are left lead on from where the motors are only if nothing was told since. Raises CannotTell
+        where lines that end where they began may lead on from there or from here."""
+        device, now = next(self._devices(), self.device), self.device.state
+        if not now.point_known:
+            return ends[0]
+        handed_out, is_told = _handed_out(device)
+        is_left = kept.is_off and size > kept.size
+        points = [self._rounded(state.point_nm) for state in (handed_out, now) if state.point_known]
+        found = next((end for point in points for end in (ends[:1] if is_left and is_told else ends)
+                      if end.steps == point), None)
+        if is_left and not device.records and found == _End(kept.steps, False):
+            raise CannotTell("nothing tells any more whether the lines that are left lead on from where the motors"
+                             " are, or from where they were before they were told another place")
+        return found
+
+    def _has_machine_at(self, steps: Steps) -> bool:
+        """Whether the device has the machine there."""
         state = self.device.state
-        point = tuple(map(rounded, state.point_nm, self.step_nm))
-        for end in ends:
-            if not state.point_known or point == end.steps:
-                return SegmentBeginning(size, end.steps, is_off=end.is_off)
-        raise CannotTell(f"{out} doesn't lead to where the device has the machine: it isn't the OUT of this device, or"
-                         " the record isn't that of this OUT")
+        return bool(state.point_known) and steps == self._rounded(state.point_nm)
+
+    def _rounded(self, point_nm: Steps) -> Steps:
+        """A point in steps."""
+        x, y, z = map(rounded, point_nm, self.step_nm)
+        return x, y, z
 
     @staticmethod
     def _beginning(size: int, lines: _Lines, at: int, is_off: bool, is_new: bool) -> SegmentBeginning:
@@ -398,6 +433,19 @@ class Finder:
     def _steps(self, at: tuple[str, ...] | list[str]) -> Steps:
         x, y, z = (rounded(nanometres(number), step) for number, step in zip(at, self.step_nm, strict=True))
         return x, y, z
+
+
+def _handed_out(device: Device) -> tuple[State, bool]:
+    """What a device's log has before what was only told of the machine's place; and whether anything was."""
+    states = [device.snapshot, *(record.state for record in device.records)]
+    count = len(states)
+    while len(states) > 1 and _without_place(states[-1]) == _without_place(states[-2]):
+        states.pop()
+    return states[-1], len(states) < count
+
+
+def _without_place(state: State) -> State:
+    return replace(state, entries=0, point_known=0, point_nm=(0, 0, 0))
 
 
 def _same(one: State, other: State) -> bool:

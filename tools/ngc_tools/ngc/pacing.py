@@ -4,9 +4,8 @@ import os
 import subprocess
 import threading
 from collections import Counter
-from contextlib import suppress
+from contextlib import AbstractContextManager, suppress
 from pathlib import Path
-from types import TracebackType
 
 from ngc_tools.failure import Failure
 from ngc_tools.formats.out import read_line
@@ -42,27 +41,28 @@ def _without_override(machine: str | Path) -> bytes:
     return "".join(["[motion]\n", *kept]).encode()
 
 
-class Pacing:
-    """A running `ngc pace --total`. `lines` were given to it, which last `us` microseconds by themselves. Once they are
-    all given, `with_ramps_us` is how long they take with ramps, rounded half up."""
+class _Running(AbstractContextManager):
+    """A running `ngc pace`, which ends with the block, in whatever way."""
 
-    def __init__(self, ngc: str, settings: str | Path, machine: str | Path) -> None:
-        """Raises OSError if it can't be started."""
-        self._child = _begin(ngc, settings, machine, "--total")
-        self.lines = self.us = self.with_ramps_us = 0
+    def __init__(self, child: subprocess.Popen) -> None:
+        self._child = child
 
-    def __enter__(self) -> "Pacing":
-        """Begins with the block."""
-        return self
-
-    def __exit__(self, kind: type[BaseException] | None, error: BaseException | None,
-                 where: TracebackType | None) -> None:
-        """Ends with the block, in whatever way."""
+    def __exit__(self, *_: object) -> None:
         self._child.kill()
         with suppress(OSError):  # what it didn't take is dropped
             self._child.stdin.close()
         self._child.stdout.close()
         self._child.wait()
+
+
+class Pacing(_Running):
+    """A running `ngc pace --total`. `lines` were given to it, which last `us` microseconds by themselves. Once they are
+    all given, `with_ramps_us` is how long they take with ramps, rounded half up."""
+
+    def __init__(self, ngc: str, settings: str | Path, machine: str | Path) -> None:
+        """Raises OSError if it can't be started."""
+        super().__init__(_begin(ngc, settings, machine, "--total"))
+        self.lines = self.us = self.with_ramps_us = 0
 
     def take(self, text: bytes) -> None:
         """Gives it whole lines. Raises BadLine, NotTimed."""
@@ -82,30 +82,22 @@ class Pacing:
         self.with_ramps_us = (int(said) + 500) // 1000
 
 
-class DueTimes:
+class DueTimes(_Running):
     """A running `ngc pace`, which is asked when some of the lines are due that are given to it."""
 
     def __init__(self, ngc: str, settings: str | Path, machine: str | Path) -> None:
         """Raises OSError if it can't be started."""
-        self._child = _begin(ngc, settings, machine, bufsize=0)
+        super().__init__(_begin(ngc, settings, machine, bufsize=0))
         self._lines = 0
         self._marks: list[int] = []  # lines before those that are asked for
         self._due_ns: list[int] = []
         self._reader = threading.Thread(target=self._read, daemon=True)
         self._reader.start()
 
-    def __enter__(self) -> "DueTimes":
-        """Begins with the block."""
-        return self
-
-    def __exit__(self, kind: type[BaseException] | None, error: BaseException | None,
-                 where: TracebackType | None) -> None:
-        """Ends with the block, in whatever way."""
+    def __exit__(self, *_: object) -> None:
         self._child.kill()
         self._reader.join()
-        self._child.stdin.close()
-        self._child.stdout.close()
-        self._child.wait()
+        super().__exit__()
 
     def mark(self) -> None:
         """Asks when the line is due that is given next."""

@@ -2,7 +2,7 @@
 ask for it, what its button needs, what it does.
 
 The console's dispatch and `help`, what is taken while something runs, in an alarm and before what is left in OUT, what
-a page may ask for and which of its buttons are enabled come from here. docs/TOOLS.md has a row for each."""
+a page may ask for and which of its buttons are enabled come from here. docs/tools/ngc-operate.md has a row for each."""
 from collections.abc import Callable
 from dataclasses import dataclass
 from enum import Enum, Flag, auto
@@ -197,8 +197,18 @@ COMMANDS = (
     OperatorCommand("macro", lambda operator, typed: operator.macros.do(typed.rest),
                     (("macro NAME", "the lines of a macro; macro says which there are"),), brings=_OWN_LINES,
                     asked=Asked.GIVEN, needs=_SETTING),
+    OperatorCommand("offsets", lambda operator, _: operator.offsets.show(),
+                    (("offsets", "G54 to G59.3, G92, the tool length, the place in each"),)),
+    OperatorCommand("offset", lambda operator, typed: operator.offsets.set(typed.rest, typed.anyway),
+                    (("offset G55 X 12.5", "its X0 is at machine X12.5; offset G92 X 1,\nG92.1, G43 H2, G49"),),
+                    usage="offset G55 X 12.5: which system, and which axes of its origin? offset G92 X 1 for the G92"
+                    " offset, offset G92.1 for none, offset G43 H2 for the tool length in force, offset G49 for none",
+                    brings=Brings.HANDS_OUT, asked=Asked.GIVEN, needs=_SETTING),
+    OperatorCommand("units", lambda operator, typed: operator.offsets.units(typed.rest),
+                    (("units in", "zero, offset and offsets are in inches; units mm"),),
+                    usage="units mm, or units in: of the numbers of zero, offset and offsets; units alone says which"),
     OperatorCommand("undo", lambda operator, _: operator.touch.undo(),
-                    (("undo", "put back what zero, touch, probe or measure set last"),), brings=Brings.HANDS_OUT,
+                    (("undo", "put back what zero, touch, probe, measure, offset set"),), brings=Brings.HANDS_OUT,
                     asked=Asked.GIVEN, needs=_FROM_PLACE),
     OperatorCommand("hold", lambda operator, typed: operator.hold_all(typed),
                     (("hold", "Enter or Ctrl-C while something runs"),), taken=Taken.BROKEN_OFF, needs=Needs.SESSION),
@@ -219,6 +229,10 @@ COMMANDS = (
                     **_OVERRIDE),
     OperatorCommand("spindle", lambda operator, typed: operator.motors.spindle(typed.rest),
                     (("spindle percent N", "the spindle turns at N % of the program's speed"),), **_OVERRIDE),
+    OperatorCommand("from", lambda operator, typed: operator.from_line.do(typed.rest),
+                    (("from N", "the program from its line N on: says what is in force\nthere, and asks for the way"),),
+                    usage="from N: the number of a line, from which the program goes on",
+                    brings=_GOES_ON, asked=Asked.GIVEN, needs=_FROM_PLACE),
     OperatorCommand("where", lambda operator, _: operator.where(),
                     (("where, status", "machine and work, the line, the times, the motors"),), taken=Taken.IN_ALARM),
     OperatorCommand("status", lambda operator, _: operator.status(), taken=Taken.IN_ALARM),
@@ -230,6 +244,8 @@ COMMANDS = (
                     taken=Taken.IN_ALARM | Taken.BROKEN_OFF, asked=Asked.AWAITED, needs=_THERE | Needs.NOT_BUSY),
     OperatorCommand("tool", lambda operator, typed: operator.tool(typed),
                     (("tool N LENGTH", "a tool's length, in mm"),), asked=Asked.AWAITED, needs=_SETTING),
+    OperatorCommand("runs", lambda operator, _: operator.runs.show(),
+                    (("runs", "the record of runs: when each began, how it ended"),)),
     OperatorCommand("rehearse", lambda operator, typed: operator.rehearse(typed.rest),
                     (("rehearse", "what resume would do, or start; nothing moves"),), asked=Asked.AWAITED,
                     needs=Needs.SESSION),

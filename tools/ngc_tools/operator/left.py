@@ -54,11 +54,12 @@ class Left:
         return before is not None and note.is_of(before) and note.entries == found.state.entries
 
     def is_as_left(self) -> bool:
-        """Whether nothing was done since the program was left for its next line."""
+        """Whether all is as the program was left for its next line, as where nothing was done since, or the machine was
+        brought back."""
         if self.device is None:
             return not self.is_lost
         now = self.session.stored()
-        return isinstance(now, Device) and now.state.entries == self.device.state.entries
+        return isinstance(now, Device) and replace(now.state, entries=self.device.state.entries) == self.device.state
 
     def keep(self) -> None:
         """Something is about to be done between two lines of the program; what stands now is kept, once."""
@@ -95,7 +96,7 @@ class Left:
 
     def _lost(self, status: Status) -> list[str]:
         """What is asked where nothing tells where the next line begins."""
-        line = f"line {self.session.program.number(status.place)}"
+        line = self.session.program.named_at(status.place)
         return [f"{line} comes next, and the device doesn't tell any more where it begins. The machine is at"
                 f" {axes(status.at)}, and the line would go from there"]
 
@@ -134,7 +135,7 @@ class Left:
         if kept is None or not _goes_on(kept[0].state, kept[1].state):
             return []
         begins, at = (device.state.point_nm for device in kept)
-        line = f"line {self.session.program.number(kept[1].state.place)}"
+        line = self.session.program.named_at(kept[1].state.place)
         if begins == at:
             self.session.face.say(f"{line} begins where the machine is, at {point_words(at)}")
             return []

@@ -148,7 +148,7 @@ def refusal_lines(text: bytes, found: Timeline) -> str:
     refused, lines = found.refused, text.split(b"\n")
     line = Program(lines[refused.line - 1] if refused.line <= len(lines) else b"").line(0)
     said = explained(f"refused {refused.code} {refused.name}", found.breach)
-    return f"line {refused.line}" + (f": {line}" if line else "") + f"\n  {said}"
+    return Program(text).named(refused.line) + (f": {line}" if line else "") + f"\n  {said}"
 
 
 def figures(found: Timeline, settings: Settings) -> list[str]:

@@ -61,8 +61,8 @@ class Look:
         if status.half != "none":
             parts.append(session.half(status))
         elif program.text:
-            line, number = program.line(status.place), program.number(status.place)
-            parts.append(f"next line {number} of {program.count}" + (f": {line}" if line else ""))
+            line, named = program.line(status.place), program.named_at(status.place)
+            parts.append(f"next {named} of {program.last}" + (f": {line}" if line else ""))
         return "; ".join(parts)
 
     def _at(self, status: Status, report: Report | None) -> tuple[int, int, int] | None:

@@ -3,7 +3,7 @@ import time
 from collections.abc import Callable
 
 from ngc_tools.failure import BadNumber
-from ngc_tools.link.progress import MOVED, Link, NoAnswer, Report
+from ngc_tools.link.progress import MOVED, UNSURE, Link, NoAnswer, Report
 
 LIMIT = 100  # lines, of a player that doesn't say how many it wants
 LIMITS = range(2, 8001)  # what a player can have in hand
@@ -56,7 +56,7 @@ class Meter:
             report = self._asked()
             if not go_on(report):
                 return 0
-            if report.word == MOVED:  # who asks for room has compared the points, or goes on all the same
+            if report.word in (MOVED, UNSURE):  # who asks for room has compared the points, or goes on all the same
                 self.link.at(report.at)
                 report = self.link.ask()  # it has heard that before a line comes
             limit = self.limit(report)

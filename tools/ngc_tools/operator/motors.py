@@ -8,8 +8,7 @@ from ngc_tools.formats.settings import Settings
 from ngc_tools.job.figures import millimetres as rounded
 from ngc_tools.operator.face import REFUSED, WARNING, WHERE
 from ngc_tools.operator.session import ALARM, BROKEN, Session
-from ngc_tools.link.progress import NoAnswer, Report
-from ngc_tools.link.progress import SPINDLE_PERCENTS
+from ngc_tools.link.progress import SPINDLE_PERCENTS, UNSURE, NoAnswer, Report
 
 PERCENTS = range(1, MOST_PERCENTS[-1] + 1)
 """What an override may be, in percent of OUT's rates. A player takes no more than its `most_percent`."""
@@ -19,8 +18,8 @@ TEN = 10  # percent that a key changes
 STILL_S = 10.0  # of a player that works
 STILL = f"the player has carried nothing out for {STILL_S:.0f} s, as in a dwell. Enter or Ctrl-C holds"
 
-_STATES = {"moves": "moving", "waits spindle": "waiting for the spindle's speed", ALARM: "ALARM: not to be trusted",
-           BROKEN: "broken off: no more line is carried out"}
+_STATES = {"moves": "moving", "waits spindle": "waiting for the spindle's speed", UNSURE: "not sure where they are",
+           ALARM: "ALARM: not to be trusted", BROKEN: "broken off: no more line is carried out"}
 _REST_S = 10.0  # how long motors may take to come to rest
 _STILL_S = 0.5  # without a line for so long they stand, or nearly: in a dwell nothing else says it
 

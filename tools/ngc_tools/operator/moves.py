@@ -19,10 +19,11 @@ from ngc_tools.operator.next_session import NextSession
 from ngc_tools.operator.numbers import length_of, nanometres_of
 from ngc_tools.operator.places import is_same_place
 from ngc_tools.operator.session import ALARM, BROKEN, Session
-from ngc_tools.link.progress import Link, MoveReport, NoAnswer, Report
+from ngc_tools.link.progress import UNSURE, Link, MoveReport, NoAnswer, Report
 
-ASKED_S = 0.05
-"""Between two questions: without one for a second the player brings a move to rest."""
+ASKED_S, KEPT_S = 0.05, 0.01
+"""Between two questions, also of a move that goes as long as somebody holds on: without one for a second the player
+brings a move to rest."""
 DONE = "done"
 USUAL = (DONE, "stopped", "the key isn't held any more")
 """How a move ends that goes for as long as it is wanted."""
@@ -83,7 +84,7 @@ class Moves:
             self._go(f"jog {words[0]}", lambda link: link.jog(*words))
 
     def jog_while(self, way: str, rate: str, is_held: Callable[[], bool]) -> None:
-        """Goes along an axis, as `X+`, for as long as somebody holds on; `is_held` is asked each 50 ms."""
+        """Goes along an axis, as `X+`, for as long as somebody holds on; `is_held` is asked each 10 ms."""
         words = self._read("jog", _JOG, f"{way} {rate} for 1")
         if words and self.begins("jog"):
             link = self.session.meter.link
@@ -152,7 +153,7 @@ class Moves:
     def is_sure(self) -> bool:
         """Whether `ngc` knows where the machine is, and the player counts it there."""
         status, report = self.session.console.status(), self.session.report()
-        return (status.known and report is not None and report.word not in (ALARM, BROKEN)
+        return (status.known and report is not None and report.word not in (ALARM, BROKEN, UNSURE)
                 and is_same_place(self.session.settings, report.at.split(), status.at))
 
     def say_silent(self, error: NoAnswer) -> None:
@@ -174,7 +175,7 @@ class Moves:
                 is_told = True
             for command in session.face.asides():
                 self.do(command)
-            time.sleep(ASKED_S)
+            time.sleep(KEPT_S if keep else ASKED_S)
         session.see_machine(machine)
         return machine
 

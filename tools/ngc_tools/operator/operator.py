@@ -19,6 +19,7 @@ from ngc_tools.operator.commands import BY_WORD, Brings
 from ngc_tools.operator.display import on_words
 from ngc_tools.operator.ending import Ending
 from ngc_tools.operator.face import MESSAGE, REFUSED, WARNING, WHERE, Face, are_keys
+from ngc_tools.operator.from_line import FromLine
 from ngc_tools.operator.homes import asked_of_home
 from ngc_tools.operator.jog_keys import Keys, jog_by_keys
 from ngc_tools.operator.left import Left, dropped_g92
@@ -32,11 +33,13 @@ from ngc_tools.operator.moves import Moves
 from ngc_tools.operator.numbers import nanometres_of
 from ngc_tools.operator.opening import say_opening
 from ngc_tools.operator.next_session import NextSession
+from ngc_tools.operator.offsets import Offsets
 from ngc_tools.operator.outputs import comes_on_agreed, outputs_agree
 from ngc_tools.operator.places import Places, stops_outputs
 from ngc_tools.operator.probing import Probing
 from ngc_tools.operator.recover import Recover
 from ngc_tools.operator.rehearsing import rehearse
+from ngc_tools.operator.runs import Runs
 from ngc_tools.operator.sentences import (GO_ON, NOT_MOVED, SWITCHED, SWITCHED_THERE, TAKEN_UP,
                                           TAKEN_UP_THERE)
 from ngc_tools.operator.session import ALARM, BROKEN, Nothing, Session, place
@@ -81,10 +84,14 @@ class Operator:
         self.stopping = Stopping(self.session, self.motors, self.ending, self.following,
                                  lambda line: self._line_done(line, True))
         self.touch = Touch(self.session, self.places, self.moves, self._line_done)
+        self.offsets = Offsets(self.session, self.touch)
         self.probing = Probing(self.session, self.moves, self.touch)
         self.measuring = Measuring(self.session, self.moves, self.touch)
         self.ways = Ways(self.session, self.left, self._line_done)
+        self.runs = Runs(self.session)
         self.macros = Macros(self.session, self.left, self._line_done)
+        self.from_line = FromLine(self.moves, self.recover.way, self.load, self._line_done, self._begun,
+                                  lambda: self.go_on("continue", Typed.read("continue")), self.stopping.off)
         self.work.waits_at_change = lambda: self.measuring.is_on and self.measuring.can
         self.keys: Callable[[], AbstractContextManager[Keys]] | None = None
         self.over = False
@@ -94,6 +101,7 @@ class Operator:
         """Says what the session begins with. `found` is the device as it stood before `ngc` was started."""
         self.face.say(bound)
         self._open(found)
+        self.runs.begin(self.console.status())
         self.choices.give_back(self.console.status())
 
     def know(self, setter: Setter) -> None:
@@ -126,7 +134,7 @@ class Operator:
             self.mdi(typed.line, typed.anyway)
         if is_by_keys or command and command.brings & Brings.CHOICE:
             self.choices.keep()
-        if not self.work.is_amid:
+        if not self.work.is_amid and not self.recover.is_left():  # what was noted before is true of lines that are left
             self.session.note_out(self.left.is_as_left)
 
     def load(self, name: str, text: bytes) -> bool:
@@ -139,6 +147,7 @@ class Operator:
         if refused(session, reply, "load"):
             return False
         session.program, session.told = Program(text), 0
+        self.runs.loaded(name, text)
         self.face.say(f"{reply}: {name}, {len(text):,} bytes, {session.program.count} lines")
         return True
 
@@ -182,6 +191,8 @@ class Operator:
             return
         if self.motors.are_held and self._let_go(command, status):
             return
+        if self.from_line.again(status):
+            return
         if not typed.anyway and not (self.places.agree(status, f"{typed.word} {ANYWAY}")
                                      and outputs_agree(self.session, status) and self.left.agreed(status)):
             return
@@ -199,6 +210,15 @@ class Operator:
         ended = self._run_on()
         if ended != "refused" or self.console.status().place != status.place:
             self.left.forget()
+
+    def _begun(self) -> str | None:
+        """Starts the stored program from its first line. Returns what ended its work, None for a hold."""
+        self.work.timeline = self.loading.timeline(True)
+        if refused(self.session, self.console.ask("start")[0], "start"):
+            return "refused"
+        self.session.told = 0
+        self.left.forget()
+        return self._work()
 
     def mdi(self, line: str, anyway: bool) -> None:
         """Does a line of one's own, and says how all stands then."""
@@ -464,6 +484,7 @@ class Operator:
             return
         if left_on := self.ending.left_on():
             self._offer_off(status, left_on)
+        self.runs.leaves()
         self.over = True
 
     def _offer_off(self, status: Status, left_on: str) -> None:
@@ -492,11 +513,14 @@ class Operator:
         status = self.console.status()
         found = self.session.program.remark(status.place) if status.half == "none" and status.place else None
         if found and found[1]:
-            self.face.say(f"comment, line {found[0]}: {found[1]}", MESSAGE)
+            self.face.say(f"comment, {self.session.program.named(found[0])}: {found[1]}", MESSAGE)
 
     def _work(self) -> str | None:
         """Gives ticks until there is nothing to do, or somebody holds. Returns what ended them, None for a hold."""
+        is_program = self.runs.goes()
         ended = self.work.go()
+        if is_program:
+            self.runs.rests(ended)
         if ended is None:
             self._hold()
             return None

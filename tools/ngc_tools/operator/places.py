@@ -6,14 +6,18 @@ from ngc_tools.formats.settings import Settings
 from ngc_tools.job.figures import millimetres as rounded
 from ngc_tools.ngc.console import Status
 from ngc_tools.operator.causes import taken
-from ngc_tools.operator.face import REFUSED, SAID, WARNING
+from ngc_tools.operator.face import REFUSED, SAID, WARNING, axes
 from ngc_tools.operator.modes import point_words
 from ngc_tools.operator.numbers import nanometres_of
 from ngc_tools.operator.sentences import PLAYER_SILENT
 from ngc_tools.operator.session import ALARM, BROKEN, Session
 from ngc_tools.operator.work import Work
-from ngc_tools.link.progress import NoAnswer, Report
+from ngc_tools.link.progress import UNSURE, NoAnswer, Report
 
+_UNSURE = ("the motors moved without lines as their last player ended, as by a loss of power: the record has them at"
+           " {at}, and they may have gone on. Nothing is done.\n  reference player takes that place, and home tells it"
+           " anew; {again} goes on from there")
+_DOUBT = ", and isn't sure of it: the motors moved without lines as the last player ended"
 _STOPS = re.compile(r"(?:N\d{1,5})?(?:M0*[59])+", re.IGNORECASE)
 
 
@@ -35,8 +39,8 @@ class Places:
         self.session, self.work = session, work
 
     def agree(self, status: Status, again: str) -> bool:
-        """Whether both say the same place; says it if they don't. `again` is how to ask for what was asked all the
-        same. A point that `ngc` doesn't know, as within a block that is held, isn't compared."""
+        """Whether both say the same place, and the player is sure of it; says it if not. `again` is how to ask for
+        what was asked all the same. A point that `ngc` doesn't know, as within a block that is held, isn't compared."""
         if not status.known or not self.session.meter:
             return True
         report = self._settled()
@@ -44,11 +48,13 @@ class Places:
             self._say_unsettled()
             return False
         at = report.at.split()
-        if self._same(at, status.at):
-            return True
-        self._say_apart(at, status.at, "ngc takes them to be at",
-                        f"reference player takes the player's point; {again} goes on from ngc's")
-        return False
+        if not self._same(at, status.at):
+            self._say_apart(at, status.at, "ngc takes them to be at",
+                            f"reference player takes the player's point; {again} goes on from ngc's")
+            return False
+        if report.word == UNSURE:
+            self.session.face.say(_UNSURE.format(at=axes(at), again=again), WARNING)
+        return report.word != UNSURE
 
     def reference(self, words: list[str], anyway: bool) -> None:
         """Tells `ngc` where the machine stands. `player` in place of the numbers, or of one, is the player's."""
@@ -72,7 +78,8 @@ class Places:
                             f" point; reference {typed} anyway takes what was typed")
             return
         command = "reference " + " ".join(words)
-        if taken(self.session, self.session.console.ask(command)[0], command) and elsewhere:
+        is_unsure = report is not None and report.word == UNSURE
+        if taken(self.session, self.session.console.ask(command)[0], command) and (elsewhere or is_unsure):
             self._tell_player()
 
     def offer(self) -> None:
@@ -82,10 +89,11 @@ class Places:
         self.session.face.say("where does the machine stand? reference X Y Z" + said, SAID)
 
     def warn(self, status: Status) -> None:
-        """Says where the player says that the motors are, if `ngc` doesn't say the same."""
+        """Says where the player says that the motors are, if `ngc` doesn't say the same, or it isn't sure."""
         report = self.session.report()
-        if report and not (status.known and self._same(report.at.split(), status.at)):
-            self.session.face.say(f"the player says: reference {report.at}", WARNING)
+        if report and not (status.known and self._same(report.at.split(), status.at) and report.word != UNSURE):
+            doubt = _DOUBT if report.word == UNSURE else ""
+            self.session.face.say(f"the player says: reference {report.at}{doubt}", WARNING)
 
     def _settled(self) -> Report | None:
         """What the player says once it has carried out everything; None, which is said, if it doesn't come to that."""

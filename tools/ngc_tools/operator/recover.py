@@ -77,6 +77,10 @@ class Recover:
         self.session.face.say("nothing is done: " + left, REFUSED)
         return True
 
+    def is_left(self) -> bool:
+        """Whether lines stand in OUT, a file, that no motor carried out, or are taken back. Raises OSError."""
+        return self.found is not None and self.found.is_left()
+
     def begin(self, status: Status, as_left: bool = False) -> None:
         """Says as the session begins what is left. `as_left`: nothing was done since the program was left for its next
         line."""

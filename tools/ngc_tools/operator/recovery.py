@@ -278,14 +278,14 @@ class OutFound:
         if found is None or found.size > size or found.missing:
             self.link.forget()
         else:
-            self.link.note(size, found.size, self.as_left)
+            self.link.note(size, found.size, self.as_left, self.recovery.at_nm)
 
     def note(self, as_left: bool) -> None:
         """Notes how OUT stands as a session has begun, if that is known. `as_left`: nothing was done since the program
         was left for its next line. Raises OSError."""
         found, size, self.as_left = self.recovery.beginning, self.link.size(), as_left
         if found is not None and not found.missing and found.size <= size:
-            self.link.note(size, found.size, as_left)
+            self.link.note(size, found.size, as_left, self.recovery.at_nm)
 
     def cut(self, size: int) -> None:
         """Cuts off what stands behind so many bytes, where the motors are, and goes on from there. No record on a disk

@@ -57,7 +57,7 @@ class Rehearsal:
 
     def _resumed(self) -> list[str]:
         state, program = self._device.state, Program(self._device.program)
-        what = f"line {program.number(state.place)} of {program.count}" if state.half == 1 else "the operator's line"
+        what = f"{program.named_at(state.place)} of {program.last}" if state.half == 1 else "the operator's line"
         said = [f"half-done: {what}: {shown_line(state.half_text)}"]
         with self._approached() as copy:
             end = copy.console.status()
@@ -136,15 +136,15 @@ class Rehearsal:
         each = (f"{axis} {rounded(a)} to {rounded(b)}" for axis, a, b in zip("XYZ", low, high, strict=True))
         said = [f"from there to the end: {duration(self.rest_us)}; {'   '.join(each)} mm"]
         said += [f"    {f'tool {slot}' if slot else 'no tool'}: {duration(us)}" for slot, us in tally.us.items()]
-        said += [f"    it stops before line {program.number(place)}, for continue" for place in copy.stops]
+        said += [f"    it stops before {program.named_at(place)}, for continue" for place in copy.stops]
         status = copy.console.status()
         if copy.idle and status.place:
-            said.append(f"then start goes on with line {program.number(status.place)}: {program.line(status.place)}")
+            said.append(f"then start goes on with {program.named_at(status.place)}: {program.line(status.place)}")
         return said
 
     def _refusal(self, error: CommandRefused) -> str:
         program = Program(self._device.program)
-        return f"{error.reply}: line {program.number(error.status.place)}: {program.line(error.status.place)}"
+        return f"{error.reply}: {program.named_at(error.status.place)}: {program.line(error.status.place)}"
 
     def _started(self) -> list[str]:
         state, program = self._device.state, Program(self._device.program)
@@ -153,7 +153,7 @@ class Rehearsal:
             pass  # `ngc` takes the device
         if not program.text:
             return [*said, "there is no program"]
-        said.append(f"start goes on with line {program.number(state.place)} of {program.count}:"
+        said.append(f"start goes on with {program.named_at(state.place)} of {program.last}:"
                     f" {program.line(state.place)}")
         said.append(f"it switches nothing by itself; kept is: {outputs_words(state.outputs)}")
         if self.at is None and not self._known():

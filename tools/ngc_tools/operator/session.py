@@ -15,6 +15,7 @@ from ngc_tools.operator.meter import Meter
 from ngc_tools.operator.outside import breach_of_line
 from ngc_tools.operator.sentences import explained
 from ngc_tools.operator.synced import SyncedLink
+from ngc_tools.operator.units import Unit
 from ngc_tools.link.progress import MoveReport, NoAnswer, Report
 
 ALARM, BROKEN, WAITS_SPINDLE = "alarm", "broken", "waits spindle"
@@ -72,11 +73,13 @@ class Session:
     seen: Report | None = None
     gone: bool = False
     on_alarm: Callable[[], None] = lambda: None
+    on_slot: Callable[[int], None] = lambda _: None  # as the motors' side has another tool in the spindle
     machine: MoveReport | None = None
     noted: int = -1  # so many entries there were as it was noted what OUT has
     is_deaf: bool = False  # the player doesn't tell its inputs
     has_opened: bool = False  # the door was open since the motors are held
     has_failed: bool = False  # they came to be held as they waited for the spindle's speed
+    unit: Unit = Unit.MM  # of what a person types and reads, as it was chosen
 
     def stored(self) -> Device | Nothing:
         """What the device holds, which `ngc` has synced."""
@@ -134,6 +137,8 @@ class Session:
         elif before is not None and not before.is_held:
             self.has_failed = before.word == WAITS_SPINDLE
         self.face.moved(report)
+        if before is not None and before.outputs.slot != report.outputs.slot:
+            self.on_slot(report.outputs.slot)
         if self.is_in(ALARM) and not was_alarm:
             self.on_alarm()
         if self.is_in(BROKEN) and not was_broken:
@@ -179,7 +184,7 @@ class Session:
 
     def line(self, status: Status) -> str:
         """The program's line at the place."""
-        return f"line {self.program.number(status.place)}: {self.program.line(status.place)}"
+        return f"{self.program.named_at(status.place)}: {self.program.line(status.place)}"
 
     def half(self, status: Status) -> str:
         """The block that is half-done or under way."""

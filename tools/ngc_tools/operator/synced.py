@@ -19,6 +19,7 @@ from ngc_tools.link.progress import Link, NoAnswer, Report
 from ngc_tools.link.out_file import born_ns
 
 SYNCED_PARTS, SYNCED_AT_ONCE = 4, 1000  # of a Meter: few pieces, since each is synced
+Point = tuple[int, int, int]
 _CHUNK = 1 << 22  # bytes of room that are given back at once
 _TAIL = 4096  # bytes before the player's place: its record knows OUT by them
 _PIECE = 1 << 20  # bytes that are written again at once
@@ -165,10 +166,11 @@ class SyncedLink(Link):
         """What was noted last of OUT; None where nothing was."""
         return self.notes.read() if self.notes else None
 
-    def note(self, size: int, begins: int, as_left: bool) -> None:
+    def note(self, size: int, begins: int, as_left: bool, at_nm: Point | None = None) -> None:
         """Notes that OUT has so many bytes, which are synced before, as the device stands now, with nothing under way;
-        the half-done segment begins behind `begins` bytes, which is `size` without one. `as_left`: nothing was done
-        since the program was left for its next line. Raises OSError."""
+        the half-done segment begins behind `begins` bytes, which is `size` without one, and these lead to `at_nm`: to
+        where the device has the machine, if that isn't told. `as_left`: nothing was done since the program was left for
+        its next line. Raises OSError."""
         if self.notes is None or self.failed:
             return
         if self.told != self.size():
@@ -176,9 +178,10 @@ class SyncedLink(Link):
         what = os.fstat(self.file)
         with suppress(NoDevice):
             device = Device.read(self.notes.device)
-            self._epoch = device.epoch
+            self._epoch, state = device.epoch, device.state
+            at_nm = at_nm or (state.point_nm if state.point_known else None)
             self.notes.write(OutNote(what.st_ino & (2**63 - 1), born_ns(self.file), device.epoch, len(device.records),
-                                     device.state.entries, size, begins, as_left))
+                                     state.entries, size, begins, as_left, at_nm))
 
     def note_end(self, as_left: bool, is_anew: bool = False) -> None:
         """The same of all that OUT has, without a half-done block; with `is_anew` only where the device was written

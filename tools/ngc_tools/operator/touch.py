@@ -3,7 +3,7 @@
 `ngc` does each as a line of G-code, or a command, that is shown. What is in force is read from the device."""
 import re
 from collections.abc import Callable, Collection
-from dataclasses import dataclass
+from dataclasses import dataclass, replace
 
 from ngc_tools.formats.device import Device, State
 from ngc_tools.job.figures import millimetres as rounded
@@ -15,13 +15,14 @@ from ngc_tools.operator.face import REFUSED, WARNING, WHERE
 from ngc_tools.operator.look import Look
 from ngc_tools.operator.modes import SYSTEMS, point_words, trimmed
 from ngc_tools.operator.moves import Moves
-from ngc_tools.operator.numbers import length_of, nanometres_of
+from ngc_tools.operator.numbers import length_of
 from ngc_tools.operator.places import Places
 from ngc_tools.operator.session import Session
 from ngc_tools.operator.setter import Setter
 from ngc_tools.operator.slots import fill_below
 from ngc_tools.operator.touching import CannotTouch
 from ngc_tools.operator.typed import ANYWAY
+from ngc_tools.operator.units import NoLength
 
 Point = tuple[int, int, int]
 
@@ -36,43 +37,32 @@ FAR_NM = 5_000_000
 """By so much a zero or a length may be another one than before, unasked."""
 _OTHER_TOOL = ("the probe was touched with {then} in the spindle, and there is {now} now: seek Z- RATE within MM again,"
                " or without the word probe from where the machine stands")
-_INCHES = "inches are in force (G20): write {text}in, or {text}mm"
 
 
 @dataclass(frozen=True, slots=True)
 class Back:
-    """What `undo` puts back: what `command` says for a unit does, 21 or 20, as long as `now` is what the device has of
-    it."""
+    """What `undo` puts back: what `command` says for a unit does, 21 or 20, as long as what `read` finds on the device
+    is `now`, as it was set."""
 
     name: str
     command: Callable[[int], str]
-    now: tuple[int, ...]
     read: Callable[[Device], tuple[int, ...]]
+    now: tuple[int, ...] = ()
 
 
-def axes_of(text: str, unit: int) -> dict[int, int]:
-    """What `zero` is told: axes, and the coordinate in nm that each is to have, 0 without a number. Numbers are
-    millimetres, with `mm` or `in` behind them that; under G20 one of the two has to stand. Raises CannotTouch."""
+def axes_of(text: str, length: Callable[[str], int], word: str = "zero") -> dict[int, int]:
+    """What `zero` is told, or another word: axes, and the coordinate in nm that each is to have. `length` reads one,
+    that of an axis without a number is nothing. Raises CannotTouch, and what `length` raises."""
     found: dict[int, int] = {}
     at = 0
     while match := _AXIS.match(text, at):
         axis, at = _AXES.index(match[1].upper()), match.end()
         if axis in found:
             raise CannotTouch(f"{match[1].upper()} stands twice")
-        found[axis] = _length(match[2], unit) if match[2] else 0
+        found[axis] = length(match[2])
     if not found or at < len(text):
-        raise CannotTouch(BY_WORD["zero"].usage)
+        raise CannotTouch(BY_WORD[word].usage)
     return found
-
-
-def _length(text: str, unit: int) -> int:
-    """A coordinate in nm. Raises CannotTouch."""
-    nm = length_of(text)
-    if nm is None:
-        raise CannotTouch(f"not a number: {text}")
-    if nm and unit == 20 and nanometres_of(text) is not None:
-        raise CannotTouch(_INCHES.format(text=text))
-    return nm
 
 
 def origin_of(device: Device, system: int) -> Point:
@@ -89,6 +79,13 @@ def origin_line(system: int, origin_nm: dict[int, int], unit: int) -> str:
         return f"G10 L2 P{system} " + " ".join(f"{_AXES[axis]}{trimmed(nm)}" for axis, nm in axes)
     first = 5221 + 20 * (system - 1)
     return " ".join(f"#{first + axis}={trimmed(nm)}" for axis, nm in axes) + f" G10 L2 P{system}"
+
+
+def origin_back(system: int, origin_nm: Point) -> Back:
+    """What puts back the origin of a system, that was in force or stored."""
+    before = dict(enumerate(origin_nm))
+    return Back(SYSTEMS[system - 1], lambda unit: origin_line(system, before, unit),
+                lambda device: origin_of(device, system))
 
 
 def length_in(device: Device, slot: int) -> tuple[int, ...]:
@@ -121,27 +118,28 @@ class Touch:
 
     def zero(self, rest: str, anyway: bool) -> None:
         """Makes the point where the machine stands X0, Y0, Z0, or what is typed, of the system in force."""
-        self._said_why(lambda: self._zero(rest, anyway))
+        self.said_why(lambda: self._zero(rest, anyway))
 
     def tool(self, rest: str, anyway: bool) -> None:
         """Gives a slot the length of the tool that stands on the setter."""
-        self._said_why(lambda: self._tool(rest, anyway))
+        self.said_why(lambda: self._tool(rest, anyway))
 
     def undo(self) -> None:
         """Puts back what the last `zero` or `touch` set, once."""
-        self._said_why(self._undo)
+        self.said_why(self._undo)
 
-    def _said_why(self, what: Callable[[], None]) -> None:
+    def said_why(self, what: Callable[[], None]) -> None:
+        """Does something; where it can't be done, says why."""
         try:
             what()
-        except CannotTouch as why:
+        except (CannotTouch, NoLength) as why:
             self.session.face.say(str(why), REFUSED)
 
     def _zero(self, rest: str, anyway: bool) -> None:
-        """Raises CannotTouch."""
+        """Raises CannotTouch, NoLength."""
         status, device = self._found()
         named, by_probe = _parted(rest)
-        wanted = axes_of(named, device.state.unit)
+        wanted = axes_of(named, lambda text: self.session.unit.length(text, device.state.unit) if text else 0)
         at = self._at("zero", status, device, by_probe)
         if not anyway and not self.places.agree(status, f"zero {rest} {ANYWAY}"):
             return
@@ -151,7 +149,7 @@ class Touch:
             self.session.face.say(text, WARNING)
         here = in_force_on(device.state).to_program(at)
         origin = {axis: device.state.origin_nm[axis] + here[axis] - nm for axis, nm in wanted.items()}
-        if not anyway and (question := _far_zero(device.state, origin)) and not self._agrees(question):
+        if not anyway and (question := _far_zero(device.state, origin)) and not self.agrees(question):
             return
         if self._set_origin(device, origin):
             self._use_up(by_probe)
@@ -167,21 +165,29 @@ class Touch:
             self.session.face.say(text, WARNING)
         names = " ".join(f"{_AXES[axis]}0" for axis in sorted(at))
         where = " ".join(f"{_AXES[axis]}{trimmed(nm)}" for axis, nm in sorted(at.items()))
-        if self._agrees(f"{name}: machine {where}\nyes makes it {names} of {SYSTEMS[device.state.system - 1]},"
+        if self.agrees(f"{name}: machine {where}\nyes makes it {names} of {SYSTEMS[device.state.system - 1]},"
                         " anything else leaves the zero: "):
             self._set_origin(device, {axis: device.state.origin_nm[axis] + work[axis] for axis in at})
 
     def _set_origin(self, device: Device, origin: dict[int, int]) -> bool:
         """Sets axes of the origin of the system in force, and says it; whether that was taken."""
-        system = device.state.system
-        if not self._line(origin_line(system, origin, device.state.unit)):
+        state = device.state
+        if not self.put(origin_line(state.system, origin, state.unit), origin_back(state.system, state.origin_nm)):
             return False
-        now, before = self._device(), dict(enumerate(device.state.origin_nm))
-        self._back = Back(SYSTEMS[system - 1], lambda unit: origin_line(system, before, unit), origin_of(now, system),
-                          lambda device: origin_of(device, system))
-        Look(self.session).after_work()
-        self._say_back(point_words(now.state.origin_nm), point_words(device.state.origin_nm))
+        self.say_back(point_words(self.device().state.origin_nm), point_words(state.origin_nm))
         return True
+
+    def put(self, line: str, back: Back) -> bool:
+        """Does a line that sets something, and keeps what puts it back; whether it was taken. Raises CannotTouch."""
+        if not self._line(line):
+            return False
+        self._back = replace(back, now=back.read(self.device()))
+        Look(self.session).after_work()
+        return True
+
+    def forget(self) -> None:
+        """What was set last can't be put back."""
+        self._back = None
 
     def _tool(self, rest: str, anyway: bool) -> None:
         """Raises CannotTouch."""
@@ -202,7 +208,7 @@ class Touch:
         what = "the probe was touched at machine Z" if by_probe else "machine Z is"
         self.session.face.say(f"{what} {trimmed(z)}, and the setter's top is at {trimmed(height)}", WHERE)
         before = length_in(device, slot)
-        if not anyway and (question := _far_length(slot, z - height, before, by_probe)) and not self._agrees(question):
+        if not anyway and (question := _far_length(slot, z - height, before, by_probe)) and not self.agrees(question):
             return
         self._set_length(slot, z - height, before, by_probe)
 
@@ -211,14 +217,14 @@ class Touch:
         far from the one before; whether it has it now. Raises CannotTouch."""
         if self.setter_nm is None:
             raise CannotTouch(_HEIGHT.format(slot=slot))
-        before = length_in(self._device(), slot)
+        before = length_in(self.device(), slot)
         nm = at - self.setter_nm
         self.session.face.say(f"the setter was touched at machine Z {trimmed(at)}, and its top is at"
                               f" {trimmed(self.setter_nm)}", WHERE)
-        if (question := _far_length(slot, nm, before, True)) and not self._agrees(question):
+        if (question := _far_length(slot, nm, before, True)) and not self.agrees(question):
             return False
         self._set_length(slot, nm, before, False)
-        return length_in(self._device(), slot) == (nm,)
+        return length_in(self.device(), slot) == (nm,)
 
     def _set_length(self, slot: int, nm: int, before: tuple[int, ...], by_probe: bool) -> None:
         """Gives a slot its length; it had that `before`, or none."""
@@ -229,16 +235,16 @@ class Touch:
             return
         self._use_up(by_probe)
         back = f"tool {slot} {trimmed(before[0] if before else 0)}"
-        self._back = Back(f"tool {slot}", lambda _: back, (nm,), lambda device: length_in(device, slot))
-        self._say_back(trimmed(nm), trimmed(before[0]) if before else "no slot")
+        self._back = Back(f"tool {slot}", lambda _: back, lambda device: length_in(device, slot), (nm,))
+        self.say_back(trimmed(nm), trimmed(before[0]) if before else "no slot")
         self.session.face.say(f"G43 H{slot} takes it; a length that is in force stays until then", WHERE)
 
     def _undo(self) -> None:
         """Raises CannotTouch."""
         back = self._back
         if back is None:
-            raise CannotTouch("nothing to undo: it takes back the last zero or touch, once")
-        device = self._device()
+            raise CannotTouch("nothing to undo: it takes back the last zero, touch or offset, once")
+        device = self.device()
         command = back.command(device.state.unit)
         if back.read(device) != back.now:
             raise CannotTouch(f"{back.name} isn't any more what was set: nothing is done. {command} puts back what was"
@@ -255,14 +261,15 @@ class Touch:
         self.session.face.say(text)
         return self.line_done(text, True) is not None
 
-    def _say_back(self, now: str, before: str) -> None:
+    def say_back(self, now: str, before: str) -> None:
+        """Says what was set, and that it can be put back."""
         self.session.face.say(f"{self._back.name}: {now} ({before} before). undo puts it back", WHERE)
 
     def _found(self) -> tuple[Status, Device]:
         """How `ngc` stands, at rest or not."""
-        return self.session.console.status(), self._device()
+        return self.session.console.status(), self.device()
 
-    def _device(self) -> Device:
+    def device(self) -> Device:
         """What stands on the device. Raises CannotTouch."""
         device = self.session.stored()
         if not isinstance(device, Device):
@@ -290,7 +297,7 @@ class Touch:
         if by_probe:
             self.moves.touched = None
 
-    def _agrees(self, question: str) -> bool:
+    def agrees(self, question: str) -> bool:
         """Whether a person wants it; says that nothing is set where not."""
         agrees = self.session.agrees(question)
         if not agrees:

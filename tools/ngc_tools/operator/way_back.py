@@ -20,8 +20,9 @@ from ngc_tools.link.way import legs_to
 _SWITCHES = "on was, there: {words}. yes switches it on first, anything else leaves it off: "
 _HEIGHT = """\
 by legs then: straight up, over, and down to {at}. Up to which Z, in machine mm, from {low} to {high}? Nothing ends: """
-_FEED = "How fast {where}, in mm a minute? It was cut off at {feed}; no more is taken. Nothing takes {feed}: "
-_ANY_FEED = "How fast {where}, in mm a minute? No feed is known of what was cut off. Nothing ends: "
+_FEED = "How fast {where}, in mm a minute? {known}; no more is taken. Nothing takes {feed}: "
+_CUT_OFF = "It was cut off at {feed}"
+_ANY_FEED = "How fast {where}, in mm a minute? No feed is known there. Nothing ends: "
 _HELD = "held. yes goes on; anything else stays, and recover goes on later: "
 _NOT_GONE = "The player doesn't go there, and nothing is told to ngc: the player says why at its own terminal"
 _NOT_SWITCHED = "The player doesn't switch that on, and nothing has moved: it says why at its own terminal"
@@ -57,10 +58,12 @@ class WayBack:
             self.session.face.say(why.strip(), REFUSED)
         return None
 
-    def feed(self, cut_nm: int, where: str) -> str | None:
+    def feed(self, cut_nm: int, where: str, known: str = _CUT_OFF) -> str | None:
         """How fast it goes where it goes down into the work, as a person types it: at most the feed that was cut off,
-        in nm a minute, 0 where none is known; None for not at all."""
-        asked = _FEED.format(where=where, feed=trimmed(cut_nm)) if cut_nm else _ANY_FEED.format(where=where)
+        in nm a minute, 0 where none is `known`; None for not at all."""
+        at = trimmed(cut_nm)
+        asked = (_FEED.format(where=where, known=known.format(feed=at), feed=at) if cut_nm
+                 else _ANY_FEED.format(where=where))
         why = ""
         while (typed := self.session.face.ask(why + asked).strip()) not in NO_ANSWERS:
             try:
@@ -94,7 +97,7 @@ class WayBack:
             return False
         if not session.agrees(LOOK_SWITCHED if is_switched else LOOK):
             if is_switched:
-                self._switches_back(before)
+                self.switches_back(before)
             return False
         self.looked = on_words(link.ask().outputs)
         send()
@@ -151,7 +154,7 @@ class WayBack:
         link.switch(outputs)
         return self._is_switched(outputs)
 
-    def _switches_back(self, outputs: Switch) -> None:
+    def switches_back(self, outputs: Switch) -> None:
         """Has it switch outputs as they were, which a wish to hold doesn't keep from being done. Raises NoAnswer."""
         self.session.meter.link.switch_back(outputs)
         self._is_switched(outputs)

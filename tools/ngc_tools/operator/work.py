@@ -179,6 +179,7 @@ class Work:
         """Waits until the player has carried out what was handed out; False if somebody wants to hold before that,
         the motors are held, or the player is gone."""
         session = self.session
+        self._free_at = time.monotonic()
         try:
             if not session.meter:
                 return True
@@ -234,7 +235,7 @@ class Work:
         is_through = status.place < session.told or is_done and begins
         end = len(session.program.text) if is_through else status.place
         for number, message in session.program.messages(session.told, end, session.delete):
-            session.face.say(f"message, line {number}: {message}", MESSAGE)
+            session.face.say(f"message, {session.program.named(number)}: {message}", MESSAGE)
         session.told = status.place
 
     def _show(self) -> None:

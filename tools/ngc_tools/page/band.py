@@ -8,7 +8,7 @@ from ngc_tools.operator.motors import count
 from ngc_tools.operator.session import ALARM, BROKEN, DOOR, SPINDLE, WAITS_SPINDLE
 from ngc_tools.page.face import LOOKS
 from ngc_tools.page.session import LOST, MOVES, WITHOUT_LINES, PageSession
-from ngc_tools.link.progress import Report
+from ngc_tools.link.progress import UNSURE, Report
 
 Band = tuple[str, str, str]
 
@@ -29,6 +29,7 @@ _TAKE_UP = words_that_bring(Brings.TAKES_UP)
 OWN_LINES = words_that_bring(Brings.LINES) & words_that_bring(Brings.HANDS_OUT) - words_that_bring(Brings.PROGRAM)
 """The commands that do lines of one's own: before one has begun, and after it, no line of the program runs."""
 _STARTS = "ngc looks at the program first; nothing moves yet"
+_UNSURE = "The motors moved as their last player ended, as by a loss of power: tell where the machine is, or home"
 _APART = "The motors aren't where the last line ended: tell which of the two is so, or home"
 
 
@@ -110,7 +111,7 @@ class Standing:
             return None
         if self.held_by not in ("", "here"):
             return "Held", "hold", self._held_by()
-        if command.word == "run" and session.face.last is None and not self._is_in_hand():
+        if command.word in ("run", "from") and session.face.last is None and not self._is_in_hand():
             return "Starting", "idle", _STARTS
         if session.under and session.under.word in _TAKE_UP and not session.face.has_looked:
             return "On the way", "run", "To where the line was cut off. Hold stops it"
@@ -150,6 +151,8 @@ class Standing:
             return "Place unknown", "ask", "Tell where the machine stands"
         if self.is_apart:
             return "Two places", "ask", _APART
+        if self.report is not None and self.report.word == UNSURE:
+            return "Place unsure", "ask", _UNSURE
         return self._free()
 
     def _held(self, has_left: bool) -> str:

@@ -14,10 +14,12 @@ from ngc_tools.files import cause
 from ngc_tools.formats.device import MOST_LARGE_PROGRAM
 from ngc_tools.page import websocket
 from ngc_tools.page.deeds import BadWords
+from ngc_tools.page.files import OF_FILES, of_files
 from ngc_tools.page.http import RequestRefused, Request, head_of, read_body, read_request
 from ngc_tools.page.pages import LOST_S, Stamp
 from ngc_tools.page.routines import routines
 from ngc_tools.page.session import Busy
+from ngc_tools.page.stock import shapes_told
 
 if TYPE_CHECKING:
     from ngc_tools.page.server import Server
@@ -90,6 +92,8 @@ class Connection:
     async def _answered(self, request: Request, path: str, body: bytes) -> tuple[HTTPStatus, bytes, str]:
         """The status, the content and its kind."""
         try:
+            if request.method == "GET" and path.partition("?")[0] in OF_FILES:
+                return HTTPStatus.OK, *await asyncio.to_thread(of_files, self.server.session, path)
             if request.method == "GET":
                 return HTTPStatus.OK, *self._got(path)
             return HTTPStatus.OK, await self._posted(request, path, body), _JSON
@@ -109,6 +113,8 @@ class Connection:
             return self.server.program() if name == "program" else self.server.job(), _JSON
         if name == "macros":
             return packed(self.server.macros()), _JSON
+        if name == "shapes":
+            return packed(shapes_told(self.server.session.shapes)), _JSON
         if name == "routines":
             return packed(routines()), _JSON
         return self.server.static(name)

@@ -7,26 +7,32 @@ from dataclasses import dataclass, field
 from functools import partial
 from http import HTTPStatus
 
-from ngc_tools.formats.device import SLOTS
-from ngc_tools.formats.position import nanometres
+from ngc_tools.formats.device import MOST_LARGE_PROGRAM, SLOTS
+from ngc_tools.formats.position import millimetres, nanometres
 from ngc_tools.job.cam_homes import HomeAnswers
 from ngc_tools.operator.commands import BY_WORD, COMMANDS, Asked, Brings, words_that_bring
 from ngc_tools.operator.macros import LONGEST_NAME
 from ngc_tools.operator.motors import PERCENTS, SPINDLE_PERCENTS
+from ngc_tools.operator.modes import SYSTEMS
+from ngc_tools.operator.numbers import length_of
 from ngc_tools.operator.routines import ROUTINES
+from ngc_tools.operator.tool_shapes import MOST_DIAMETER_NM, TIPS, Shape
 from ngc_tools.page.aside import Wanted
 from ngc_tools.page.http import RequestRefused
+from ngc_tools.page.jog import KEYS_SILENCE_S, OLDEST_STEP_S, Wish
 from ngc_tools.page.pages import Pages, Stamp
 from ngc_tools.page.rehearse import rehearse
 from ngc_tools.page.session import PageSession
 from ngc_tools.page.state import LOOKED_AT
 
-_NUMBER = re.compile(r"[-+]?(?:[0-9]{1,7}\.?[0-9]{0,6}|\.[0-9]{1,6})")
+_NUMBER = re.compile(r"[-+]?(?:[0-9]{1,7}\.?[0-9]{0,6}|\.[0-9]{1,6})(?:mm|in)?")
 _WAYS = re.compile(r"(?:[XY][-+]?(?: [XY][-+]?)?)?")
 _LONGEST_LINE = 256
 _MOST_SPEED = 1_000_000  # turns a minute
 _LONGEST_ANSWER = 64
 _MOST_PRESSES = 1000  # that are numbered before the server hears of one
+_STEP_S = 600.0  # that a step may take
+_SLOW = "said {ms} ms ago, and so not done: this page, or the network, is too slow now for keys"
 _MOST_KEPT = 2  # programs that were looked at and may be loaded
 SWITCHES = words_that_bring(Brings.SWITCH)
 _OUTPUT_LINES = {"clockwise": "M3 S{}", "counter-clockwise": "M4 S{}", "spindle off": "M5", "flood": "M8", "mist": "M7",
@@ -99,10 +105,11 @@ class Given:
 
 
 def number_of(value: object) -> str:
-    """A number in millimetres. Raises BadWords."""
-    if not isinstance(value, str) or not _NUMBER.fullmatch(value):
-        raise BadWords("a number in millimetres, with at most six decimals")
-    return value
+    """A number, in millimetres, or with `in` behind it inches: in millimetres. Raises BadWords."""
+    nm = length_of(value) if isinstance(value, str) and _NUMBER.fullmatch(value) else None
+    if nm is None:
+        raise BadWords("a number in millimetres, or as 0.1in, with at most six decimals")
+    return millimetres(nm) if value.endswith("in") else value.removesuffix("mm")
 
 
 def cam_answers(text: str) -> HomeAnswers:
@@ -180,23 +187,58 @@ def _home_words(given: Given) -> str:
     return " ".join(axes)
 
 
-def _jog(given: Given) -> None:
+def _jog(given: Given) -> dict | None:
     way, rate = _way(given), given.number("rate")
     if given.words.get("length") is not None:
         given.session.type(f"jog {way} {rate} for {given.number('length')}")
-    else:
-        if "down" in given.words:
-            given.pages.check_holds(Stamp.read(given.words["down"]))
-        given.session.jog(way, rate, given.press())
+        return None
+    if "down" in given.words:
+        given.pages.check_holds(Stamp.read(given.words["down"]))
+    if "said" not in given.words:
+        return {"goes": given.session.jog(Wish(way, rate, given.press()))}
+    left_s = KEYS_SILENCE_S - _said(given, KEYS_SILENCE_S)
+    return {"goes": given.session.jog(Wish(way, rate, given.press(), left_s, True))}
+
+
+def _step(given: Given) -> None:
+    """A step by a key or a wheel, to its end: nobody asks for the next one before."""
+    _said(given, OLDEST_STEP_S)
+    line = f"jog {_way(given)} {given.number('rate')} for {given.number('length')}"
+    given.session.ask("jog", lambda: given.session.operator.do(line), _STEP_S)
+
+
+def _said(given: Given, most_s: float) -> float:
+    """How many seconds ago a page said what it asks for by a key. Raises RequestRefused for what is too old, and where
+    somebody held since."""
+    stamp = Stamp.read(given.words.get("said"))
+    given.pages.check_holds(stamp)
+    if (age_s := given.pages.age_s(stamp)) >= most_s:
+        raise RequestRefused(HTTPStatus.CONFLICT, _SLOW.format(ms=int(1000 * age_s)))
+    return age_s
 
 
 def _seek_words(given: Given) -> str:
     return f"{_way(given)} {given.number('rate')} within {given.number('within')}"
 
 
+def _axes_words(given: Given) -> str:
+    return " ".join(f"{axis}{number}mm" for axis, number in sorted(given.axes("axes").items()))
+
+
 def _zero_words(given: Given) -> str:
-    axes = " ".join(f"{axis}{number}mm" for axis, number in sorted(given.axes("axes").items()))
-    return axes + _by_probe(given)
+    return _axes_words(given) + _by_probe(given)
+
+
+def _offset_words(given: Given) -> str:
+    """What is set, by the code that names it, and the numbers of its axes, or a slot."""
+    name = given.words.get("name")
+    if name in (*SYSTEMS, "G92"):
+        return f"{name} {_axes_words(given)}"
+    if name == "G43":
+        return f"G43 H{given.count('slot', SLOTS)}"
+    if name not in ("G49", "G92.1"):
+        raise BadWords(f"name: {', '.join(SYSTEMS)}, G92, G92.1, G43, or G49")
+    return name
 
 
 def _probe_words(given: Given) -> str:
@@ -229,6 +271,18 @@ def _by_probe(given: Given) -> str:
     return " probe" if given.flag("probe") else ""
 
 
+def _shape(given: Given) -> None:
+    """Keeps the shape of a tool for the picture of the stock; without a diameter it is forgotten."""
+    slot, shape = given.count("slot", SLOTS), None
+    if given.words.get("diameter") is not None:
+        angle = float(given.number("angle")) if given.words.get("tip") == "v" else 0
+        shape = Shape(nanometres(given.number("diameter")), str(given.words.get("tip")), angle)
+        if not shape.is_one:
+            raise BadWords(f"a diameter in mm up to {MOST_DIAMETER_NM // 10**6:,}; tip: {', '.join(TIPS)}; of a v an"
+                           " angle below 180")
+    given.session.shapes.keep(slot, shape)
+
+
 def _answer(given: Given) -> dict:
     """Where somebody has to look at the machine, a yes is one that says that each thing was looked at."""
     text, question = "yes" if given.words.get("yes") is True else "no", given.count("question", 10**9)
@@ -249,8 +303,9 @@ def _rehearse(given: Given) -> dict:
 
 
 _WORDS: dict[str, Callable[[Given], str]] = {
-    "home": _home_words, "seek": _seek_words, "zero": _zero_words, "touch": _touch_words,
+    "home": _home_words, "seek": _seek_words, "zero": _zero_words, "touch": _touch_words, "offset": _offset_words,
     "probe": _probe_words, "macro": lambda given: given.line("name", LONGEST_NAME),
+    "from": lambda given: str(given.count("line", MOST_LARGE_PROGRAM)),
     "tool": lambda given: f"{given.count('slot', SLOTS)} {given.number('length')}",
     "percent": lambda given: str(given.count("percent", PERCENTS[-1])),
     "spindle": lambda given: f"percent {given.count('percent', SPINDLE_PERCENTS[-1])}",
@@ -280,10 +335,10 @@ _OWN: dict[str, Callable[[Given], dict | None]] = {
 """The commands by which the page does more than a console, or asks for more."""
 
 _OF_PAGES: dict[str, Callable[[Given], dict | None]] = {
-    "stands": _stands, "switch": _switch, "turn": _turn, "answer": _answer,
+    "stands": _stands, "switch": _switch, "turn": _turn, "answer": _answer, "shape": _shape,
     "measurefrom": lambda given: given.session.tell(f"measure from {given.number('down')} within"
                                                     f" {given.number('within')}"),
-    "jogstop": lambda given: given.session.jogs.let_go(given.press()),
+    "step": _step, "jogstop": lambda given: given.session.jogs.let_go(given.press()),
     "loss": lambda given: given.pages.choose(given.flag("goes")),
     "restart": lambda given: given.session.restart(),
 }
@@ -294,6 +349,6 @@ _ASKED = [command for command in COMMANDS if command.asked is not Asked.NEVER an
 DEEDS: dict[str, Callable[[Given], dict | None]] = {
     **{command.word: partial(_typed, command.word) for command in _ASKED}, **_OWN, **_OF_PAGES}
 """What the page that commands may ask for."""
-WAITING = {command.word for command in _ASKED if command.asked is Asked.AWAITED} | {"stands", "switch", "measurefrom",
-                                                                                   "restart"}
+WAITING = {command.word for command in _ASKED if command.asked is Asked.AWAITED} | {
+    "stands", "switch", "shape", "measurefrom", "step", "restart"}
 """Those that wait for what they ask for; the others only give it to the session's thread."""

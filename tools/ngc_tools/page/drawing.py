@@ -4,7 +4,7 @@ import json
 from collections.abc import Iterator
 from dataclasses import dataclass, replace
 
-from ngc_tools.formats.canonical import MOTIONS, Command
+from ngc_tools.formats.canonical import Command
 from ngc_tools.formats.device import Device
 from ngc_tools.formats.out import BadLine
 from ngc_tools.formats.settings import Settings
@@ -16,12 +16,12 @@ from ngc_tools.ngc.beginning import Beginning
 from ngc_tools.ngc.pacing import NotTimed
 from ngc_tools.ngc.run import Refusal, refusal
 from ngc_tools.job.timing import timed, with_ramps
+from ngc_tools.page.stock import STEPS, in_force_by_step
 
 _SWITCHES = {"SET_SPINDLE_SPEED", "SELECT_TOOL", "CHANGE_TOOL", "START_SPINDLE_CLOCKWISE", "STOP_SPINDLE_TURNING",
              "START_SPINDLE_COUNTERCLOCKWISE", "MIST_ON", "FLOOD_ON", "MIST_OFF"}
 """What hands out a switch of the outputs (docs/OUTPUT.md). M9 prints two of them and hands out one, as the program's
 end does, which is looked at apart."""
-_STEPS = {*MOTIONS, "DWELL"}
 SWITCH = -1
 """Stands for a segment that is a switch of the outputs."""
 
@@ -55,14 +55,15 @@ class DrawingRequest:
 @dataclass(frozen=True, slots=True)
 class DrawnJob:
     """`steps` are the moves and waits in turn, `lines` the line of each, from 1. `segments` has for each line its
-    segments, each the number of its step or SWITCH. `tools` has the tools that lines change to. `is_exact` says that
-    each step has its time; `ramps_us` is that of all with ramps, 0 where it isn't known. `refused` is the line at which
-    it ends."""
+    segments, each the number of its step or SWITCH. `tools` has the tools that lines change to, `in_force` what is in
+    force from which step on. `is_exact` says that each step has its time; `ramps_us` is that of all with ramps, 0 where
+    it isn't known. `refused` is the line at which it ends."""
 
     steps: list[Step]
     lines: list[int]
     segments: dict[int, list[int]]
     tools: dict[int, int]
+    in_force: list[dict]
     is_known: bool
     is_exact: bool
     ramps_us: int
@@ -72,8 +73,8 @@ class DrawnJob:
         """As JSON has it: points in micrometres, one after the other, times in us. A move without a time has that of
         its length and feed, or of this rate."""
         refused = self.refused and {"line": self.refused.line, "code": self.refused.code, "name": self.refused.name}
-        rest = {"segments": self.segments, "tools": self.tools, "known_start": self.is_known, "exact": self.is_exact,
-                "ramps_us": self.ramps_us, "refused": refused}
+        rest = {"segments": self.segments, "tools": self.tools, "in_force": self.in_force,
+                "known_start": self.is_known, "exact": self.is_exact, "ramps_us": self.ramps_us, "refused": refused}
         steps = ",".join(_plain(self.steps, self.lines, traverse_nm_per_min))
         return f'{{"steps":[{steps}],{json.dumps(rest, separators=(",", ":"))[1:]}'.encode()
 
@@ -140,10 +141,11 @@ def job_of(source: DrawingRequest) -> DrawnJob:
     numbered = [(number, command) for number in sorted(printed) for command in printed[number]]
     begun = beginning.in_force(source.ngc, source.settings)
     steps = list(of_canonical((command for _, command in numbered), begun, beginning.point_nm))
-    lines = [number for number, command in numbered if command.name in _STEPS]
+    lines = [number for number, command in numbered if command.name in STEPS]
     if not is_known and steps and isinstance(steps[0], Move):  # nobody knows where the machine stood before it
         steps[0] = replace(steps[0], points=(steps[0].points[-1],) * 2, arc=None)
-    return DrawnJob(steps, lines, *_segments(printed), is_known, False, 0, refused)
+    in_force = list(in_force_by_step((command for _, command in numbered), begun))
+    return DrawnJob(steps, lines, *_segments(printed), in_force, is_known, False, 0, refused)
 
 
 def _segments(printed: Printed) -> tuple[dict[int, list[int]], dict[int, int]]:
@@ -164,7 +166,7 @@ def _segments_of(commands: list[Command], count: int) -> tuple[list[int], int]:
     is_end = any(command.name == "PROGRAM_END" for command in commands)
     own: list[int] = []
     for command in commands:
-        if command.name in _STEPS:
+        if command.name in STEPS:
             own.append(count)
             count += 1
         elif command.name in _SWITCHES and not is_end:

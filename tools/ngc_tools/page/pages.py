@@ -85,6 +85,10 @@ class Pages:
             raise RequestRefused(HTTPStatus.CONFLICT, _OLD)
         self.check_holds(stamp)
 
+    def age_s(self, stamp: Stamp) -> float:
+        """How long ago it was, in seconds."""
+        return max(0, self.stamp().ms - stamp.ms) / 1000
+
     def check_holds(self, stamp: Stamp) -> None:
         """Raises RequestRefused where somebody held since."""
         if stamp.holds != self.stamp().holds:

@@ -4,7 +4,8 @@ One thread serves all connections in turn, none of which waits for another one: 
 idle or slow. Each page keeps a line of its own for it, which has its place whatever comes. Of the other connections,
 where there are too many, one goes: of a stranger who says nothing before one that has shown the key, that before one
 that has just come, that before one of a page that is there, the oldest first. Whoever asks has to know the key in the
-path. No request names a file: what is served was read before, and a program comes by upload."""
+path. No request names a path: what is served was read before, and a program comes by upload, or is one of the folder of
+`--jobs`, by a number."""
 import asyncio
 import hmac
 import socket

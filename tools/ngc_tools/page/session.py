@@ -10,6 +10,7 @@ import traceback
 from collections.abc import Callable
 from contextlib import suppress
 from dataclasses import dataclass, field, replace
+from pathlib import Path
 from typing import Any
 
 from ngc_tools.failure import Failure
@@ -25,13 +26,15 @@ from ngc_tools.operator.operator import Operator
 from ngc_tools.operator.places import is_same_place
 from ngc_tools.operator.sentences import explained
 from ngc_tools.operator.session import ALARM
+from ngc_tools.operator.tool_shapes import ToolShapes
 from ngc_tools.page.aside import Aside, Child, NotDone, Wanted
 from ngc_tools.page.drawer import Drawer
 from ngc_tools.page.drawing import DrawingRequest, as_begun
 from ngc_tools.page.face import PageFace
 from ngc_tools.page.findings import Check, find
 from ngc_tools.page.never_cut import LossRequest, NeverCutSearch
-from ngc_tools.page.jog import HeldJog
+from ngc_tools.page.jobs import Folder, Jobs
+from ngc_tools.page.jog import HeldJog, Wish
 from ngc_tools.page.losses import Losses
 from ngc_tools.page.stand import Kept, Stand, recovery_of
 from ngc_tools.link.machine import read_machine
@@ -112,6 +115,7 @@ class PageSession:
         `opens` raises."""
         self._opens, self.face, self.machine = opens, face, machine
         self.aside, self.jogs = Aside(), HeldJog()
+        self.jobs: Jobs | None = None  # the programs of a folder, where one is named
         self.version = shown_version()
         self._checks: dict[str, Child] = {}  # by the page that asked
         self.over = threading.Event()
@@ -153,11 +157,13 @@ class PageSession:
         console = operator.console
         self.settings = Settings.read(console.settings)
         self.most_percents = _most_percents(self.machine, self.settings)
+        self.shapes = ToolShapes(console.settings)
         self.homes = _homes(self.machine)
         self.face.begin(self.face.holds)
         self.face.asides()  # none of the last session counts
         operator.following.opened = self._follow
         operator.begin(self.opened.bound, self.opened.found)
+        self._text = operator.session.program.text
         self.operator, self.ident = operator, secrets.token_hex(8)  # a page that saw another one begins anew
         self.stand, self.kept = Stand(console.status()), Kept(console.device)
         begun = as_begun(self.opened.found) if self.opened.found and self.stand.status.place else None
@@ -324,13 +330,14 @@ class PageSession:
         command = self.under
         return command is not None and command.word in WITHOUT_LINES
 
-    def jog(self, way: str, rate: str, press: int) -> None:
-        """Jogs along a way, as `X+`, for as long as this is called again and again. Raises Busy."""
-        if not self.jogs.wish(way, rate, press):
-            return
+    def jog(self, wish: Wish) -> bool:
+        """Jogs for as long as this is called again and again; whether the wish counts. Raises Busy."""
+        if not self.jogs.wish(wish):
+            return False
         command = self.under or self._next
         if command is None or command.word != "jog":
             self.give("jog", lambda: self.jogs.go(self.operator.moves))
+        return True
 
     def run(self, line: str) -> None:
         """Starts the program, or goes on with it, by `run` or `run anyway`. Raises Busy."""
@@ -382,8 +389,7 @@ class PageSession:
                 return False
             self.never_cut.forget()
             self.face.message = ""
-            self.name, self.program_id, self.started = name, self.program_id + 1, 0.0
-            self._draw()
+            self._see_program(name)
             return True
         return bool(self.ask("load", does, 600))
 
@@ -416,6 +422,14 @@ class PageSession:
         """How far the check of a page is; None where none is under way, or it hasn't begun."""
         child = self._checks.get(page)
         return child.told if child else None
+
+    def show_jobs(self, folder: str) -> None:
+        """Shows the programs of a folder."""
+        def request(text: bytes) -> DrawingRequest:
+            """How one is drawn."""
+            return replace(self._source_of(self.kept.device), is_begun_there=True, other=text)
+        self.jobs = Jobs(Folder(Path(folder)), str(self.operator.console.device), self.aside, request,
+                         lambda: self.is_busy)
 
     def preview(self, text: bytes, wanted: Wanted) -> bytes:
         """A program that isn't loaded as it would be drawn, in JSON, as long as it is wanted. Raises NotDone, OSError.
@@ -510,7 +524,7 @@ class PageSession:
         if command.word in MOVES | {"load"}:
             self.held_from = "" if self.face.holds == command.holds else self.held_from
         self.face.publish()
-        before = self.stand.status
+        before, ends = self.stand.status, self.operator.runs.ends
         try:
             command.result = command.does()
             for line in self.face.asides():  # that came too late for it
@@ -526,7 +540,7 @@ class PageSession:
             self._quit()
             return
         if command.word in MOVES | {"load"}:
-            self._see_end(command, before)
+            self._see_end(command, before, ends)
         if command.word in MOVES | {"reference"}:
             self._see_place(command.word)
 
@@ -552,13 +566,16 @@ class PageSession:
         command.failed = Failure(f"internal error: {type(error).__name__}: {error}")
         self.face.say(str(command.failed), REFUSED)
 
-    def _see_end(self, command: SessionCommand, before: Status) -> None:
-        """Sees whether the program ran to its end."""
+    def _see_end(self, command: SessionCommand, before: Status, ends: int) -> None:
+        """Sees whether the program ran to its end, of which so many were before. One that begins with a way may not
+        have been begun."""
         status = self.operator.console.status()
         ran = command.word in _PROGRAM and (before.place or before.half == "program"
                                                                 or before.entries != status.entries)
         at_start = status.does == "idle" and status.half == "none" and not status.place
         seen = self.operator.session.seen
+        if command.word == "from" or self.operator.session.program.way[0]:
+            ran = ran and self.operator.runs.ends > ends
         is_through = seen is None or not seen.behind  # nor were the motors held before its end
         self.is_finished = bool(ran and at_start and is_through and not self.face.refusal)
 
@@ -611,6 +628,8 @@ class PageSession:
         self.kept.at(status)
         self.stand = Stand(status, report, gone, recovery_of(operator.recover.found), *self._typed(), machine)
         self._see_homed()
+        if self._text is not operator.session.program.text:  # as the rest of the one that was
+            self._see_program(self.name)
         if status.half == "none" and not status.place and not self.drawer.is_as_drawn(self.kept.device):
             self._draw()
         if self.stand != before:
@@ -622,6 +641,12 @@ class PageSession:
         if left.device is None:
             return False, ()
         return True, left.restoring().lines
+
+    def _see_program(self, name: str) -> None:
+        """Another program is stored, which people call `name`."""
+        self._text = self.operator.session.program.text
+        self.name, self.program_id, self.started = name, self.program_id + 1, 0.0
+        self._draw()
 
     # what is drawn
 

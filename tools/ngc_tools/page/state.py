@@ -18,8 +18,9 @@ from ngc_tools.operator.session import ALARM
 from ngc_tools.page.able import able
 from ngc_tools.page.band import Standing
 from ngc_tools.page.face import LOOKS
+from ngc_tools.page.offsets import offsets_of
 from ngc_tools.page.session import MOVES, WITHOUT_LINES, PageSession
-from ngc_tools.link.progress import MoveReport, Report
+from ngc_tools.link.progress import UNSURE, MoveReport, Report
 
 LOOKED_AT = 3
 """So many things are looked at before anything moves."""
@@ -116,7 +117,8 @@ class Pictured:
                 "half_text": shown_line(state.half_text) if state.half else "",
                 "busy": self.session.is_busy, "moving": self._moves(), "does_move": self._does,
                 "press": self.session.jogs.last,
-                "apart": self._apart, "held_by": self._held_by, "door_open": self.operator.session.is_door_open,
+                "apart": self._apart, "unsure": self._is_unsure, "held_by": self._held_by,
+                "door_open": self.operator.session.is_door_open,
                 "command": self.command and {"word": self.command.word, "since": self.command.since}}
 
     @property
@@ -146,7 +148,7 @@ class Pictured:
         """Where the motors are, with the outputs as they have them: `ngc` may be ahead of them."""
         report, meter = self.report, self.operator.session.meter
         out = report.outputs if report else self.device.state.outputs
-        can = able(self.session, self.status, report, self._machine_said, out, any(self._apart))
+        can = able(self.session, self.status, report, self._machine_said, out, any(self._apart) or self._is_unsure)
         said = {"player": meter is not None, "player_gone": self.stand.gone, "motors": report and report.at.split(),
                 "speed": out.speed / 10**6, "spindle": out.spindle, "mist": out.mist, "flood": out.flood,
                 "slot": out.slot, "selected": out.selected, "most_percents": self.session.most_percents,
@@ -224,6 +226,13 @@ class Pictured:
         return [one != other for one, other in zip(*steps, strict=True)]
 
     @property
+    def _is_unsure(self) -> bool:
+        """Whether the motors moved without lines as their last player was gone, and nobody told since where they are.
+        While a command is under way that is as it was before it."""
+        report = self.stand.report
+        return report is not None and report.word == UNSURE and not self.stand.gone
+
+    @property
     def _left(self) -> str:
         """The axes of which somebody has to tell where they stand, or to home them, before an alarm is over, as `XY`;
         nothing as long as none is homed, nor as long as home is the way for one of them."""
@@ -241,13 +250,14 @@ class Pictured:
         return {"work": work, "stale": self._stale(), "feed": state.feed_nm_per_min / 10**6,
                 "tool_length": millimetres(state.tool_length_nm), "origin": list(map(millimetres, in_force.origin)),
                 "tools": list(map(millimetres, self.device.tools_nm)), "most_slots": SLOTS,
+                "offsets": offsets_of(self.device, (x, y, z) if is_known else None),
                 **{name: getattr(state, name) for name in _IN_MODES}}
 
     def _stale(self) -> dict | None:
         """Why the place isn't known any more that is shown, and when it was, in seconds since 1970, if that is known;
         None where it is the machine's. `by_record`: the player had it by its record, and nobody has told it since."""
         if self.report and self.report.word == ALARM:
-            return {"why": "alarm", "at": 0}
+            return {"why": "alarm", "at": self.face.reported_at if self._is_old else 0}
         begins_at = self.session.begins_at  # what a player says since is by its record
         if self._is_lost or begins_at is not None and self.face.reported_at >= begins_at:
             return {"why": "power", "at": self.session.opened.left_at}
@@ -270,12 +280,13 @@ class Pictured:
             return False
         goes = command in MOVES and command not in _CONFIRMED
         is_apart = goes and any(self._apart_of(self.stand.status, self.stand.report))
-        return not self.status.known or self._has_left or is_apart
+        return not self.status.known or self._has_left or is_apart or self._is_unsure
 
     def _session(self) -> dict:
         session, setter_nm = self.session, self.operator.touch.setter_nm
         return {"session": session.ident, "ended": session.ended, "over": session.over.is_set(),
-                "program": {"id": session.program_id, "name": session.name, "lines": self.program.count},
+                "program": {"id": session.program_id, "name": session.name, "lines": self.program.count,
+                            "way": self.program.way},
                 "job": session.drawer.count + session.never_cut.count,
                 "finished": self.is_finished, "started": session.started,
                 "given_back": self.operator.choices.given, "not_given_back": self.operator.choices.lost,
@@ -284,6 +295,7 @@ class Pictured:
                 "has_probe": self.operator.touch.has_probe, "has_ball": self.operator.touch.setter.probe is not None,
                 "has_park": None not in self.operator.ways.home_nm[:2],
                 "measures": self.operator.measuring.is_on if self.operator.measuring.can else None,
+                "jobs": session.jobs is not None,
                 "typed": self.stand.typed, "restore": self.stand.restore, "version": session.version}
 
     def _moves(self) -> bool:
@@ -302,7 +314,7 @@ class Pictured:
 
     @property
     def _here(self) -> str:
-        return f"line {self.number} of {self.program.count}" if self.program.text else ""
+        return f"{self.program.named(self.number)} of {self.program.last}" if self.program.text else ""
 
 
 def state_of(session: PageSession, page: str = "") -> dict:

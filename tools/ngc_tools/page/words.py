@@ -19,6 +19,8 @@ _WORDS = tuple((re.compile(pattern), said) for pattern, said in (
     (r"the player says that the motors are at (.*), and ngc takes them to be at (.*): (.*) mm apart\. Nothing is done\."
      r"\n  reference player .*", r"The player counts \1, and the last line ended at \2: \3 mm apart. Nothing is done."
      " Where is it? asks which is so; home tells it anew"),
+    (r"(they may have gone on\. Nothing is done\.)\n  reference player .*",
+     r"\1 Where is it? asks which is so; home tells it anew"),
     (r"release lets them carry those out, and run goes on", "Go on carries those out"),
     (r"release (lets|waits)", r"Go on \1"),
     (r"Once (it|the player) answers( again)?, (again|run goes on); if it is gone, quit, and start a player and this"

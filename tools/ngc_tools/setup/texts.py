@@ -28,7 +28,7 @@ tools_nm = {tools_nm}
 """
 
 _MACHINE = """# What the motors of this machine allow, and what is wired to it, for ngc pace, the players and the page
-# (TOOLS.md, MACHINE.md, SINK.md). Axes are in the order X, Y, Z.
+# (docs/tools/player.md, MACHINE.md, SINK.md). Axes are in the order X, Y, Z.
 
 [motion]
 # mm/s2 that an axis gains or loses: 1 to 1000000. To find it: MACHINE.md, "Motors".

@@ -6,6 +6,8 @@
 
 #include "scan.h"
 
+const char RECORD_MOVING[] = "moving";
+
 bool record_takes(const char *out, struct cause *why) {
     size_t size = strlen(out);
     if (size > LONGEST_PATH) {
@@ -52,7 +54,8 @@ void record_print(const struct record *record, char text[RECORD_SIZE]) {
     char whole[RECORD_SIZE];
     char place[PLACE_ROOM];
     char path[PLACE_ROOM + 8] = "";
-    if (record_leads_elsewhere(record) && record->mark.is_known) {
+    bool has_left = record->is_off || record_leads_elsewhere(record);
+    if (record->has_path && has_left && record->mark.is_known) {
         place_print(place, sizeof place, record->path);
         snprintf(path, sizeof path, "path %s\n", place);
     }

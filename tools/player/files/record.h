@@ -1,4 +1,4 @@
-/* The record of what was carried out: one sector of text, as docs/TOOLS.md has it. */
+/* The record of what was carried out: one sector of text, as docs/tools/player.md has it. */
 #ifndef RECORD_H
 #define RECORD_H
 
@@ -36,10 +36,14 @@ struct record {
     unsigned age_ms;  /* how old a record on the disk ever was as the next one came; 0 where that isn't known */
     char homed[4];    /* the axes that were homed since the player began, as "XYZ" */
     bool is_off;      /* the motors left the path of OUT by a move without lines */
-    bool has_path;    /* where the lines that are carried out lead, where the motors aren't there and it is known .. */
+    bool has_path;    /* where the lines that are carried out lead, where the motors left them and it is known .. */
     int64_t path[3];  /* .. in nanometres; it stands in the file where OUT's name leaves room */
     char stopped[16]; /* what ended the player before OUT's end, in a word; `emergency` and `limit` until it is homed */
+    uint64_t moves;   /* how many moves without lines had begun as it was taken; it doesn't stand in the file */
 };
+
+/* What `stopped` says where they moved without lines, or along a way, as the player was gone. */
+extern const char RECORD_MOVING[];
 
 /* Whether a path of OUT can stand in a record. */
 bool record_takes(const char *out, struct cause *why);

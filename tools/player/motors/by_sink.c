@@ -33,6 +33,7 @@ static bool is_place_sure(struct play *play, const struct sink_answer *left) {
     }
     bool is_told = left->state != SINK_NEW && sink_catch_up(play, left) && left->state != SINK_BROKEN;
     play->player->is_sure = play->player->is_sure || is_told;
+    play->player->is_unsure = play->player->is_unsure && !is_told;
     return is_told;
 }
 

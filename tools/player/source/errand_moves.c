@@ -87,6 +87,7 @@ static void arrive(struct player *player) {
         player->bytes = errand->legs_bytes;
         player_be_on_path(player);
     }
+    player->is_unsure = false; /* whoever sent them was asked where they are */
     atomic_store(&player->is_untold, false); /* OUT's lines lead on from there */
     if (!player->source.is_pipe) {
         source_go_to(&player->source, player->lines, player->bytes);
@@ -115,7 +116,8 @@ enum end do_errand(struct play *play) {
     }
     bool moves_back = errand->wish.is_by_legs || errand->bytes < player->bytes;
     if (end == CONTINUES && !errand->wish.is_switch && moves_back) {
-        end = go(play);
+        end = await_mark(play) ? go(play) : STOPPED;
+        end_mark(play);
     }
     if (end == CONTINUES) {
         player_lock(player);

@@ -132,6 +132,7 @@ static void note_end(struct play *play, const struct cause *how) {
     player_lock(player);
     manual_look_at_path(player);
     manual_end(player, how->text);
+    player->is_amid_move = false;
     player_unlock(player);
 }
 
@@ -142,7 +143,10 @@ enum end make_manual_move(struct play *play) {
     struct manual_wish wish = player->manual.wish;
     player_unlock(player);
     because(&how, "done");
-    enum end end = wish.kind == HOMES ? home_axes_now(play, wish.axes, &how) : go(play, &wish, &how);
+    enum end end = STOPPED;
+    if (await_mark(play)) {
+        end = wish.kind == HOMES ? home_axes_now(play, wish.axes, &how) : go(play, &wish, &how);
+    }
     play->is_moving = false;
     if (end != CONTINUES) {
         because(&how, "%.*s", (int)strcspn(play->why.text, ";"), play->why.text);

@@ -23,6 +23,7 @@ static void take_place(struct player *player, const int64_t steps[3]) {
     }
     player_leave_path(player);
     player->is_sure = player->is_sure || memcmp(player->steps, steps, sizeof player->steps) != 0;
+    player->is_unsure = false;
     memcpy(player->steps, steps, sizeof player->steps);
     atomic_store(&player->is_untold, player->alarm != NO_ALARM);
     if (player->alarm != NO_ALARM) {

@@ -28,13 +28,15 @@ enum { TICK_NS = 125, MS_NS = 1000000, SLICE_TICKS = 400, READS_TICKS = 4000 };
 #define STARTS_TICKS 40000
 #endif
 enum { EMPTY_FRAME = WIRE_HEAD + WIRE_CRC + 2 }; /* bytes of a frame of no words */
+enum { LINE_ROOM = 4096 }; /* bytes on their way before a sender waits, as where a computer's buffer is full */
 enum { SETUP_NS = 5000, TOGETHER_NS = 1000 }; /* axes whose pins rise within this make one step */
 
 static uint32_t sink_at;     /* where the firmware's RAM has the sink */
 static uint64_t came_at;     /* the tick at which a frame that says something was on its way last */
 static uint64_t given;       /* bytes for the line, all of them .. */
 static uint64_t given_words; /* .. and up to the last frame that says something */
-static uint64_t uncounted;   /* ticks in which the chip started: the bench's clock stands meanwhile */
+static uint64_t uncounted;   /* ticks in which the chip started: the bench's clock stands meanwhile .. */
+static bool is_starting;     /* .. and nobody hears it yet */
 static uint32_t levels[PORTS]; /* of port A and on */
 static uint32_t duty;
 static uint64_t turned[BOARD_AXES]; /* when a direction changed last */
@@ -154,7 +156,8 @@ void device_run(uint64_t ticks) {
         if (!model_run((left < SLICE_TICKS ? left : SLICE_TICKS) * TICK_NS)) {
             bench_give_up(told_violation());
         }
-        bench_send(heard, serial_heard(heard, NULL, sizeof heard));
+        size_t size = serial_heard(heard, NULL, sizeof heard);
+        bench_send(heard, is_starting ? 0 : size);
     }
     tell_changes();
 }
@@ -177,6 +180,10 @@ bool device_takes(void) {
     return device_now() < came_at + READS_TICKS;
 }
 
+bool device_has_room(void) {
+    return serial_sending() < LINE_ROOM;
+}
+
 void device_see(uint16_t inputs) {
     model_turn_inputs(inputs);
 }
@@ -194,7 +201,9 @@ void device_boot(uint16_t count) {
     uint64_t from = device_now();
     part_set_boots((uint16_t)(count - 1));
     model_reset();
+    is_starting = true;
     device_run(STARTS_TICKS);
+    is_starting = false;
     uncounted += device_now() - from;
 }
 

@@ -60,5 +60,11 @@ export const systemName = number => SYSTEMS[number - 1] ?? '';
 
 export const clock = date => date.toTimeString().slice(0, 8);
 
+// The number of a line in the program that it is of, where the stored text leads to one of its lines first.
+export function numbered(s, line) {
+  const [way, first] = s.program.way;
+  return line > way ? line - way + first - 1 : `${line} of the way`;
+}
+
 // Whether this page commands, and all holds that a command needs.
 export const may = (s, command) => s.yours && s.can[command];

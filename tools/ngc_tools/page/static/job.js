@@ -2,7 +2,7 @@
 // machine coordinates.
 export const TRAVERSE = 0, CUT = 1, WAIT = 2;
 const KINDS = { t: TRAVERSE, c: CUT, w: WAIT };
-const NEAR_UM = 60; // a chord of an arc is at most so far beside it
+export const NEAR_UM = 60; // a chord of an arc is at most so far beside it
 const BANDS = 5;
 
 export class Job {
@@ -14,6 +14,7 @@ export class Job {
     this.refused = plain.refused;
     this.tools = plain.tools ?? {};
     this.segments = plain.segments ?? {};
+    this.inForce = plain.in_force ?? [{ step: 0, slot: 0, length: 0, origin: [0, 0, 0] }]; // each from a step on
     this.line = Uint32Array.from(steps, step => step.n);
     this.kind = Uint8Array.from(steps, step => KINDS[step.k]);
     this.us = Float64Array.from(steps, step => step.us ?? 0);

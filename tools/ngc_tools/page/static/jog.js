@@ -3,17 +3,22 @@
 // moves nothing: it has to rest first, or, with a length, to be lifted where it came down.
 import { el } from './dom.js';
 import { now } from './link.js';
+import { means } from './steady.js';
+import { follow, inMillimetres, typedLength, typedNanometres, unit } from './units.js';
 
-const AGAIN_MS = 100;
+// How often it is said that a jog goes on, how many are asked for at once, and after how long a page that stood still
+// doesn't know any more what it missed.
+const BY_BUTTON = { everyMs: 100, stoodMs: Infinity, most: 1 };
+const BY_KEYS = { everyMs: 30, stoodMs: 100, most: 3 };
 const REST_MS = 180, MOST_PX = 8;
 const RATES = [['Slow', '100'], ['Medium', '600'], ['Fast', '3000']]; // mm a minute
-const LENGTHS = [['Cont.', null], ['10', '10'], ['1', '1'], ['0.1', '0.1'], ['0.01', '0.01']]; // mm
+const LENGTHS = { mm: ['10', '1', '0.1', '0.01'], in: ['1', '0.1', '0.01', '0.001'] };
 const PAD = [['Y', 1, 'up'], ['X', -1, 'left'], ['X', 1, 'right'], ['Y', -1, 'down'], ['Z', 1, 'above'],
   ['Z', -1, 'below']];
 
 export class Jog {
-  constructor(asks) {
-    this.asks = asks;
+  constructor(asks, refuse) {
+    Object.assign(this, { asks, refuse });
     this.told = 0;           // the highest press that the server knows
     this.rate = '600';
     this.length = null;
@@ -24,10 +29,20 @@ export class Jog {
     this.isOn = false;
     this.buttons = PAD.map(([axis, sign, where]) => this.button(axis, sign, where));
     this.rates = choices('Rate', RATES, rate => { this.rate = rate; }, this.rate);
-    this.lengths = choices('Millimetres', LENGTHS, length => { this.length = length; }, this.length);
+    this.lengths = el('div', { class: 'lengths' });
+    follow(() => this.showLengths());
     this.box = el('div', { class: 'jog' }, this.lengths, el('div', { class: 'pad' }, ...this.buttons), this.rates);
     for (const kind of ['blur', 'pagehide']) window.addEventListener(kind, () => this.stop());
     document.addEventListener('visibilitychange', () => { if (document.hidden) this.stop(); });
+  }
+
+  // The steps there are in the unit that is chosen: it goes on first, as long as none is.
+  showLengths() {
+    this.length = null;
+    const steps = LENGTHS[unit.name].map(step => [step, step]), chosen = length => { this.length = length; };
+    const group = choices(`A step, in ${unit.name}`, [['Cont.', null], ...steps], chosen, null);
+    this.lengths.replaceChildren(group, unit.name);
+    means(this.lengths, unit.name);
   }
 
   button(axis, sign, where) {
@@ -74,22 +89,49 @@ export class Jog {
   start(axis, sign) {
     this.forget();
     const { rate, length } = this;
-    if (length !== null) {
-      this.asks('jog', { axis, sign, rate, length });
-      return;
-    }
-    this.press = Math.max(this.press, this.told) + 1;
+    if (length !== null) this.asks('jog', { axis, sign, rate, length: typedLength(length) });
+    else this.keepOn({ axis, sign, rate, down: this.down }, BY_BUTTON);
+  }
+
+  // Says again and again that it goes on, each time by what `says` makes of the wish. At most so many are asked for at
+  // once: what waits in a slow network would come after the finger is gone.
+  keepOn(how, { everyMs, stoodMs, most }, says = wish => wish) {
+    const press = this.press = Math.max(this.press, this.told) + 1;
     this.isOn = true;
-    const wish = { axis, sign, rate, press: this.press, down: this.down };
-    let isAsked = false; // one at a time: what waits in a slow network would come after the finger is gone
-    const says = async () => {
-      if (isAsked) return;
-      isAsked = true;
-      if (!await this.asks('jog', wish)) this.stop();
-      isAsked = false;
+    let asked = 0, last = performance.now();
+    const again = async () => {
+      const before = last;
+      last = performance.now();
+      if (last - before > stoodMs) this.stop();
+      if (asked === most || this.press !== press || !this.isOn) return;
+      asked += 1;
+      const refused = why => { if (this.isOn && this.press === press) this.refuse(why); }; // once
+      const answer = await this.asks('jog', says({ ...how, press }), refused);
+      asked -= 1;
+      if (!answer?.goes && this.press === press) this.stop();
     };
-    this.timer = setInterval(says, AGAIN_MS);
-    says();
+    this.timer = setInterval(again, everyMs);
+    again();
+  }
+
+  // By a key or a gamepad, until `stop`. The server is told when each is said: one that comes late moves nothing.
+  goes(axis, sign, rate) {
+    this.stop();
+    this.keepOn({ axis, sign, rate, down: now() }, BY_KEYS, wish => ({ ...wish, said: now() }));
+  }
+
+  // So many steps of the length that is chosen, as they were asked for; it waits for their end.
+  steps(axis, count, said) {
+    const length = inMillimetres(BigInt(Math.abs(count)) * typedNanometres(this.length));
+    return this.asks('step', { axis, sign: Math.sign(count), rate: this.rate, length, said });
+  }
+
+  now() { return now(); }
+
+  // The rate that is chosen, or one that is so many steps slower.
+  slower(steps) {
+    const at = RATES.findIndex(([, rate]) => rate === this.rate);
+    return RATES[Math.max(0, at - steps)][1];
   }
 
   // The finger is gone, or somebody wants to hold.

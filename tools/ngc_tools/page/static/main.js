@@ -1,7 +1,9 @@
 // The page: what the server says is shown, what people touch is asked. It decides nothing.
 import { Alarm, isThere } from './alarm.js';
-import { $, byRecord, el, grouped, lasting, may, micrometres, mm, point, text, zeroOf } from './dom.js';
+import { $, byRecord, el, grouped, lasting, may, micrometres, mm, numbered, text, zeroOf } from './dom.js';
+import { Calls } from './calls.js';
 import { Job, TRAVERSE } from './job.js';
+import { Jobs, record } from './jobs.js';
 import { connect, get, hold as asksHold, post } from './link.js';
 import { load } from './loader.js';
 import { Log } from './log.js';
@@ -13,8 +15,10 @@ import { Recovery } from './recovery.js';
 import { Setup } from './setup.js';
 import * as sheet from './sheet.js';
 import * as sight from './sight.js';
+import { StockSheet } from './stock_sheet.js';
 import { dead, means, rest } from './steady.js';
 import * as tools from './tools.js';
+import { place, unit } from './units.js';
 import { lostOf } from './ways.js';
 
 const app = {
@@ -24,19 +28,22 @@ const app = {
 window.ngc = app; // for who looks at the page from outside, as tests do
 
 // The commands by which lines of the program run.
-const PROGRAM = ['run', 'resume', 'recover', 'release'];
+const PROGRAM = ['run', 'from', 'resume', 'recover', 'release'];
 
 const log = new Log();
 const program = new Program();
 const readout = new Readout(asks);
-const setup = new Setup(asks, readout);
+const calls = new Calls();
+const setup = new Setup(asks, why => log.refuse(why), calls);
+const jobs = new Jobs(app, asks, log);
 const picture = new Picture($('canvas'), (um, px) => {
   text($('scale'), um >= 1000 ? `${grouped(um / 1000)} mm` : `${um} µm`);
   $('scale').style.width = `${px}px`;
 });
 const recovery = new Recovery(app, asks, log);
+const stock = new StockSheet(app, asks);
 const alarm = new Alarm(asks, () => { if (recovery.isOpen) recovery.later(); });
-Object.assign(app, { picture, program, readout, dead });
+Object.assign(app, { picture, program, readout, stock, dead, keys: setup.keys });
 $('run').addEventListener('click', () => rest($('run'))); // the second tap of two means nothing
 
 new MutationObserver(() => { if (app.state) showControls(app.state); })
@@ -70,8 +77,10 @@ function show(s) {
   const reached = progress(s);
   readout.show(s, rate(s, reached));
   const isOfProgram = s.half === 'program' || s.half === 'none' && s.busy && PROGRAM.includes(s.command?.word);
+  program.way = s.program.way;
   program.follow(s.line, isOfProgram, s.finished);
   setup.show(s);
+  calls.show(s);
   tools.show(s, may(s, 'tool'), asks);
   log.show(s.log, noticed(s));
   text($('version'), s.version);
@@ -108,9 +117,11 @@ function showControls(s) {
   $('restart').hidden = !(s.yours && !s.over && (s.ended || s.broken));
   $('line').disabled = !may(s, 'mdi');
   enableDo();
+  $('stock').disabled = !app.job;
   $('hold').disabled = !s.can.hold;
   $('stop').disabled = !may(s, 'stop');
-  $('rewind').hidden = !may(s, 'rewind');
+  $('rewind').hidden = !may(s, 'rewind') || s.program.way[0] > 0; // Run asks for the way by itself
+  showFrom(s);
   showOff(s);
   for (const name of ['single', 'optional', 'delete']) {
     $(name).setAttribute('aria-checked', String(Boolean(s[name])));
@@ -121,6 +132,13 @@ function showControls(s) {
   means($('run'), says);
   $('run').disabled = !isEnabled;
   $('run').onclick = does;
+}
+
+// A line that was touched may be the one to go on from.
+function showFrom(s) {
+  $('from').hidden = !program.chosen || !s.yours;
+  $('from').disabled = !may(s, 'from') || !$('over').hidden;
+  text($('from'), `From line ${program.chosen}\u2026`);
 }
 
 // What is on can be switched off while the motors stand.
@@ -154,10 +172,18 @@ function running(s) {
   if (s.held_motors && s.behind && s.does !== 'held' && !s.busy) return ['Go on', may(s, 'release'), () => asks('release')];
   if (s.does === 'held') return ['Continue', may(s, 'run'), run];
   const canRun = may(s, 'run') && isFree;
-  if (s.apart.some(Boolean) || isNowhere(s)) return ['Where is it?', canRun, whereIsIt];
+  if (s.unsure || s.apart.some(Boolean) || isNowhere(s)) return ['Where is it?', canRun, whereIsIt];
   if (s.does === 'stopped') return ['Continue', canRun, () => (s.typed ? goOn(s, 'Continue') : run())];
-  if (s.place > 0 && !s.busy) return [`Run from ${s.line}`, canRun && s.known, () => goOn(s, `Run from ${s.line}`)];
+  const from = `Run from ${s.place > 0 ? numbered(s, s.line) : s.program.way[1]}`;
+  if (s.place > 0 && !s.busy) return [from, canRun && s.known, () => goOn(s, from)];
+  if (s.program.way[0] && !s.busy) return [from, canRun && s.known, run];
   return ['Run', canRun && s.known && s.program.lines > 0 && !app.job?.refused, run];
+}
+
+// What tells where the machine is.
+function toldOf(s) {
+  if (s.known && s.apart.some(Boolean)) return 'Two places are told';
+  return s.known ? 'The motors moved as their last player ended' : 'The player alone tells a place';
 }
 
 // Nothing is half-done, and nobody told since where the machine is: as after a line was given up.
@@ -169,10 +195,9 @@ function whereIsIt() {
   const off = s.past_mm ? `, \u00b1 ${mm(s.past_mm)} mm` : '';
   const does = (what, body) => () => { sheet.close(); asks(what, body); };
   sheet.open('Where is the machine?', [
-    sheet.warning(`${s.known ? 'Two places are told' : 'The player alone tells a place'}. Look at the machine: a line `
-      + 'goes from the one that is true.'),
-    sheet.facts([['The player counts', sheet.code(point(s.motors))],
-      ['The last line ended at', s.known && sheet.code(point(s.at))]]),
+    sheet.warning(`${toldOf(s)}. Look at the machine: a line goes from the place that is true.`),
+    sheet.facts([['The player counts', sheet.code(`${place(s.motors)} ${unit.name}`)],
+      ['The last line ended at', s.known && sheet.code(`${place(s.at)} ${unit.name}`)]]),
     s.past && sheet.said(byRecord(s.past)),
     hasHome && sheet.said('Where steps may be lost, as after a loss of power, home it.')],
   [sheet.button('Back', sheet.close), sheet.gap('Nothing moves by the first.'),
@@ -201,6 +226,7 @@ function progress(s) {
   const ahead = 1000 * (s.behind_mm ?? 2) + 1000;
   const reached = place.now >= 0 ? job.reached(place.now, motors, ahead) : { step: -1, share: 0, part: 1 };
   const done = place.now >= 0 ? reached.step : place.done;
+  Object.assign(app, { place, reached });
   picture.zero(zeroOf(s));
   picture.at(done, reached.step, reached.part, motors);
   showTimes(s, done, s.busy || s.does === 'held' ? reached.share : 0);
@@ -220,7 +246,7 @@ function showTimes(s, done, share) {
   $('bar').style.width = `${percent}%`;
   const whole = lasting(job.total * job.ramps), of = `${Math.floor(percent)} % of ${whole}`;
   const rest = lasting(left * job.ramps * 100 / (s.percent ?? 100));
-  text($('share'), job.refused ? `Ends refused at line ${job.refused.line}` : s.finished ? 'Done' : of);
+  text($('share'), job.refused ? `Ends refused at line ${numbered(s, job.refused.line)}` : s.finished ? 'Done' : of);
   text($('left'), s.finished ? whole : `${job.exact ? '' : 'about '}${rest} left`);
 }
 
@@ -252,6 +278,7 @@ function letGoOfJob() {
   picture.lost = [];
   $('never-cut').hidden = true;
   picture.show(null, app.travel);
+  stock.job();
 }
 
 function showJob(got) {
@@ -264,6 +291,7 @@ function showJob(got) {
   picture.show(app.job, app.travel);
   recovery.job();
   show(app.state);
+  stock.job();
 }
 
 // Lines stand in OUT that no motor carried out, and no block is half-done.
@@ -303,7 +331,7 @@ function goingOn(s, found) {
     ...(found.differs ?? []).map(one => sheet.warning(one, 'bad')),
     s.restore?.length ? sheet.said(`Restore puts back what your lines left in force: ${s.restore.join(', ')}`) : null,
     sheet.warning(spindle, s.spindle ? 'fine' : ''), sheet.lead(program.line(s.line)),
-    sheet.said(`The tool goes on from where it is now: ${point(s.at)}. Look that the way is free.`),
+    sheet.said(`The tool goes on from where it is now: ${place(s.at)} ${unit.name}. Look that the way is free.`),
     sheet.lines(found.lines.slice(1))];
 }
 
@@ -328,6 +356,8 @@ for (const [name, does] of [['hold', hold], ['stop', stop]]) {
   $(name).addEventListener('click', event => { if (event.detail === 0) does(); }); // by the keyboard
 }
 $('off').onclick = () => asks('off');
+$('from').onclick = () => asks('from', { line: program.chosen });
+$('program-space').addEventListener('click', () => { if (app.state) showFrom(app.state); });
 $('rewind').onclick = () => sheet.ask('From line 1?', [sheet.said('The program begins anew at its first line, as if it '
   + 'were loaded again. Nothing moves yet.')], 'From line 1', () => asks('rewind'));
 document.addEventListener('keydown', event => {
@@ -358,7 +388,8 @@ $('typed').addEventListener('submit', async event => {
 for (const name of ['single', 'optional', 'delete']) {
   $(name).onclick = () => asks('switch', { name, on: $(name).getAttribute('aria-checked') !== 'true' });
 }
-$('load').onclick = () => $('file').click();
+$('load').onclick = () => (app.state.jobs ? jobs.open(() => $('file').click()) : $('file').click());
+$('runs').onclick = record;
 $('file').onchange = () => {
   const [file] = $('file').files;
   if (file) load(file, app, asks);
@@ -380,6 +411,7 @@ function look(isFlat) {
 $('view-top').onclick = () => look(true);
 $('view-solid').onclick = () => look(false);
 $('fit').onclick = () => picture.fit();
+$('stock').onclick = () => stock.open();
 
 const tabs = [...document.querySelectorAll('[data-tab]')];
 
@@ -400,6 +432,7 @@ function theme(name) {
   text($('theme'), name === 'light' ? 'Dark' : 'Light');
   picture.recolour();
   sight.recolour();
+  stock.recolour();
 }
 
 $('theme').onclick = () => theme(document.documentElement.dataset.theme === 'light' ? 'dark' : 'light');

@@ -14,6 +14,8 @@ document.addEventListener('keydown', event => {
   if (event.key === 'Enter') touched = event.target;
 }, { capture: true, passive: true });
 window.addEventListener('resize', () => place());
+new MutationObserver(() => place()) // a sheet that opens has buttons of its own
+  .observe($('over'), { attributes: true, attributeFilter: ['hidden'], childList: true });
 
 export function notice(says, kind) {
   const same = [...$('toast').children].some(one => one.textContent === says);

@@ -1,8 +1,9 @@
 // Probing: which routine, where the probe is put before, and by which lengths. What it moves the server says, and asks.
-import { el, typedNumber } from './dom.js';
+import { el } from './dom.js';
 import { get } from './link.js';
 import * as sheet from './sheet.js';
 import { picture } from './touches.js';
+import { entered, follow, nanometres, typedLength, typedNanometres, unit } from './units.js';
 
 const TITLES = { edge: 'Edge', outside: 'Outside corner', inside: 'Inside corner', surface: 'Surface', bore: 'Bore',
   boss: 'Boss', pocket: 'Pocket', web: 'Web' };
@@ -14,7 +15,7 @@ let table = null; // the routines, once they are fetched
 export class Probing {
   constructor(asks) {
     this.asks = asks;
-    this.typed = {}; // lengths that somebody typed, by their names
+    follow(() => { this.typed = {}; }); // lengths that somebody typed, by their names
   }
 
   // The sheet on which a routine is chosen.
@@ -43,26 +44,26 @@ export class Probing {
   }
 
   entry(name, usual, begin) {
-    const value = this.typed[name] ?? (Number(usual) ? String(Number(usual)) : '');
+    const value = this.typed[name] ?? (Number(usual) ? entered(nanometres(usual)) : '');
     this.typed[name] = value;
-    const input = el('input', { value, inputMode: 'decimal', 'aria-label': `${LENGTHS[name]}, in mm` });
+    const input = el('input', { value, inputMode: 'decimal', 'aria-label': `${LENGTHS[name]}, in ${unit.name}` });
     input.addEventListener('input', () => {
       this.typed[name] = input.value;
       this.check(begin);
     });
-    return el('label', { class: 'entry-row' }, LENGTHS[name], input, 'mm');
+    return el('label', { class: 'entry-row' }, LENGTHS[name], input, unit.name);
   }
 
   // A routine begins with lengths alone.
   check(begin) {
     const inputs = [...document.querySelectorAll('#over .routine input')];
-    const isWrong = one => !(Number(typedNumber(one.value) ?? 0) > 0);
+    const isWrong = one => !((typedNanometres(one.value) ?? 0n) > 0n);
     for (const one of inputs) one.classList.toggle('wrong', isWrong(one) && one.value.trim() !== '');
     begin.disabled = inputs.some(isWrong);
   }
 
   begin(routine, ways) {
-    const lengths = Object.fromEntries(Object.keys(routine.lengths).map(name => [name, typedNumber(this.typed[name])]));
+    const lengths = Object.fromEntries(Object.keys(routine.lengths).map(name => [name, typedLength(this.typed[name])]));
     sheet.close();
     this.asks('probe', { routine: routine.name, ways, lengths });
   }

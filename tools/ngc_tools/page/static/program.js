@@ -15,6 +15,9 @@ export class Program {
     this.followed = 0;       // the line that was brought into sight last
     this.touched = -Infinity;
     this.isAsked = false;
+    this.way = [0, 1];       // how many lines lead to a line of a longer program, and the number of that line
+    this.chosen = null;      // the line that somebody touched, by its number in the program
+    this.space.addEventListener('click', event => this.choose(event.target.closest('.row')));
     this.box.addEventListener('scroll', () => this.draw(), { passive: true });
     for (const kind of ['wheel', 'pointerdown', 'touchmove', 'keydown']) {
       this.box.addEventListener(kind, () => { this.touched = performance.now(); }, { passive: true });
@@ -27,6 +30,15 @@ export class Program {
     text($('program-name'), this.lines.length ? `${name || 'The stored program'}, ${counted(this.lines.length, 'line')}`
       : 'No program is stored');
     this.followed = 0;
+    this.chosen = null;
+    this.draw();
+  }
+
+  // A touch on a line chooses it, another one lets it go.
+  choose(row) {
+    const number = Number(row?.dataset.number);
+    if (!number) return;
+    this.chosen = number === this.chosen ? null : number;
     this.draw();
   }
 
@@ -65,6 +77,9 @@ export class Program {
   row(i) {
     const number = i + 1, here = this.isRunning ? 'here' : 'next';
     const kind = number < this.here ? 'past' : number === this.here ? here : '';
-    return el('div', { class: `row ${kind}` }, el('span', {}, String(number)), this.lines[i]);
+    const [way, first] = this.way, named = number > way ? number - way + first - 1 : 0;
+    const chosen = named && named === this.chosen ? 'chosen' : '';
+    return el('div', { class: `row ${kind} ${chosen}`, 'data-number': named },
+      el('span', {}, named ? String(named) : '\u2193'), this.lines[i]);
   }
 }

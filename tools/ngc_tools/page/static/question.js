@@ -50,5 +50,5 @@ function entry(question, content, refuse, canAnswer, answer) {
   const input = el('input', { value, inputMode: 'decimal', disabled: !canAnswer, 'aria-label': 'Answer' });
   const give = sheet.go('Go on', () => answer({ text: typedNumber(input.value) }), canAnswer && value !== '');
   input.addEventListener('input', () => { give.disabled = !canAnswer || typedNumber(input.value) === null; });
-  return { content: [...content, el('div', { class: 'entry' }, input)], buttons: [refuse, give] };
+  return { content: [...content, el('div', { class: 'entry' }, input, ' mm')], buttons: [refuse, give] };
 }

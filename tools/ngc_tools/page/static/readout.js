@@ -1,5 +1,6 @@
 // Where the machine is, what turns and flows, how fast it goes: as the motors have it where a player tells it.
 import { $, AXES, el, grouped, lasting, may, mm, systemName, text } from './dom.js';
+import { follow, nanometres, shown, unit } from './units.js';
 
 const TURNS = ['', '\u21bb', '\u21ba'];
 const INCH_MM = 25.4;
@@ -11,28 +12,19 @@ export class Readout {
     this.spindle = new Override($('spindle-override'), 'Spindle', percent => asks('spindle', { percent }));
     this.axes = AXES.map(axis => this.axis(axis));
     this.gauges = Object.fromEntries(['Feed', 'Spindle', 'Coolant', 'Tool'].map(name => [name, this.gauge(name)]));
-    this.isInch = localStorage.unit === 'in';
     window.addEventListener('resize', () => this.fit());
-  }
-
-  // Chooses the unit of the readout, for this browser.
-  choose(isInch) {
-    this.isInch = isInch;
-    localStorage.unit = this.unit;
-    this.show(...this.shown);
+    follow(() => { if (this.shown) this.show(...this.shown); });
   }
 
   // A length in the unit that is chosen.
-  length(millimetres) { return this.isInch ? mm(millimetres / INCH_MM, 4) : mm(millimetres); }
-
-  get unit() { return this.isInch ? 'in' : 'mm'; }
+  length(millimetres) { return shown(nanometres(millimetres)); }
 
   axis(name) {
     const work = el('output', {}, '\u2013'), at = el('b'), motors = el('b'), atName = el('span', {}, 'machine');
-    const motorsBox = el('span', {}, 'motors ', motors), unit = el('small');
-    $('axes').append(el('div', { class: 'axis' }, el('b', {}, name, unit), work,
+    const motorsBox = el('span', {}, 'motors ', motors), says = el('small');
+    $('axes').append(el('div', { class: 'axis' }, el('b', {}, name, says), work,
       el('div', {}, el('span', {}, atName, ' ', at), motorsBox)));
-    return { work, at, motors, atName, motorsBox, unit };
+    return { work, at, motors, atName, motorsBox, unit: says };
   }
 
   gauge(name) {
@@ -50,7 +42,7 @@ export class Readout {
     this.spindle.show(s.spindle_percent ?? null, s.most_percents[1], may(s, 'spindle'));
     this.showRisk(s);
     const words = [systemName(s.system), `G${s.distance}`, `G${s.unit}`, `G${s.plane}`, `G${s.feed_mode}`];
-    const length = Number(s.tool_length) ? `  length ${this.length(s.tool_length)} ${this.unit}` : '';
+    const length = Number(s.tool_length) ? `  length ${this.length(s.tool_length)} ${unit.name}` : '';
     text($('modes'), words.join(' ') + length);
   }
 
@@ -67,8 +59,8 @@ export class Readout {
 
   showAxis(axis, s, i) {
     const isHalf = s.half !== 'none';
-    text(axis.unit, this.unit);
-    axis.unit.classList.toggle('apart', this.isInch !== (s.unit === 20)); // the program's is another one
+    text(axis.unit, unit.name);
+    axis.unit.classList.toggle('apart', unit.isInch !== (s.unit === 20)); // the program's is another one
     text(axis.work, s.work ? this.length(s.work[i]) : '\u2013');
     text(axis.atName, isHalf ? 'line began at' : 'machine');
     text(axis.at, this.length(isHalf ? s.began_at[i] : s.at[i]));
@@ -80,11 +72,11 @@ export class Readout {
 
   showGauges(s, rate) {
     const { gauges } = this, length = s.tools[s.slot - 1];
-    const feed = millimetres => (this.isInch ? grouped(Number((millimetres / INCH_MM).toFixed(2)))
-      : grouped(Math.round(millimetres))), each = `${this.unit}/min`;
+    const feed = millimetres => (unit.isInch ? grouped(Number((millimetres / INCH_MM).toFixed(2)))
+      : grouped(Math.round(millimetres))), each = `${unit.name}/min`;
     if (rate) fill(gauges.Feed, feed(rate.feed), rate.isTraverse ? `${each} traverse` : each);
     else fill(gauges.Feed, s.feed ? feed(s.feed) : '\u2013', s.feed ? `${each} set` : '', true);
-    fill(gauges.Tool, s.slot ? `T${s.slot}` : 'none', s.slot && length ? `${this.length(length)} ${this.unit}` : '',
+    fill(gauges.Tool, s.slot ? `T${s.slot}` : 'none', s.slot && length ? `${this.length(length)} ${unit.name}` : '',
       !s.slot);
     if (s.player_gone || s.ended) { // nobody asks the player any more
       fill(gauges.Spindle, 'not known', '', true);
@@ -144,7 +136,7 @@ function fill(box, value, small = '', isOff = false) {
 function known(s) {
   if (!s.stale) return '';
   const { why, at } = s.stale, age = at ? `${lasting(1e6 * Math.max(0, s.now - at))} ago` : '';
-  if (why === 'alarm') return 'As counted before the alarm: home tells where it is';
+  if (why === 'alarm') return `As counted before the alarm${age && `, told ${age}`}: home tells where it is`;
   if (s.stale.by_record) return `By the record of the player, \u00b1 ${mm(s.past_mm)} mm; told ${age}`;
   if (why === 'player') return at ? `Last known ${age}` : 'Nobody told where it is';
   return s.motors ? `By the record of the player; the device was written ${age}`

@@ -1,6 +1,8 @@
 // After a loss of power: what was stored, where the machine is, a rehearsal, and then step by step. Nothing moves and
 // nothing is switched before the last step.
-import { AXES, byRecord, counted, el, grouped, lasting, micrometres, mm, point, typedNumber, zeroOf } from './dom.js';
+import {
+  AXES, byRecord, counted, el, grouped, lasting, micrometres, mm, numbered, point, typedNumber, zeroOf,
+} from './dom.js';
 import * as question from './question.js';
 import * as sheet from './sheet.js';
 import { Sight } from './sight.js';
@@ -188,7 +190,8 @@ export class Recovery {
 
   storedWords() {
     const { state } = this.app, found = this.stored;
-    const half = state.half === 'program' ? `line ${state.line} of ${state.program.lines}` : 'a line of one\u2019s own';
+    const [line, last] = [state.line, state.program.lines].map(one => numbered(state, one));
+    const half = state.half === 'program' ? `line ${line} of ${last}` : 'a line of one\u2019s own';
     const way = state.half_opened === 2 ? 'the way back to segment' : 'segment';
     return [sheet.title('Everything that was acknowledged is still there'),
       sheet.lead(state.half_text.trim() || '(no text)'),

@@ -1,67 +1,76 @@
 // Setting up: home, jog, the probe, work zero, touch-off, and what becomes of a job whose page is lost.
-import { $, AXES, el, may, mm, point, systemName, text, typedNumber } from './dom.js';
+import { $, AXES, el, may, systemName, text } from './dom.js';
 import { Jog } from './jog.js';
+import { Keys, whyNoJog } from './keys.js';
+import { Offsets } from './offsets.js';
 import { Probing } from './probing.js';
 import { button } from './sheet.js';
 import { means } from './steady.js';
 import { Switches } from './switches.js';
+import { choose, follow, lengthEntry, nanometres, place, shown, typedLength, typedNanometres, unit, unitName }
+  from './units.js';
 
 const SEEKS = [['X', 1], ['X', -1], ['Y', 1], ['Y', -1], ['Z', -1]];
 const SIGNS = { 1: '+', [-1]: '\u2212' };
 const SEEK_RATE = '60';      // mm a minute
 
 export class Setup {
-  constructor(asks, readout) {
-    Object.assign(this, { asks, readout });
-    this.jog = new Jog(asks);
+  constructor(asks, refuse, calls) {
+    this.asks = asks;
+    this.jog = new Jog(asks, refuse);
+    this.keys = new Keys(this.jog, () => whyNoJog(this.shown, whyNot));
     this.homed = el('span');
     this.home = ['', ...AXES].map(axes => button(axes || 'Home all', () => asks('home', { axes })));
     this.touched = el('span');
     const changed = () => { if (this.shown) this.show(this.shown); };
-    this.within = entry('10', 'How far the probe is sought, in mm', changed);
+    this.within = lengthEntry('10', 'How far the probe is sought', changed);
     this.seeks = SEEKS.map(([axis, sign]) => button(axis + SIGNS[sign], () => this.seek(axis, sign)));
     this.probing = new Probing(asks);
     this.work = button('Probe the work\u2026', () => this.probing.open());
     this.switches = new Switches(asks);
     this.system = el('span');
-    this.value = entry('0', 'Work coordinate of this place, in mm', changed);
+    this.value = lengthEntry('0', 'Work coordinate of this place', changed);
     this.byProbe = toggle('Where the probe was touched', () => { flip(this.byProbe); changed(); });
     this.used = el('p', { class: 'hint' });
     this.zero = [...AXES, 'XY'].map(axes => button(`Set ${axes}`, () => this.sets(axes)));
-    this.height = entry('', 'Machine Z of the setter, in mm', changed);
+    this.height = lengthEntry('', 'Machine Z of the setter', changed);
     this.length = el('p', { class: 'hint' });
-    this.setter = el('label', { class: 'entry-row' }, 'Setter at machine Z', this.height, 'mm');
+    this.setter = el('label', { class: 'entry-row' }, 'Setter at machine Z', this.height, unitName());
     this.touch = button('', () => this.touchOff());
     this.measure = button('', () => asks('measure', {}));
-    this.down = entry('', 'Machine Z from which the setter is sought, in mm', changed);
-    this.deep = entry('', 'By how many mm at most, from there', changed);
+    this.down = lengthEntry('', 'Machine Z from which the setter is sought', changed);
+    this.deep = lengthEntry('', 'How far at most, from there', changed);
     this.keep = button('Keep both heights',
       () => asks('measurefrom', { down: typed(this.down), within: typed(this.deep) }));
     this.from = el('div', { class: 'heights' },
-      el('label', { class: 'entry-row' }, 'Sought from machine Z', this.down, 'mm'),
-      el('label', { class: 'entry-row' }, 'At most, down from there', this.deep, 'mm'), this.keep);
+      el('label', { class: 'entry-row' }, 'Sought from machine Z', this.down, unitName()),
+      el('label', { class: 'entry-row' }, 'At most, down from there', this.deep, unitName()), this.keep);
     this.measures = toggle('Measure at tool changes', () => asks('switch', { name: 'measures',
       on: !isChosen(this.measures) }));
     this.undo = button('', () => asks('undo', {}));
-    this.inches = toggle('Readout in inches', () => { readout.choose(!readout.isInch); this.showUnit(); });
+    this.offsets = new Offsets(asks);
+    this.table = button('Offsets\u2026', () => this.offsets.open());
+    this.inches = toggle('Inches, read and typed', () => choose(!unit.isInch));
     this.loss = toggle('Job goes on if this page is lost', () => asks('loss', { goes: !isChosen(this.loss) }));
-    for (const one of [this.touch, this.undo, this.work, this.measure, this.keep]) one.className = 'wide';
+    for (const one of [this.touch, this.undo, this.table, this.work, this.measure, this.keep]) one.className = 'wide';
     this.why = el('p', { class: 'hint why' });
     this.parts = {
       home: part('Home', this.homed, el('div', { class: 'four' }, ...this.home)),
-      jog: el('section', { class: 'part' }, this.jog.box),
-      zero: part('Work zero', this.system, el('label', { class: 'entry-row' }, 'This place is', this.value, 'mm'),
-        this.byProbe, this.used, el('div', { class: 'four' }, ...this.zero), this.undo),
-      probe: part('Seek the probe', this.touched, el('label', { class: 'entry-row' }, 'At most', this.within, 'mm'),
+      jog: el('section', { class: 'part' }, this.jog.box, ...this.keys.box),
+      zero: part('Work zero', this.system,
+        el('label', { class: 'entry-row' }, 'This place is', this.value, unitName()), this.byProbe, this.used,
+        el('div', { class: 'four' }, ...this.zero), this.undo, this.table),
+      probe: part('Seek the probe', this.touched,
+        el('label', { class: 'entry-row' }, 'At most', this.within, unitName()),
         el('div', { class: 'five' }, ...this.seeks), this.work),
       tool: part('Touch off a tool', null, this.setter, this.length, this.touch,
         this.measure, this.from, this.measures),
       switches: part('Switches', null, ...this.switches.box),
       macros: part('Macros', null, ...this.switches.macros),
-      page: part('This page', null, this.loss, this.inches),
+      page: part('This page', null, this.loss, this.inches, ...calls.box),
     };
     $('tab-setup').append(this.why, ...Object.values(this.parts));
-    this.showUnit();
+    follow(() => this.showUnit());
     this.switches.fetch();
   }
 
@@ -78,15 +87,17 @@ export class Setup {
     this.home.forEach((one, i) => { one.disabled = !may(s, 'home') || !isHome(i); });
     this.jog.told = s.press;
     this.jog.enable(may(s, 'jog'));
+    this.keys.show(s);
     this.within.disabled = !may(s, 'seek');
     for (const one of this.seeks) one.disabled = this.within.disabled || typed(this.within) === null;
     this.work.disabled = !may(s, 'probe');
     this.work.hidden = !s.has_ball;
     for (const one of [this.value, this.byProbe]) one.disabled = !may(s, 'zero');
     for (const one of this.zero) one.disabled = !may(s, 'zero') || typed(this.value) === null;
-    text(this.touched, s.touched ? `touched: ${point(s.touched)} mm` : '');
+    text(this.touched, s.touched ? `touched: ${place(s.touched)} ${unit.name}` : '');
     this.showUsed(s);
     this.showTool(s);
+    this.offsets.show(s);
     this.switches.show(s);
     this.undo.hidden = !s.undo;
     this.undo.disabled = !may(s, 'undo');
@@ -96,7 +107,10 @@ export class Setup {
     this.loss.disabled = !s.yours;
   }
 
-  showUnit() { this.inches.setAttribute('aria-checked', String(this.readout.isInch)); }
+  showUnit() {
+    this.inches.setAttribute('aria-checked', String(unit.isInch));
+    if (this.shown) this.show(this.shown);
+  }
 
   // Which machine point a zero takes. One at which the probe was touched is chosen anew for each touch.
   showUsed(s) {
@@ -104,11 +118,11 @@ export class Setup {
     if (!s.touched || key !== this.seen) this.byProbe.setAttribute('aria-checked', 'false');
     this.seen = key;
     this.byProbe.hidden = !s.touched;
-    const other = this.value.value.trim() ? `${this.value.value.trim()} isn\u2019t a number of mm`
-      : 'Which coordinate is this place to have, in mm?';
+    const other = this.value.value.trim() ? `${this.value.value.trim()} isn\u2019t a number of ${unit.name}`
+      : `Which coordinate is this place to have, in ${unit.name}?`;
     text(this.used, typed(this.value) === null ? other
-      : this.probe() ? `Takes machine ${point(s.touched)} mm, where the probe was touched`
-        : s.known ? `Takes machine ${point(s.at)} mm, where the motors are`
+      : this.probe() ? `Takes machine ${place(s.touched)} ${unit.name}, where the probe was touched`
+        : s.known ? `Takes machine ${place(s.at)} ${unit.name}, where the motors are`
           : 'Where the machine stands isn\u2019t known');
   }
 
@@ -117,7 +131,7 @@ export class Setup {
     this.needsHeight = s.setter === null || s.setter === undefined;
     this.setter.hidden = !this.needsHeight;
     this.height.disabled = !may(s, 'touch');
-    const isHigh = !this.needsHeight || typedNumber(this.height.value) !== null;
+    const isHigh = !this.needsHeight || typedLength(this.height.value) !== null;
     this.touch.disabled = !may(s, 'touch') || !s.slot || !isHigh || s.has_probe && !s.touched;
     text(this.touch, s.slot ? `Tool ${s.slot} stands on the setter` : 'No tool is in the spindle');
     means(this.touch, this.touch.textContent);
@@ -131,9 +145,9 @@ export class Setup {
     for (const one of [this.measure, this.from, this.measures]) one.hidden = !hasSetter;
     for (const one of [this.down, this.deep]) {
       one.disabled = !may(s, 'tool'); // a setting, as a tool's length is
-      one.classList.toggle('wrong', one.value.trim() !== '' && typedNumber(one.value) === null);
+      one.classList.toggle('wrong', one.value.trim() !== '' && typedLength(one.value) === null);
     }
-    this.keep.disabled = !may(s, 'tool') || [this.down, this.deep].some(one => typedNumber(one.value) === null);
+    this.keep.disabled = !may(s, 'tool') || [this.down, this.deep].some(one => typedLength(one.value) === null);
     this.measure.disabled = !may(s, 'measure') || !s.slot;
     text(this.measure, s.slot ? `Measure tool ${s.slot}\u2026` : 'Measure the tool');
     means(this.measure, this.measure.textContent);
@@ -143,28 +157,28 @@ export class Setup {
 
   // The length that a touch-off would give, and by which machine point.
   showLength(s) {
-    const height = Number(this.needsHeight ? typedNumber(this.height.value) ?? NaN : s.setter);
-    const at = s.touched ? s.touched[2] : s.at[2], has = s.tools[s.slot - 1];
+    const height = this.needsHeight ? typedNanometres(this.height.value) : nanometres(s.setter);
+    const at = nanometres(s.touched ? s.touched[2] : s.at[2]), has = s.tools[s.slot - 1];
     const where = s.touched ? 'touched at machine Z' : 'machine Z is';
-    const before = has === undefined ? 'no length yet' : `${mm(has)} by now`;
+    const before = has === undefined ? 'no length yet' : `${shown(nanometres(has))} by now`;
     this.length.hidden = !s.slot;
     text(this.length, s.has_probe && !s.touched
       ? 'The setter wasn\u2019t touched since the last motion: seek it by Z\u2212 first'
-      : Number.isNaN(height) ? 'At which machine Z would a tool of length 0 touch the setter?'
-        : `Length ${mm(at - height)} mm, ${before}: ${where} ${mm(at)}, setter at ${mm(height)}`);
+      : height === null ? 'At which machine Z would a tool of length 0 touch the setter?'
+        : `Length ${shown(at - height)} ${unit.name}, ${before}: ${where} ${shown(at)}, setter at ${shown(height)}`);
   }
 
   seek(axis, sign) {
-    this.asks('seek', { axis, sign, rate: SEEK_RATE, within: typedNumber(this.within.value) });
+    this.asks('seek', { axis, sign, rate: SEEK_RATE, within: typedLength(this.within.value) });
   }
 
   sets(axes) {
-    const value = typedNumber(this.value.value);
+    const value = typedLength(this.value.value);
     this.asks('zero', { axes: Object.fromEntries([...axes].map(axis => [axis, value])), probe: this.probe() });
   }
 
   touchOff() {
-    const height = this.needsHeight ? typedNumber(this.height.value) : undefined;
+    const height = this.needsHeight ? typedLength(this.height.value) : undefined;
     this.asks('touch', { slot: this.slot, height, probe: Boolean(this.shown.touched) });
   }
 
@@ -188,8 +202,6 @@ function part(title, beside, ...content) {
   return el('section', { class: 'part' }, el('h2', {}, title, beside), ...content);
 }
 
-const entry = (value, label, oninput) => el('input', { value, inputMode: 'decimal', 'aria-label': label, oninput });
-
 function toggle(says, does) {
   return el('button', { role: 'switch', 'aria-checked': 'false', class: 'wide switch', onclick: does }, el('i'),
     el('span', {}, says));
@@ -201,7 +213,7 @@ const flip = one => one.setAttribute('aria-checked', String(!isChosen(one)));
 
 // The number of an entry; null, which is shown, if it is none.
 function typed(input) {
-  const number = typedNumber(input.value);
+  const number = typedLength(input.value);
   input.classList.toggle('wrong', number === null);
   return number;
 }

@@ -1,26 +1,27 @@
 // The tool table: a length for each slot, which the device keeps.
-import { $, el, mm, typedNumber } from './dom.js';
+import { $, el } from './dom.js';
+import { entered, nanometres, typedLength, unit } from './units.js';
 
 let shown = '';
 
 export function show(s, isIdle, asks) {
-  const key = JSON.stringify([s.tools, s.slot, isIdle]);
+  const key = JSON.stringify([s.tools, s.slot, isIdle, unit.name]);
   if (key === shown || document.activeElement?.closest?.('#tab-tools input')) return;
   shown = key;
   const lengths = [...s.tools, ''].slice(0, s.most_slots);
   const rows = lengths.map((length, i) => row(i + 1, length, s, isIdle, asks));
   $('tab-tools').replaceChildren(
-    el('p', { class: 'hint' }, 'Lengths in mm. A new length counts from the next G43 on. Slots that are passed over '
-      + 'get 0, as of a tool that isn\u2019t measured.'), ...rows);
+    el('p', { class: 'hint' }, `Lengths in ${unit.name}. A new length counts from the next G43 on. Slots that are `
+      + 'passed over get 0, as of a tool that isn\u2019t measured.'), ...rows);
 }
 
 function row(slot, length, s, isIdle, asks) {
   const isNew = length === '';
-  const input = el('input', { value: isNew ? '' : mm(length).replace('\u2212', '-'), inputMode: 'decimal',
+  const input = el('input', { value: isNew ? '' : entered(nanometres(length)), inputMode: 'decimal',
     disabled: !isIdle, placeholder: isNew ? 'a length' : '', 'aria-label': `Length of tool ${slot}` });
   const number = el('input', { value: String(slot), inputMode: 'numeric', disabled: !isIdle,
     'aria-label': 'Number of a new tool' });
-  const typed = () => [isNew ? slotNumber(number.value, slot, s.most_slots) : slot, typedNumber(input.value)];
+  const typed = () => [isNew ? slotNumber(number.value, slot, s.most_slots) : slot, typedLength(input.value)];
   const give = () => {
     const [own, length] = typed();
     for (const one of [input, number]) one.blur();
@@ -37,7 +38,7 @@ function row(slot, length, s, isIdle, asks) {
   input.addEventListener('keydown', event => { if (event.key === 'Enter' && !button.disabled) give(); });
   check();
   const isIn = s.slot === slot ? 'in' : '';
-  return el('div', { class: `slot ${isIn}` }, isNew ? number : el('b', {}, `T${slot}`), input, button);
+  return el('div', { class: `slot ${isIn}` }, isNew ? number : el('b', {}, `T${slot}`), input, unit.name, button);
 }
 
 // The number of a slot that isn't in the table yet; null for another one.

@@ -1,0 +1,120 @@
+"""A program from one of its lines on, from a page: over a simulated machine, and in a browser."""
+import sys
+import unittest
+from pathlib import Path
+
+sys.path.insert(0, str(Path(__file__).resolve().parent))
+
+import test_page_browser
+from test_page_measure import AtMachine
+
+PART = """G21 G90 G17 G54 G94 G49
+G0 X1 Y1
+S800 M3
+G0 Z4
+G1 Z1 F300
+G1 X6 F1200
+Y5
+X1
+G0 Z4
+M2
+"""
+
+
+class OverMachine(AtMachine):
+    """The machine stands at X9 Y-9 Z2, beside the work."""
+
+    def setUp(self) -> None:
+        """Loads the part, and goes there."""
+        super().setUp()
+        self.seen.post("mdi", {"line": "G0 X9 Y-9 Z2"})
+        self.seen.until("it is there", lambda s: not s["busy"] and s["at"][0] == "9.000000")
+        self.load(self.seen, PART)
+        self.world.forget_reached()
+
+    def to_look(self, lift: str = "8") -> dict:
+        """The state once it is asked to look, from line 7."""
+        self.assertEqual(self.seen.post("from", {"line": 7}), (200, {}))
+        state = self.seen.asked()
+        self.assertIn("Up to which Z, in machine mm, from 2.000000 to 10.000000?", state["question"]["text"])
+        for answer in (lift, "600", ""):
+            self.seen.agree(state, answer)
+            state = self.seen.asked()
+        self.assertEqual((state["question"]["purpose"], state["spindle"]), ("look", 1))
+        self.assertEqual(self.world.place, (9_000, -9_000, 2_000))
+        return state
+
+    def test_goes(self) -> None:
+        """Nothing moves before somebody looked; then up, over and down, and the lines from there on, which keep their
+        numbers. Nothing goes below the line's place, nor over the work lower than was said."""
+        said = self.to_look()
+        self.assertIn("in force there and not now: F1200; S800; M3", self.seen.said())
+        self.assertEqual((said["spindle"], said["program"]["way"][1]), (1, 7))
+        self.assertNotEqual(self.seen.post("answer", {"question": said["question"]["id"], "yes": True})[0], 200)
+        self.seen.agree(said)
+        state = self.seen.until("it is through", lambda s: s["finished"] and not s["busy"])
+        self.assertEqual((self.world.place, state["program"]["way"][1]), ((1_000, 5_000, 4_000), 7))
+        _, least, greatest = self.world.reached
+        self.assertEqual((least, greatest), ((1_000, -9_000, 1_000), (9_000, 5_000, 8_000)))
+        self.seen.until("it is drawn", lambda _: self.seen.job())
+
+    def test_held(self) -> None:
+        """Hold at the look is a no: all goes off, nothing has moved, and Run asks for the way anew."""
+        self.to_look()
+        self.seen.post("hold", {"touch": "a-touch"})
+        state = self.seen.until("it is over", lambda s: not s["busy"] and not s["question"])
+        self.assertEqual((state["spindle"], state["place"], self.world.place), (0, 0, (9_000, -9_000, 2_000)))
+        self.assertFalse(state["finished"])
+        self.assertEqual(self.seen.post("run"), (200, {}))
+        self.assertIn("Up to which Z", self.seen.asked()["question"]["text"])
+
+    def test_power_lost(self) -> None:
+        """Power that is lost at the look: what is stored leads there by the way again, and by no other."""
+        self.to_look()
+        self.pull()
+        self.begin()
+        self.seen = self.page()
+        state = self.seen.rested()
+        self.assertEqual((state["program"]["way"][1], state["motors"]), (7, ["9.000000", "-9.000000", "2.000000"]))
+        self.assertEqual((state["half"], self.world.reached), ("none", (0, (0, 0, 0), (0, 0, 0))))
+
+    def test_refused(self) -> None:
+        """What can't be is said, and words that aren't a line's number aren't taken."""
+        for words in ({}, {"line": "7"}, {"line": -1}, {"line": True}, {"line": 10**9}):
+            self.assertEqual(self.seen.post("from", words)[0], 422, words)
+        self.seen.post("from", {"line": 2})
+        state = self.seen.until("it is refused", lambda s: not s["busy"] and s["word"] == "Refused")
+        self.assertIn("isn't known", state["detail"])
+        self.assertEqual((self.world.place, state["program"]["way"]), ((9_000, -9_000, 2_000), [0, 1]))
+
+
+class InBrowser(test_page_browser.InBrowser):
+    """The player is in this process."""
+
+    def test_goes(self) -> None:
+        """A line is touched, its button leads through the questions to the look, and what runs has its numbers."""
+        browser = self.browser
+        self.load(PART, 10)
+        browser.wait("document.querySelectorAll('#program .row').length > 9")
+        self.assertTrue(browser.js("document.getElementById('from').hidden"))
+        browser.press("Y5", "#program .row")
+        browser.press("From line 7", "#from")
+        for asked, answer in (("Up to which Z", "8"), ("How fast", "600")):
+            browser.wait(f"document.querySelector('#over .asked').textContent.includes('{asked}')")
+            browser.fill("#over .entry input", answer)
+            browser.press("Go on", "#over .go")
+        browser.press("Yes: stores and begins it", "#over .go")
+        browser.wait("document.querySelectorAll('#over .look button').length === 3")
+        self.look("the look")
+        browser.js("document.querySelectorAll('#over .look button').forEach(one => one.click())")
+        browser.press("Yes: goes there", "#over .go")
+        browser.wait("ngc.state.finished && !ngc.state.busy")
+        rows = browser.js("[...document.querySelectorAll('#program .row span')].map(one => one.textContent)")
+        self.assertEqual(rows[-4:], ["7", "8", "9", "10"])
+        self.assertEqual(set(rows[:-4]), {"\u2193"})
+        self.assertEqual(browser.js("document.getElementById('run').textContent"), "Run from 7")
+        self.no_complaints()
+
+
+if __name__ == "__main__":
+    unittest.main()

@@ -1,0 +1,138 @@
+"""The record of runs: what stands in it, that it is only appended to, and a line that a loss of power tore."""
+import os
+import re
+import sys
+import unittest
+from pathlib import Path
+from unittest import mock
+from zlib import crc32
+
+sys.path.insert(0, str(Path(__file__).resolve().parent))
+
+from test_operator import Core, FileLink, RampLink
+
+from ngc_tools.operator.runs import RecordedRun, RunEvent, last_runs, read_lines
+
+RECORD = Path("mill.dev.runs")
+PART = "G21 G90 G17 G54 G94 G49\nG0 X1\nT2 M6\nM0\nG0 X2\nM2\n"
+WHEN = re.compile(r"\d{4}-\d\d-\d\d \d\d:\d\d:\d\d [-+]\d{4} ")
+
+
+class Recorded(Core):
+    """Each line without its time."""
+
+    def lines(self) -> list[str]:
+        """Those of the record; each has its time."""
+        lines = RECORD.read_text().split("\n")
+        self.assertEqual(lines.pop(), "")
+        self.assertTrue(all(map(WHEN.match, lines)), lines)
+        return [re.sub(r"after 0:\d\d", "after 0:NN", WHEN.sub("", line)) for line in lines]
+
+    def begin_with_tools(self) -> None:
+        """Two tools."""
+        self.begin(FileLink())
+        self.do("tool 2 0")
+
+    def test_run(self) -> None:
+        """A run with a stop: when it began and ended, how long it took, what came between, and the tool."""
+        self.begin_with_tools()
+        self.assertEqual(self.do("runs"), ["no run is recorded yet"])
+        self.load(PART)
+        self.do("run", "G0 X1.5", "run", answers=("yes",))
+        self.assertEqual(self.do("runs"), [RECORD.read_text().rstrip("\n")])
+        self.assertEqual(self.lines(), [
+            f"loaded 48 bytes, mark {crc32(PART.encode()):08x}: part.ngc", "began part.ngc", "tool 2 is in",
+            "stopped before line 5", "went on in line 5", "ended, through, after 0:NN, 1 stop"])
+
+    def test_held(self) -> None:
+        """Holds are counted; a line of one's own is none of the program's; another program gives the first one up."""
+        self.begin(RampLink())
+        self.load("G21 G90 G17 G54 G94 G49\nG1 X1 F6000\nX2\nM2\n")
+        self.hold_after(6)
+        self.do("run")
+        self.hold_after(0)
+        self.do("release", "run", "G0 X0")
+        lines = self.lines()
+        self.assertEqual(lines[1], "began part.ngc")
+        self.assertRegex(lines[2], "^held in line [123]$")
+        self.assertRegex(lines[3], "^went on in line [123]$")
+        self.assertEqual(lines[4:], ["ended, through, after 0:NN, 1 hold"])
+        self.do("rewind")
+        self.assertEqual(self.lines(), lines)
+
+    def test_given_up(self) -> None:
+        """A program that is loaded amid another one gives that up; it is left as the session ends."""
+        self.begin_with_tools()
+        self.load(PART)
+        self.do("run", "quit")
+        self.assertEqual(self.lines()[-1], "left in line 5: the session ended")
+        self.end()
+        self.begin(FileLink("1 0 0"))
+        self.load("G21\nM2\n")
+        self.assertEqual([line.partition(",")[0] for line in self.lines()[-2:]], ["given up", "loaded 7 bytes"])
+
+    def test_power_lost(self) -> None:
+        """A run that nobody ended broke off; it goes on by the same name, and the loss is counted."""
+        self.begin_with_tools()
+        self.load(PART)
+        self.do("run")
+        with mock.patch.object(type(self.operator.runs), "rests"):  # power is lost before that
+            self.do("run")
+        before = RECORD.read_bytes()
+        self.cut()
+        self.begin(FileLink("2 0 0"))
+        self.assertTrue(RECORD.read_bytes().startswith(before))
+        self.assertRegex(self.lines()[-1], r"^broke off in line \d: power was lost, or the session ended amid it$")
+        self.assertEqual((self.operator.runs.run.name, self.operator.runs.run.losses), ("part.ngc", 1))
+
+    def test_torn(self) -> None:
+        """A last line that was torn stays as it is, is said, and counts for nothing; the next one stands by itself."""
+        self.begin_with_tools()
+        self.load(PART)
+        self.do("run")
+        self.cut()
+        whole = RECORD.read_bytes()
+        for cut in range(1, 60):
+            with self.subTest(cut):
+                RECORD.write_bytes(whole[:-cut])
+                lines = read_lines(RECORD)
+                is_torn = not whole[:-cut].endswith(b"\n")
+                self.assertEqual(lines[-1].endswith(" (torn)"), is_torn)
+                self.assertEqual(sum(RunEvent.read(line) is not None for line in lines), len(lines) - is_torn)
+        RECORD.write_bytes(whole[:-9])
+        self.begin(FileLink("1 0 0"))
+        self.assertTrue(any("its last line was torn, and doesn't count: 20" in one for one in self.begun), self.begun)
+        text = RECORD.read_bytes()
+        self.assertTrue(text.startswith(whole[:-9] + b" (torn)\n"), text)
+        self.assertTrue(text.endswith(b"broke off in line 5: power was lost, or the session ended amid it\n"))
+
+    def test_not_kept(self) -> None:
+        """A record that can't be written is said once, and the program runs; no link is followed."""
+        Path("elsewhere").write_text("")
+        RECORD.symlink_to("elsewhere")
+        self.begin_with_tools()
+        self.load(PART)
+        self.assertIn("the record of runs isn't kept", "\n".join(text for _, text in self.face.said))
+        self.do("run")
+        self.assertEqual((self.status().does, Path("elsewhere").read_text()), ("stopped", ""))
+
+    def test_last_runs(self) -> None:
+        """Of each program how its last run ended; a name with odd characters is one line."""
+        os.environ["TZ"] = "UTC"
+        said = ["2026-01-02 03:04:05 +0000 loaded 9 bytes, mark 00000001: a.ngc",
+                "2026-01-02 03:05:00 +0000 began a.ngc", "2026-01-02 03:06:00 +0000 ended, through, after 1:00",
+                "2026-01-02 04:00:00 +0000 loaded 9 bytes, mark 00000002: b.ngc", "nonsense",
+                "2026-01-02 04:01:00 +0000 began b.ngc", "2026-13-02 04:01:00 +0000 ended", "2026-01-02 04:02:0 (torn)"]
+        found = {name: what[17:] for name, what in last_runs(said).items()}
+        self.assertEqual(found, {"a.ngc": "ended, through, after 1:00", "b.ngc": "began b.ngc"})
+        run = RecordedRun()
+        for line in said[:3]:
+            run = run.after(RunEvent.read(line))
+        self.assertEqual((run.name, run.is_open), ("a.ngc", False))
+        self.begin(FileLink())
+        self.operator.load("odd\nname\x1b[31m.ngc", b"M2\n")
+        self.assertEqual(self.lines()[-1].partition(": ")[2], r"odd\nname\x1b[31m.ngc")
+
+
+if __name__ == "__main__":
+    unittest.main()
