@@ -34,9 +34,9 @@ NOT_SHOWN = {
 UNREAD_CALLS = {
     "startswith", "endswith", "removeprefix", "removesuffix", "compile", "encode", "decode", "replace", "split", "get",
     "partition", "rpartition", "getattr", "fullmatch", "match", "sub", "search", "console.ask", "_go", "_read", "taken",
-    "give", "tell", "scratch_file", "zip", "open", "add_argument", "new_parser", "import_module", "busy", "Form", "hasattr",
+    "give", "tell", "scratch_file", "zip", "open", "add_argument", "new_parser", "import_module", "busy", "hasattr",
     "_stored", "begins", "_line_done", "enumerate", "forbids", "resolve", "_command", "readlink", "Path", "namedtuple",
-    "add_parser", "add_mutually_exclusive_group", "set_defaults", "post", "head_of", "ask_player", "_asked", "told"}
+    "add_parser", "add_mutually_exclusive_group", "set_defaults", "post", "head_of", "ask_player", "told"}
 """What a string is given to there isn't for people."""
 UNREAD_NAMES = {"ABOUT", "EXAMPLE", "__all__", "_LIMITS_TEXT", "description", "epilog", "help", "metavar", "prog"}
 WORDS = {"stands", "clockwise", "counter-clockwise", "mist", "flood", "held", "moving", "moves", "alarm", "limits",
@@ -304,7 +304,8 @@ _UNREAD = (
     r"(along|straight|legs|jog|@) @ (@ )?(@ )?(feed|within|for|anyway) @", r"(legs|tool) @ @( @)?", r"reference @ anyway",
     r"(load FILE|percent N|from N|tool N LENGTH|macro NAME|units in|touch tool N|probe edge X\+|spindle percent N)",
     r"(jog X\+ 600 for 10|seek Z- 60 within 10|offset G55 X 12.5|home, home X Z|run, start|where, status|resume, abandon)",
-    r"(measures|single|optional|delete) on, off", r"G54 at .*", r"REFUSED line.*",
+    r"(measures|single|optional|delete) on, off", r"(load|mdi|tool|tick|reference) ([A-Z]|LINE|G0 X1|X Y Z|[-\d. ]+)",
+    r"(optional|delete) (on|off)", r"reference player", r"G54 at .*", r"REFUSED line.*",
     # lines of G-code, of files
     r"M0 \(look.*", r"\(ngc: .*", r"ngc begins here", r"angle_deg.*", r"\[T@\]\n.*", r"# The shapes.*",
     r"[TFGS]?@", r"works\|.*", r".*(\[ \\t|\)\?\[).*")

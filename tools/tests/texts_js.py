@@ -13,10 +13,10 @@ UNREAD_KEYS = {"class", "role", "inputMode", "type", "d", "viewBox", "transform"
                "name", "kind", "mode", "method", "behavior", "block", "tag", "key", "what", "how", "spellcheck", "step",
                "translate", "credentials", "passive", "stroke", "fillStyle", "axis", "tip"}
 UNREAD_CALLS = {"$", "querySelector", "querySelectorAll", "closest", "matches", "addEventListener", "setAttribute", "el",
-                "removeEventListener", "getAttribute", "made", "get", "asks", "fetch", "post", "add", "remove", "toggle",
-                "contains", "startsWith", "endsWith", "includes", "split", "join", "replace", "replaceAll", "padStart",
+                "removeEventListener", "getAttribute", "made", "get", "asks", "fetch", "post", "startsWith", "endsWith", "includes", "split", "join", "replace", "replaceAll", "padStart",
                 "getContext", "createElement", "createElementNS", "Worker", "URL", "ask_", "toLocaleString", "request",
                 "hasAttribute", "removeAttribute", "hypot", "tell_", "choose", "getPropertyValue", "deed"}
+UNREAD_METHODS = {"add", "remove", "toggle", "contains", "get", "has", "set", "append_"}
 UNREAD_PROPERTIES = {"className", "href", "src", "type", "font", "fillStyle", "strokeStyle", "textAlign", "method",
                      "textBaseline", "lineCap", "lineJoin", "cursor", "left", "top", "width", "height", "binaryType"}
 WORDS = {"done", "left", "cut", "stands"}
@@ -133,12 +133,13 @@ def _closing(tokens: list, at: int) -> int:
 
 
 def _is_unread(tokens: list, at: int) -> bool:
-    before, before2, after = (_plain(tokens[i]) if 0 <= i < len(tokens) else "" for i in (at - 1, at - 2, at + 1))
+    before3, before2, before, after = (_plain(tokens[i]) if 0 <= i < len(tokens) else ""
+                                       for i in (at - 3, at - 2, at - 1, at + 1))
     if before in ("from", "import", "===", "!==", "case", "in") or after in ("===", "!==", "in"):
         return True
     if before in ("{", ",") and after == ":":
         return True
-    if before == "(" and before2 in UNREAD_CALLS:
+    if before == "(" and (before2 in UNREAD_CALLS or before3 == "." and before2 in UNREAD_METHODS):
         return True
     return before == ":" and before2 in UNREAD_KEYS or before == "=" and before2 in UNREAD_PROPERTIES
 
