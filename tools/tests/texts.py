@@ -1,5 +1,6 @@
 #!/usr/bin/env python3
-"""Finds the texts that page and console show, in the code: `texts.py --write` brings ngc_tools/texts/en.toml up to date.
+"""Finds the texts that page and console show, in the code: `texts.py --write` brings ngc_tools/texts/en.toml up to
+date, puts the other languages into its order, and says what they miss.
 
 In Python those are strings that read as words, in the modules that page and console import; in JavaScript the same, and
 what index.html says. What is put into a string is a place, {1}, {2}; a choice between two strings within one gives two
@@ -14,29 +15,29 @@ from pathlib import Path
 
 sys.path.insert(0, str(Path(__file__).resolve().parent.parent))
 # pylint: disable=wrong-import-position
+from ngc_tools.language import ENGLISH, TEXTS, read
 from ngc_tools.page.words import page_words
 from tests.texts_js import texts_of_script
 
 TOOLS = Path(__file__).resolve().parent.parent / "ngc_tools"
 STATIC = TOOLS / "page" / "static"
-ENGLISH = TOOLS / "texts" / "en.toml"
 PLACE = "\0"
 MOST = 24  # choices within one string
 
 BEGINNINGS = ("cli/operate.py", "cli/page.py")
 NOT_SHOWN = {
     "cli/machine.py", "cli/run.py", "disk/records.py", "files.py", "formats/canonical.py", "formats/machine.py",
-    "formats/out_note.py", "formats/record.py", "job/marks.py", "job/parts_compared.py", "job/picture.py", "job/split.py",
-    "job/svg.py", "job/thumbnail.py", "job/timing.py", "link/machine.py", "ngc/copies.py", "ngc/machine_report.py",
-    "ngc/pacing.py", "ngc/settings_report.py", "ngc/worlds.py", "page/http.py", "page/start_player.py",
-    "page/websocket.py", "scratch.py", "version.py"}
+    "formats/out_note.py", "formats/record.py", "job/marks.py", "job/parts_compared.py", "job/picture.py",
+    "job/split.py", "job/svg.py", "job/thumbnail.py", "job/timing.py", "language.py", "link/machine.py",
+    "ngc/copies.py", "ngc/machine_report.py", "ngc/pacing.py", "ngc/settings_report.py", "ngc/worlds.py",
+    "page/http.py", "page/start_player.py", "page/websocket.py", "scratch.py", "version.py"}
 """Modules of which no person reads a string here, or at the start of a program alone."""
 UNREAD_CALLS = {
     "startswith", "endswith", "removeprefix", "removesuffix", "compile", "encode", "decode", "replace", "split", "get",
     "partition", "rpartition", "getattr", "fullmatch", "match", "sub", "search", "console.ask", "_go", "_read", "taken",
     "give", "tell", "scratch_file", "zip", "open", "add_argument", "new_parser", "import_module", "busy", "hasattr",
-    "_stored", "begins", "_line_done", "enumerate", "forbids", "resolve", "_command", "readlink", "Path", "namedtuple",
-    "add_parser", "add_mutually_exclusive_group", "set_defaults", "post", "head_of", "ask_player", "told"}
+    "_stored", "begins", "_line_done", "enumerate", "forbids", "resolve", "_command", "readlink", "Path", "post",
+    "namedtuple", "head_of", "told", "get_extra_info"}
 """What a string is given to there isn't for people."""
 UNREAD_NAMES = {"ABOUT", "EXAMPLE", "__all__", "_LIMITS_TEXT", "description", "epilog", "help", "metavar", "prog"}
 WORDS = {"stands", "clockwise", "counter-clockwise", "mist", "flood", "held", "moving", "moves", "alarm", "limits",
@@ -226,6 +227,8 @@ def is_text(text: str) -> bool:
 def _texts_of_module(name: str) -> Iterator[str]:
     visitor = PythonTexts()
     visitor.visit(ast.parse((TOOLS / name).read_text()))
+    if name == "operator/commands.py":  # lines of help
+        visitor.found = [line for text in visitor.found for line in text.split("\n")]
     is_page = name.startswith("page/")
     is_core = name.startswith(("operator/", "ngc/", "link/")) and name != "operator/commands.py"
     for text in visitor.found:
@@ -284,6 +287,7 @@ def texts() -> dict[str, list[str]]:
 
 
 def _all() -> Iterator[tuple[str, Iterable[str]]]:
+    yield "language.py", ["and", *ALSO]
     words = _Words()
     words.feed((STATIC / "index.html").read_text())
     yield "page/static/index.html", words.found
@@ -297,18 +301,21 @@ def _all() -> Iterator[tuple[str, Iterable[str]]]:
 _UNREAD = (
     # of the page's own working
     r"ngc", r"(button|input), .*", r"rgb.*", r"translate.*", r"@ (scale|rotate).*", r"(beat|hold|held) @", r"http:.*",
-    r"import sys;.*", r"%Y.*", r"@\.@\..*", r"@:@ (min|mm).*", r"/proc/.*",
+    r"import sys;.*", r"%Y.*", r"@\.@\..*", r"@:@ (min|mm).*", r"/proc/.*", r"texts\?.*", r"script, style",
     # commands, of ngc, the player and the console
     r"(mdi|anyway mdi|refused|tick|reference|single|units|resume|percent|switch|along|measures|jog|zero|touch) @",
-    r"delete on", r"waits spindle", r"ticks \d+", r"restore types: @", r"mdi [GT].*", r"tick \d+", r".*refused [A-Z]\d.*", r"zero X Y Z", r"ngc-.* arc",
-    r"(along|straight|legs|jog|@) @ (@ )?(@ )?(feed|within|for|anyway) @", r"(legs|tool) @ @( @)?", r"reference @ anyway",
+    r"delete on", r"waits spindle", r"ticks \d+", r"restore types: @", r"mdi [GT].*", r"tick \d+", r".*refused [A-Z]\d.*",
+    r"zero X Y Z", r"ngc-.* arc", r"(load|mdi|tool|tick|reference) ([A-Z]|LINE|G0 X1|X Y Z|[-\d. ]+)",
+    r"(along|straight|legs|jog|@) @ (@ )?(@ )?(feed|within|for|anyway) @", r"(legs|tool) @ @( @)?",
+    r"reference (@ anyway|player)", r"(optional|delete) (on|off)", r"(measures|single|optional|delete) on, off",
     r"(load FILE|percent N|from N|tool N LENGTH|macro NAME|units in|touch tool N|probe edge X\+|spindle percent N)",
-    r"(jog X\+ 600 for 10|seek Z- 60 within 10|offset G55 X 12.5|home, home X Z|run, start|where, status|resume, abandon)",
-    r"(measures|single|optional|delete) on, off", r"(load|mdi|tool|tick|reference) ([A-Z]|LINE|G0 X1|X Y Z|[-\d. ]+)",
-    r"(optional|delete) (on|off)", r"reference player", r"G54 at .*", r"REFUSED line.*",
+    r"(jog X\+ 600 for 10|seek Z- 60 within 10|offset G55 X 12.5|home, home X Z|run, start|where, status)",
+    r"resume, abandon", r"G54 at .*", r"REFUSED line.*",
     # lines of G-code, of files
-    r"M0 \(look.*", r"\(ngc: .*", r"ngc begins here", r"angle_deg.*", r"\[T@\]\n.*", r"# The shapes.*",
-    r"[TFGS]?@", r"works\|.*", r".*(\[ \\t|\)\?\[).*")
+    r"M0 \(look.*", r"\(ngc: .*", r"ngc begins here", r"angle_deg.*", r"\[T@\]\n.*", r"# The shapes.*", r"[TFGS]?@",
+    r"works\|.*", r".*(\[ \\t|\)\?\[).*")
+ALSO = (f"{PLACE} hold", f"{PLACE} holds", f"{PLACE} stop", f"{PLACE} stops")
+"""What is put together of strings that are no texts by themselves."""
 NOT_TEXTS = re.compile("|".join(_UNREAD).replace("@", r"\{\d+\}"), re.DOTALL)
 """What isn't for people though it reads so; @ is a place."""
 
@@ -318,23 +325,28 @@ def quoted(text: str) -> str:
     return '"' + text.replace("\\", "\\\\").replace('"', '\\"').replace("\n", "\\n") + '"'
 
 
-def written(found: dict[str, list[str]]) -> str:
-    """The file of texts."""
-    lines = ["# The texts of page and console: each in English, and what is shown for it. A new language begins as a copy",
-             "# of en.toml. {1}, {2} stand for what is put in: a translation has the same ones, in any order."]
-    for name, mine in found.items():
-        lines += ["", f"# {name}", *(f"{quoted(one)} = {quoted(one)}" for one in mine)]
+def written(found: dict[str, list[str]], name: str, said: dict[str, str]) -> str:
+    """The file of a language: its name, and what it says for each text that it has."""
+    lines = ["# The texts of page and console: each in English, and what is shown for it. A new language begins as a",
+             "# copy of en.toml. {1}, {2} stand for what is put in: a translation has the same ones, in any order.",
+             f"name = {quoted(name)}", "", "[texts]"]
+    for module, mine in found.items():
+        lines += ["", f"# {module}", *(f"{quoted(one)} = {quoted(said[one])}" for one in mine if one in said)]
     return "\n".join(lines) + "\n"
 
 
 def main() -> int:
-    """Writes it, or prints it."""
-    text = written(texts())
-    if "--write" in sys.argv[1:]:
-        ENGLISH.parent.mkdir(exist_ok=True)
-        ENGLISH.write_text(text)
-    else:
-        print(text, end="")
+    """Writes en.toml, and the others in its order; or prints it."""
+    found = texts()
+    english = {one: one for mine in found.values() for one in mine}
+    if "--write" not in sys.argv[1:]:
+        print(written(found, "English", english), end="")
+        return 0
+    TEXTS.mkdir(exist_ok=True)
+    for path in {TEXTS / f"{ENGLISH}.toml", *TEXTS.glob("*.toml")}:
+        name, said = ("English", english) if path.stem == ENGLISH else read(path)
+        path.write_text(written(found, name, said), encoding="utf-8")
+        print(*(f"{path.name}: missing: {one}" for one in english if one not in said), sep="\n", end="")
     return 0
 
 

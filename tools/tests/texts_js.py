@@ -9,17 +9,20 @@ _TOKEN = re.compile(r"""//[^\n]*|/\*.*?\*/|\s+|'(?:[^'\\\n]|\\.)*'|"(?:[^"\\\n]|
                     r"""|===|!==|=>|&&|\|\||\?\?|\?\.|\.\.\.|[-+*/%&|^!<>=]=|.""", re.DOTALL)
 _REGEX = re.compile(r"/(?:[^/\\\n\[]|\\.|\[(?:[^\]\\\n]|\\.)*\])+/[a-z]*")
 _BEFORE_REGEX = set("(,=:[!&|?{};+-*%<>") | {"return", "=>", "&&", "||", "===", "!==", "??"}
-UNREAD_KEYS = {"class", "role", "inputMode", "type", "d", "viewBox", "transform", "id", "fill", "autocomplete", "colour",
-               "name", "kind", "mode", "method", "behavior", "block", "tag", "key", "what", "how", "spellcheck", "step",
-               "translate", "credentials", "passive", "stroke", "fillStyle", "axis", "tip"}
-UNREAD_CALLS = {"$", "querySelector", "querySelectorAll", "closest", "matches", "addEventListener", "setAttribute", "el",
-                "removeEventListener", "getAttribute", "made", "get", "asks", "fetch", "post", "startsWith", "endsWith", "includes", "split", "join", "replace", "replaceAll", "padStart",
-                "getContext", "createElement", "createElementNS", "Worker", "URL", "ask_", "toLocaleString", "request",
-                "hasAttribute", "removeAttribute", "hypot", "tell_", "choose", "getPropertyValue", "deed"}
-UNREAD_METHODS = {"add", "remove", "toggle", "contains", "get", "has", "set", "append_"}
-UNREAD_PROPERTIES = {"className", "href", "src", "type", "font", "fillStyle", "strokeStyle", "textAlign", "method",
-                     "textBaseline", "lineCap", "lineJoin", "cursor", "left", "top", "width", "height", "binaryType"}
-WORDS = {"done", "left", "cut", "stands"}
+UNREAD_KEYS = {
+    "class", "role", "inputMode", "type", "d", "viewBox", "transform", "id", "fill", "autocomplete", "colour", "name", "kind",
+    "mode", "method", "tag", "key", "what", "how", "spellcheck", "step", "translate", "passive", "stroke", "axis", "tip"}
+UNREAD_CALLS = {
+    "$", "querySelector", "querySelectorAll", "closest", "matches", "addEventListener", "setAttribute", "el", "made", "get",
+    "removeEventListener", "getAttribute", "asks", "fetch", "post", "startsWith", "endsWith", "includes", "split", "join",
+    "replace", "replaceAll", "padStart", "getContext", "createElement", "createElementNS", "Worker", "URL", "request",
+    "toLocaleString", "hasAttribute", "removeAttribute", "getPropertyValue"}
+UNREAD_METHODS = {"add", "remove", "toggle", "contains", "get", "has", "set"}
+UNREAD_PROPERTIES = {
+    "className", "href", "src", "type", "font", "fillStyle", "strokeStyle", "textAlign", "method", "textBaseline", "lineCap",
+    "lineJoin", "cursor", "left", "top", "width", "height", "binaryType", "TYPED"}
+WORDS = {"done", "left", "cut", "stands", "machine", "motors", "none", "off", "less", "more", "spindle", "coolant",
+         "mist", "flood"}
 _WORD = re.compile(r"[A-Za-z][a-z'\u2019-]+")
 _CODE = re.compile(r"^[.#\[]|^\W*$|\d(px|em|vh)\b|^[a-z]+\[|[<>]|^M\d|^\w+\?\w+=|var\(--|^--")
 

@@ -10,6 +10,7 @@ from importlib import import_module
 from ngc_tools.cli import line_times
 from ngc_tools.cli.run import add_ngc, new_parser, run
 from ngc_tools.failure import Failure, WrongWords
+from ngc_tools.language import Language, language, names, of_environment
 from ngc_tools.ngc.before_start import CannotBegin, look
 from ngc_tools.ngc.console import Console, Ended
 from ngc_tools.ngc.machine_report import Motion
@@ -56,6 +57,9 @@ def make_parser() -> argparse.ArgumentParser:
     parser.add_argument("--machine", metavar="FILE",
                         help="the machine's file: with its table [motion] times are those with ramps; `touch` takes"
                         " height_um of its table [setter]")
+    parser.add_argument("--language", choices=names(),
+                        help="what it speaks; without it what LC_ALL, LC_MESSAGES or LANG names, else English. What is"
+                        " typed is the same in each")
     add_ngc(parser)
     return parser
 
@@ -81,6 +85,25 @@ def main(arguments: list[str] | None = None) -> int:
 def work(args: argparse.Namespace) -> int:
     """Looks at what is given, and does the session. Raises WrongWords, CannotBegin, NoAnswer, BadSettings, BadMachine,
     ValueError, OSError."""
+    spoken = language(args.language or of_environment())
+    try:
+        return _work(args, spoken)
+    except WrongWords as error:
+        raise WrongWords(spoken.say(str(error))) from None
+    except Failure as error:
+        raise Told(spoken.say(error.said()), error.exit_status) from None
+
+
+class Told(Failure):
+    """A failure in the words in which it is told."""
+
+    def __init__(self, text: str, status: int) -> None:
+        super().__init__(text)
+        self.exit_status = status
+
+
+def _work(args: argparse.Namespace, spoken: Language) -> int:
+    """The same in a language. Raises Failure, ValueError, OSError."""
     check_ahead(args)
     ngc = find_ngc(args.ngc)
     setter = Setter.read(args.machine) if args.machine else Setter()
@@ -89,7 +112,7 @@ def work(args: argparse.Namespace) -> int:
     look_at_settings(ngc, args.settings)
     args.machine = with_motion(ngc, args)
     try:
-        return session(ngc, args, meter, pipe, setter)
+        return session(ngc, args, meter, pipe, setter, spoken)
     except Ended as ended:
         raise Failure(told(ended)) from None
 
@@ -157,12 +180,13 @@ def metered_by(meter: Meter, report: Report) -> str:
             f" {meter.limit(report):,} and never more than {meter.most or LIMITS[-1]:,}, {costs}")
 
 
-def session(ngc: str, args: argparse.Namespace, meter: Meter | None, pipe: int | None, setter: Setter) -> int:
+def session(ngc: str, args: argparse.Namespace, meter: Meter | None, pipe: int | None, setter: Setter,
+            spoken: Language) -> int:
     """From the start of `ngc` to its end. Raises Ended if it ends by itself."""
     found = as_found(args.device)
     link = meter.link if meter else None
     out = OutFound.of(ngc, args.settings, link, found) if isinstance(link, SyncedLink) else None
-    with closing(Screen()) as screen, ExitStack() as stack:
+    with closing(Screen(spoken)) as screen, ExitStack() as stack:
         console = Console(ngc, args.device, args.settings, args.out, Patience(screen))
         try:
             console.status()
@@ -188,7 +212,7 @@ def session(ngc: str, args: argparse.Namespace, meter: Meter | None, pipe: int |
     if status:
         cause = f"ngc ended with status {status}: the device or OUT failed in this session"
     if cause:
-        print(f"ngc-operate: {cause}", file=sys.stderr)
+        print(f"ngc-operate: {spoken.say(cause)}", file=sys.stderr)
     return 2 if cause else 0
 
 

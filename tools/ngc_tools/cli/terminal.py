@@ -7,12 +7,14 @@ import sys
 import textwrap
 import time
 from contextlib import AbstractContextManager
+from dataclasses import replace
 from types import FrameType
 
 from ngc_tools.formats.text import shown
 from ngc_tools.cli.keys import TerminalKeys, terminal_keys
 from ngc_tools.cli.typed_lines import TypedLines
-from ngc_tools.operator.face import SAID, WARNING, UnderWay, is_aside, is_override
+from ngc_tools.language import Language
+from ngc_tools.operator.face import MESSAGE, SAID, WARNING, UnderWay, is_aside, is_override
 from ngc_tools.link.progress import Report
 
 _ENDING = (signal.SIGTERM, signal.SIGHUP)
@@ -24,10 +26,12 @@ class AskedToEnd(Exception):
 
 class Screen:
     """A face: standard input and output. The live line is shown on a terminal that can clear one. `ending` says why the
-    session has to end, if it has to: from then on nothing is asked and nothing is shown."""
+    session has to end, if it has to: from then on nothing is asked and nothing is shown. What is said and asked is said
+    in the language of the screen; what is typed stays as it is."""
 
-    def __init__(self) -> None:
+    def __init__(self, language: Language | None = None) -> None:
         """Takes the signals, until `close`."""
+        self.language = language or Language()
         self.is_terminal = sys.stdin.isatty() and sys.stdout.isatty()
         self.can_clear = self.is_terminal and os.environ.get("TERM", "dumb") != "dumb"
         self.asked_to_hold = 0
@@ -48,9 +52,11 @@ class Screen:
         for number, handler in self._before.items():
             signal.signal(number, handler)
 
-    def say(self, text: str, kind: str = SAID) -> None:  # of each kind alike
-        """Shows lines; at a terminal none is longer than it is wide."""
+    def say(self, text: str, kind: str = SAID) -> None:
+        """Shows lines; at a terminal none is longer than it is wide. A message of the program stays as it is."""
         self._clear()
+        head, colon, message = text.partition(": ") if kind == MESSAGE else (text, "", "")
+        text = self.language.say(head) + colon + message
         width = _width() if self.is_terminal else 0
         self._print("\n".join(_wrapped(shown(line), width) for line in text.split("\n")) + "\n")
 
@@ -66,9 +72,13 @@ class Screen:
             self._clear()
         elif self.can_clear and time.monotonic() > self._shown + 0.1:
             width = max(20, (_width() or shutil.get_terminal_size().columns) - 1)
-            self._print("\r\033[K" + shown(view.fitted(width)))
+            self._print("\r\033[K" + shown(self._translated(view).fitted(width)))
             self._live = True
             self._shown = time.monotonic()
+
+    def _translated(self, view: UnderWay) -> UnderWay:
+        say = self.language.say
+        return replace(view, line=say(view.line), more=tuple(map(say, view.more)), motion=tuple(map(say, view.motion)))
 
     def moved(self, report: Report) -> None:
         """A terminal shows where the motors are with what is under way."""
@@ -95,6 +105,7 @@ class Screen:
         if self.ending:
             raise AskedToEnd(self.ending)
         width = _width() if self.is_terminal else 0
+        text = self.language.say(text)
         whole = (_wrapped(line, width) for line in text.rstrip(" ").split("\n"))
         *lines, last = "\n".join(whole).split("\n")
         self._print("".join(line + "\n" for line in lines))

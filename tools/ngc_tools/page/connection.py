@@ -117,6 +117,8 @@ class Connection:
             return packed(shapes_told(self.server.session.shapes)), _JSON
         if name == "routines":
             return packed(routines()), _JSON
+        if name == "texts":
+            return self.server.texts.answer(path), _JSON
         return self.server.static(name)
 
     async def _posted(self, request: Request, path: str, body: bytes) -> bytes:

@@ -28,6 +28,7 @@ from ngc_tools.page.http import MOST_HEAD, RequestRefused, Request
 from ngc_tools.page.pages import LOOK_S, LOST_S, MOST, Pages, Stamp
 from ngc_tools.page.session import PageSession, Unwanted
 from ngc_tools.page.state import state_of
+from ngc_tools.page.texts import Texts
 
 STATIC = Path(__file__).resolve().parent / "static"
 MOST_CONNECTIONS = 64
@@ -53,6 +54,7 @@ class Server:
         self._origins = set(addresses)
         self._static = {str(path.relative_to(STATIC)): (path.read_bytes(), _KINDS[path.suffix])
                         for path in sorted(STATIC.rglob("*")) if path.suffix in _KINDS}
+        self.texts = Texts()
         self._checked: dict[str, tuple[str, bytes]] = {}
         self._all: dict[asyncio.Task, Connection] = {}
         self._count = 0

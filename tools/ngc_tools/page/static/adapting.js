@@ -18,7 +18,8 @@ export function changed({ changes, count, whole, warnings }) {
     ...whole.map(sheet.said),
     ...changes.map(one => el('div', { class: 'finding change' },
       el('h3', {}, `Line ${one.line}  `, el('span', {}, one.why)),
-      el('pre', {}, el('del', {}, `\u2212 ${one.before}`), '\n', el('ins', {}, `+ ${one.after}`)))),
+      el('pre', { translate: 'no' }, el('del', { translate: 'no' }, `\u2212 ${one.before}`), '\n',
+        el('ins', { translate: 'no' }, `+ ${one.after}`)))),
     count > changes.length ? sheet.soft(`and ${counted(count - changes.length, 'more line')}`) : null,
   ].filter(Boolean);
 }

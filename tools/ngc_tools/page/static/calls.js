@@ -1,6 +1,7 @@
 // Calls somebody who isn't at the page: the browser's own notification at a stop, a tool change, the end and a failure,
 // once it was asked for; and a screen that stays on while a job runs.
 import { el, text } from './dom.js';
+import { say } from './language.js';
 
 const SAYS = { granted: 'This browser tells you of stops, tool changes and the end',
   denied: 'This browser doesn\u2019t tell you of stops: its settings for this page forbid it' };
@@ -32,7 +33,8 @@ export class Calls {
   show(s) {
     this.keepOn(s.tone === 'run' || s.waits);
     const isWanted = s.tone === 'ask' || s.tone === 'fail' || s.finished && !s.busy;
-    const said = s.finished ? ['The job is done', s.program.name] : [s.word, s.detail];
+    const said = s.finished ? [say('The job is done'), s.program.name]
+      : [say(s.word), s.detail === s.message ? s.message : say(s.detail)];
     if (this.ran && isWanted) this.tell(...said);
     this.ran = s.tone === 'run' && !s.does_move || this.ran && !isWanted && s.busy;
   }

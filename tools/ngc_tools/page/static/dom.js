@@ -1,24 +1,32 @@
-// Elements, and numbers as people read them. All text becomes text: nothing that a program says is read as HTML.
+// Elements, and numbers as people read them. All text becomes text: nothing that a program says is read as HTML. What
+// is said is said in the language of the page, but in elements with translate: 'no', which have what people wrote.
+import { attribute, put, words } from './language.js';
+
 export const $ = id => document.getElementById(id);
 
 const SYSTEMS = ['G54', 'G55', 'G56', 'G57', 'G58', 'G59', 'G59.1', 'G59.2', 'G59.3'];
 export const AXES = ['X', 'Y', 'Z'];
 
+const READ = ['aria-label', 'title', 'placeholder']; // attributes that people read
+
 // Makes an element. `props` are its properties, and attributes where it has no such property.
 export function el(tag, props = {}, ...children) {
-  const made = document.createElement(tag);
+  const made = document.createElement(tag), isOwn = props.translate === 'no';
   for (const [name, value] of Object.entries(props)) {
     if (name === 'class') made.className = value;
-    else if (name in made) made[name] = value;
+    else if (READ.includes(name) && !isOwn) attribute(made, name, value);
+    else if (name in made && name !== 'translate') made[name] = value;
     else made.setAttribute(name, value);
   }
-  made.append(...children.filter(child => child !== null && child !== undefined && child !== ''));
+  const shown = child => (typeof child === 'string' && !isOwn ? words(child) : child);
+  made.append(...children.filter(child => child !== null && child !== undefined && child !== '').map(shown));
   return made;
 }
 
-export function text(node, value) {
-  if (node.textContent !== value) node.textContent = value;
-}
+// What is a person's own: it stays as it was written.
+export const own = (...written) => el('span', { translate: 'no' }, ...written);
+
+export const text = put;
 
 export const grouped = number => Number(number).toLocaleString('en');
 

@@ -53,7 +53,7 @@ export class Jobs {
 
   row(job) {
     const picture = el('img', { alt: '' }), facts = el('small'), more = el('small');
-    const words = el('span', {}, el('b', {}, job.name), facts, more);
+    const words = el('span', {}, el('b', { translate: 'no' }, job.name), facts, more);
     return { row: el('button', { onclick: () => this.take(job) }, picture, words), picture, facts, more };
   }
 

@@ -1,7 +1,7 @@
 // Jogging by keys, by a wheel that sends keys, and by a gamepad, once a switch turns them on. It is off as the page is
 // loaded, and goes off by itself: after a minute without a key, in a window that isn't in front, and where keys mean
 // something else, as in an entry. One axis moves at a time, for as long as its key is down; any other key ends that.
-import { $, el, may } from './dom.js';
+import { $, el, may, text } from './dom.js';
 import { notice } from './notice.js';
 import { Pad } from './pad.js';
 
@@ -54,8 +54,8 @@ export class Keys {
 
   says() {
     this.hint.hidden = !this.isOn;
-    this.hint.textContent = 'Arrows: X Y. Page up, down: Z. A wheel by + and \u2212: a step along '
-      + `${this.axis}; x, y, z choose. Gamepad: while a shoulder button is held`;
+    text(this.hint, 'Arrows: X Y. Page up, down: Z. A wheel by + and \u2212: a step along '
+      + `${this.axis}; x, y, z choose. Gamepad: while a shoulder button is held`);
   }
 
   // What stands now: another page may have taken over.

@@ -1,7 +1,7 @@
 // A program is looked at before it is loaded: where it goes, which is drawn first, what ngc refuses, with carets, and
 // what is dangerous.
 import { changed, needed } from './adapting.js';
-import { counted, el, grouped, micrometres, text, zeroOf } from './dom.js';
+import { counted, el, grouped, micrometres, own, text, zeroOf } from './dom.js';
 import { Job } from './job.js';
 import { drawChecked, post, upload } from './link.js';
 import * as sheet from './sheet.js';
@@ -36,7 +36,7 @@ export async function load(file, app, asks, answers = {}) {
     parts.words.replaceChildren(sheet.warning(error.message, 'bad'));
   }
   wait.end();
-  back.textContent = 'Back';
+  text(back, 'Back');
 }
 
 // How far the check is, asked for again and again.
@@ -100,15 +100,16 @@ function verdict({ refusals, warnings, more, unreadable, adapted }) {
 }
 
 function refusal(one) {
-  return el('div', { class: 'finding' }, el('h3', {}, `Line ${one.line}  `, el('span', {}, `${one.code} ${one.name}`)),
-    one.text.trim() ? el('pre', {}, one.text, '\n', el('b', {}, one.carets)) : null,
+  const name = own(`${one.code} ${one.name}`), carets = el('b', { translate: 'no' }, one.carets);
+  return el('div', { class: 'finding' }, el('h3', {}, `Line ${one.line}  `, name),
+    one.text.trim() ? el('pre', { translate: 'no' }, one.text, '\n', carets) : null,
     el('p', {}, one.cause), one.cure ? el('p', {}, `Mend: ${one.cure}.`) : null);
 }
 
 function warning(one) {
   const where = one.line ? `Line ${one.line}  ` : '';
   return el('div', { class: 'finding mild' }, el('h3', {}, where, el('span', {}, 'Warning')),
-    one.text.trim() ? el('pre', {}, one.text) : null, el('p', {}, one.what));
+    one.text.trim() ? el('pre', { translate: 'no' }, one.text) : null, el('p', {}, one.what));
 }
 
 function loading(found, asks) {

@@ -1,5 +1,5 @@
 // What was said, newest first. What is refused and what is warned of is shown where the finger was too.
-import { $, clock, el } from './dom.js';
+import { $, clock, el, own } from './dom.js';
 import { notice } from './notice.js';
 
 const MOST = 400;
@@ -23,7 +23,7 @@ export class Log {
   }
 
   add(kind, says, at = new Date()) {
-    $('log').prepend(el('li', { class: kind }, el('time', {}, clock(at)), says));
+    $('log').prepend(el('li', { class: kind }, el('time', {}, clock(at)), ...parts(kind, says)));
     if ($('log').children.length > MOST) $('log').lastChild.remove();
     if (kind !== 'refused' || !$('tab-log').hidden) return;
     document.querySelector('[data-tab=log]').classList.add('news');
@@ -39,4 +39,10 @@ export class Log {
     this.add('refused', says);
     notice(says, 'refused');
   }
+}
+
+// A message of the program is somebody's own words.
+function parts(kind, says) {
+  const at = kind === 'message' ? says.indexOf(': ') + 2 : 0;
+  return at > 1 ? [says.slice(0, at), own(says.slice(at))] : [says];
 }

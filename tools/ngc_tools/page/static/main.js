@@ -1,9 +1,10 @@
 // The page: what the server says is shown, what people touch is asked. It decides nothing.
 import { Alarm, isThere } from './alarm.js';
-import { $, byRecord, el, grouped, lasting, may, micrometres, mm, numbered, text, zeroOf } from './dom.js';
+import { $, byRecord, el, grouped, lasting, may, micrometres, mm, numbered, own, text, zeroOf } from './dom.js';
 import { Calls } from './calls.js';
 import { Job, TRAVERSE } from './job.js';
 import { Jobs, record } from './jobs.js';
+import { say } from './language.js';
 import { connect, get, hold as asksHold, post } from './link.js';
 import { load } from './loader.js';
 import { Log } from './log.js';
@@ -102,8 +103,9 @@ function noticed(s) {
 function showWords(s) {
   document.body.dataset.tone = s.tone;
   text($('word'), s.word);
+  $('detail').translate = !s.message || s.detail !== s.message; // else it is the program's own
   text($('detail'), s.word === 'Question' ? question.short(s.question) : s.detail);
-  document.title = `${s.word} \u2013 ngc`;
+  document.title = `${say(s.word)} \u2013 ngc`;
   document.body.classList.toggle('blind', Boolean(s.stale));
   const others = s.pages - 1;
   const watched = others > 0 ? `${others} more page${others > 1 ? 's' : ''}` : '';
@@ -330,7 +332,7 @@ function goingOn(s, found) {
     found.refused && sheet.warning(found.refused, 'bad'),
     ...(found.differs ?? []).map(one => sheet.warning(one, 'bad')),
     s.restore?.length ? sheet.said(`Restore puts back what your lines left in force: ${s.restore.join(', ')}`) : null,
-    sheet.warning(spindle, s.spindle ? 'fine' : ''), sheet.lead(program.line(s.line)),
+    sheet.warning(spindle, s.spindle ? 'fine' : ''), sheet.lead(own(program.line(s.line))),
     sheet.said(`The tool goes on from where it is now: ${place(s.at)} ${unit.name}. Look that the way is free.`),
     sheet.lines(found.lines.slice(1))];
 }

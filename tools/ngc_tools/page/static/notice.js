@@ -1,5 +1,6 @@
 // What is refused, and what is warned of, is shown where the finger was, until the next touch; Log has it too.
 import { $, el } from './dom.js';
+import { say } from './language.js';
 
 const SEEN_MS = 30000, LEAST_MS = 700, GAP_PX = 8;
 let touched = null;      // what the finger was on last
@@ -18,7 +19,7 @@ new MutationObserver(() => place()) // a sheet that opens has buttons of its own
   .observe($('over'), { attributes: true, attributeFilter: ['hidden'], childList: true });
 
 export function notice(says, kind) {
-  const same = [...$('toast').children].some(one => one.textContent === says);
+  const same = [...$('toast').children].some(one => one.textContent === say(says));
   if (!same) $('toast').append(el('p', { class: kind }, says));
   if ($('toast').children.length > 3) $('toast').firstChild.remove();
   $('toast').hidden = false;

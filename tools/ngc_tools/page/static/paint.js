@@ -1,3 +1,5 @@
+import { say } from './language.js';
+
 // What a picture is painted with: lines of points by the map of a view, a grid, marks, labels. `g` is a context of a
 // canvas, `m` the map of a view, `colours` the page's.
 export function place(m, x, y, z) {
@@ -71,8 +73,8 @@ export function cross(g, x, y) {
 }
 
 // A label beside a mark, within the picture.
-export function label(g, says, x, y, colours, ink, width, em) {
-  const wide = g.measureText(says).width + 12, left = x + 14 + wide > width ? x - 14 - wide : x + 14;
+export function label(g, text, x, y, colours, ink, width, em) {
+  const says = say(text), wide = g.measureText(says).width + 12, left = x + 14 + wide > width ? x - 14 - wide : x + 14;
   g.globalAlpha = 0.88;
   g.fillStyle = colours.panel;
   g.fillRect(left, y + em * 0.9, wide, em * 1.6);

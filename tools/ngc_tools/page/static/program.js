@@ -79,7 +79,7 @@ export class Program {
     const kind = number < this.here ? 'past' : number === this.here ? here : '';
     const [way, first] = this.way, named = number > way ? number - way + first - 1 : 0;
     const chosen = named && named === this.chosen ? 'chosen' : '';
-    return el('div', { class: `row ${kind} ${chosen}`, 'data-number': named },
+    return el('div', { class: `row ${kind} ${chosen}`, translate: 'no', 'data-number': named },
       el('span', {}, named ? String(named) : '\u2193'), this.lines[i]);
   }
 }

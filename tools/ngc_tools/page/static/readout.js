@@ -1,5 +1,6 @@
 // Where the machine is, what turns and flows, how fast it goes: as the motors have it where a player tells it.
 import { $, AXES, el, grouped, lasting, may, mm, systemName, text } from './dom.js';
+import { words } from './language.js';
 import { follow, nanometres, shown, unit } from './units.js';
 
 const TURNS = ['', '\u21bb', '\u21ba'];
@@ -41,9 +42,9 @@ export class Readout {
     this.feed.show(s.has_percent ? s.percent : null, s.most_percents[0], may(s, 'percent'));
     this.spindle.show(s.spindle_percent ?? null, s.most_percents[1], may(s, 'spindle'));
     this.showRisk(s);
-    const words = [systemName(s.system), `G${s.distance}`, `G${s.unit}`, `G${s.plane}`, `G${s.feed_mode}`];
+    const modes = [systemName(s.system), `G${s.distance}`, `G${s.unit}`, `G${s.plane}`, `G${s.feed_mode}`];
     const length = Number(s.tool_length) ? `  length ${this.length(s.tool_length)} ${unit.name}` : '';
-    text($('modes'), words.join(' ') + length);
+    text($('modes'), modes.join(' ') + length);
   }
 
   // Makes the numbers as large as the longest lets them be, all three alike.
@@ -129,7 +130,7 @@ function fill(box, value, small = '', isOff = false) {
   if (box.dataset.key === key) return;
   box.dataset.key = key;
   box.className = isOff ? 'off' : '';
-  box.replaceChildren(value, small && el('small', {}, small));
+  box.replaceChildren(words(value), small && el('small', {}, small));
 }
 
 // Of a place that isn't known any more, since when, and by whom it was told.

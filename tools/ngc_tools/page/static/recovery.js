@@ -1,7 +1,8 @@
 // After a loss of power: what was stored, where the machine is, a rehearsal, and then step by step. Nothing moves and
 // nothing is switched before the last step.
 import {
-  AXES, byRecord, counted, el, grouped, lasting, micrometres, mm, numbered, point, typedNumber, zeroOf,
+  AXES, byRecord, counted, el, grouped, lasting, micrometres, mm, numbered, own, point, text,
+  typedNumber, zeroOf,
 } from './dom.js';
 import * as question from './question.js';
 import * as sheet from './sheet.js';
@@ -194,7 +195,7 @@ export class Recovery {
     const half = state.half === 'program' ? `line ${line} of ${last}` : 'a line of one\u2019s own';
     const way = state.half_opened === 2 ? 'the way back to segment' : 'segment';
     return [sheet.title('Everything that was acknowledged is still there'),
-      sheet.lead(state.half_text.trim() || '(no text)'),
+      sheet.lead(state.half_text.trim() ? own(state.half_text.trim()) : '(no text)'),
       sheet.facts([['Stored', `${grouped(state.entries)} entries: each is there`], ['Half-done', half],
         ['Under way', `${way} ${state.segment} of that line, counted from 0`],
         ['It begins at', found?.begins?.length && sheet.code(point(found.begins))], ['Was on there', found?.comes_on],
@@ -241,7 +242,7 @@ export class Recovery {
     const set = isSure => {
       this.sure[i] = isSure && typedNumber(input.value) !== null;
       button.setAttribute('aria-pressed', String(this.sure[i]));
-      button.textContent = `${this.sure[i] ? '\u2713 There' : 'Confirm'}${off()}`;
+      text(button, `${this.sure[i] ? '\u2713 There' : 'Confirm'}${off()}`);
       changed();
     };
     button.onclick = () => set(!this.sure[i]);
@@ -334,7 +335,7 @@ export class Recovery {
   giveUp() {
     const button = sheet.button('Give up', () => {
       button.onclick = () => this.abandon();
-      button.textContent = 'Yes, give it up';
+      text(button, 'Yes, give it up');
       button.className = 'danger';
     }, this.app.state.yours);
     return button;

@@ -2,6 +2,7 @@
 import { $, AXES, el, may, systemName, text } from './dom.js';
 import { Jog } from './jog.js';
 import { Keys, whyNoJog } from './keys.js';
+import { languageChoice } from './language_choice.js';
 import { Offsets } from './offsets.js';
 import { Probing } from './probing.js';
 import { button } from './sheet.js';
@@ -67,7 +68,7 @@ export class Setup {
         this.measure, this.from, this.measures),
       switches: part('Switches', null, ...this.switches.box),
       macros: part('Macros', null, ...this.switches.macros),
-      page: part('This page', null, this.loss, this.inches, ...calls.box),
+      page: part('This page', null, this.loss, this.inches, languageChoice(), ...calls.box),
     };
     $('tab-setup').append(this.why, ...Object.values(this.parts));
     follow(() => this.showUnit());

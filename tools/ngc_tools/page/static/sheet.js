@@ -60,7 +60,7 @@ export const warning = (says, kind = '') => el('div', { class: `warn ${kind}` },
 export const facts = pairs => el('dl', { class: 'facts' },
   ...pairs.filter(([, what]) => what).flatMap(([name, what]) => [el('dt', {}, name), el('dd', {}, what)]));
 
-export const code = says => el('span', { class: 'code' }, says);
+export const code = says => el('span', { class: 'code', translate: 'no' }, says);
 
 export const lead = says => el('div', { class: 'lead' }, says);
 

@@ -49,7 +49,7 @@ export class Switches {
     const found = await get('macros').catch(() => null);
     if (!found) return;
     this.names.replaceChildren(...found.macros.map(({ name, lines }) => el('button', { title: lines.join('\n'),
-      onclick: () => this.asks('macro', { name }) }, name)));
+      translate: 'no', onclick: () => this.asks('macro', { name }) }, name)));
     means(this.names, found.macros.map(one => one.name).join('|'));
     text(this.why, found.failed || (found.macros.length ? '' : `No macros: ${found.path}, beside the settings, has `
       + 'lines as Lift = ["M5", "G53 G0 Z0"]'));

@@ -1,6 +1,7 @@
 // The unit of the readout and of what is typed, for this browser: mm, or inches. All is reckoned in whole nanometres,
 // of which an inch has 25,400,000. What is typed goes to the server with its unit.
 import { AXES, el, text, typedNumber } from './dom.js';
+import { attribute } from './language.js';
 
 const INCH = 25400000n;
 const listeners = [];
@@ -89,6 +90,6 @@ export function lengthEntry(millimetres, label, oninput) {
   const nm = millimetres === '' ? null : nanometres(millimetres), says = nm === null ? '' : entered(nm);
   const input = el('input', { value: says, inputMode: 'decimal', oninput });
   entries.push({ input, nm, says });
-  follow(() => input.setAttribute('aria-label', `${label}, in ${unit.name}`));
+  follow(() => attribute(input, 'aria-label', `${label}, in ${unit.name}`));
   return input;
 }

@@ -1,0 +1,213 @@
+"""What is shown in another language than English. The code speaks English; what it says is translated as it is shown,
+by a catalogue of texts with places for what is put in. page/static/language.js does the same by the same rules."""
+import os
+import re
+import tomllib
+from collections.abc import Iterator, Mapping
+from functools import cached_property
+from pathlib import Path
+
+TEXTS = Path(__file__).resolve().parent / "texts"
+ENGLISH = "en"
+
+_MOST = 4096  # answers that are kept
+_WEAK = 8  # a template with fewer letters isn't told from others by them alone
+_PLACE = re.compile(r"\{(\d+)\}")
+_SENTENCES = re.compile(r"(?<=[.?!])\s+(?=[A-Z{(])")
+_SEPARATORS = tuple(map(re.compile, (r"\s{2,}", r"(?<=[.?!])\s+", r"(?<=;)\s+", r"(?<=:)\s+")))
+_LISTED = tuple(map(re.compile, (r",\s+", r"\s+and\s+")))
+_WORD = re.compile(r"[A-Za-z]{2,}")
+_OWN_WORD = re.compile(r"(?<![A-Za-z0-9\0])[A-Za-z]{2,}(?![A-Za-z0-9\0])")
+_PROSE = re.compile(r"(?:^|\s)[A-Za-z]?[a-z]+[,;:.]?\s+(?:\S+\s+)*[A-Za-z]?[a-z]+[.,;:?!]?(?:\s|$)")
+_AROUND = re.compile(r"(\s*)(.*?)(\s*)", re.DOTALL)
+_HEAD = re.compile(r"([^A-Za-z]+)([A-Za-z].*)", re.DOTALL)
+
+
+class Template:
+    """A text with places, and its translation."""
+
+    def __init__(self, english: str, translated: str) -> None:
+        pieces = _PLACE.split(english)
+        self.places = list(map(int, pieces[1::2]))
+        self.translated = _PLACE.split(translated)
+        own = "".join(pieces[::2])
+        self.is_weak = sum(char.isalpha() for char in own) < _WEAK
+        self.size = len(re.sub(r"\s", "", own))
+        words = _OWN_WORD.findall("\0".join(pieces[::2]))
+        self.word = max(words, key=len, default="")
+        self.pattern = re.compile("".join(r"([\s\S]*?)" if i % 2 else _loose(piece) for i, piece in enumerate(pieces)))
+
+    def filled(self, values: Mapping[int, str]) -> str:
+        """Its translation with what stands in its places."""
+        return "".join(values[int(piece)] if i % 2 else piece for i, piece in enumerate(self.translated))
+
+
+def _loose(literal: str) -> str:
+    """A pattern for words however they are parted into lines."""
+    return r"\s+".join(map(re.escape, re.split(r"\s+", literal)))
+
+
+class Language:
+    """A language, by its texts: English ones, and what is said for each."""
+
+    def __init__(self, texts: Mapping[str, str] | None = None, name: str = ENGLISH) -> None:
+        self.texts, self.name = dict(texts or {}), name
+        self._kept: dict[str, str] = {}
+
+    @cached_property
+    def _exact(self) -> dict[str, str]:
+        """What has no places; sentences of longer texts too, where these don't stand for themselves."""
+        own = {_line(english): said for english, said in self.texts.items() if not _PLACE.search(english)}
+        parts = {english: said for english, said in self._sentences() if not _PLACE.search(english)}
+        return parts | own
+
+    @cached_property
+    def _templates(self) -> dict[str, list[tuple[int, int, Template]]]:
+        """Those with places, by their longest word; those that count most come first."""
+        own = {english: said for english, said in self.texts.items() if _PLACE.search(english)}
+        parts = {english: said for english, said in self._sentences() if _PLACE.search(english) and english not in own}
+        found: dict[str, list[tuple[int, int, Template]]] = {}
+        for order, (english, said) in enumerate((own | parts).items()):
+            template = Template(english, said)
+            found.setdefault(template.word, []).append((-template.size, order, template))
+        return found
+
+    def _sentences(self) -> Iterator[tuple[str, str]]:
+        """Sentences of texts that have the same number of them in both languages, without a full stop."""
+        for english, said in self.texts.items():
+            before, after = _SENTENCES.split(english), _SENTENCES.split(said)
+            if len(before) == len(after) and (len(before) > 1 or english.endswith(".")):
+                yield from ((_line(_bare(one)), _bare(other)) for one, other in zip(before, after)
+                            if _WORD.search(one) and sorted(_PLACE.findall(one)) == sorted(_PLACE.findall(other)))
+
+    def say(self, text: str) -> str:
+        """The text in this language; what has no translation stays as it is."""
+        if not self.texts or not _WORD.search(text):
+            return text
+        if text not in self._kept:
+            if len(self._kept) >= _MOST:
+                self._kept.clear()
+            before, core, after = _AROUND.fullmatch(text).groups()
+            self._kept[text] = before + self._said(core) + after
+        return self._kept[text]
+
+    def _said(self, text: str) -> str:
+        whole = self._whole(text)
+        if whole is not None:
+            return whole if "\n" in text else _line(whole)
+        if "\n" in text:
+            return "\n".join(map(self.say, text.split("\n")))
+        for separator in _SEPARATORS:
+            if separator.search(text):
+                return self._by_parts(text, separator)
+        head = _HEAD.fullmatch(text)
+        if head:
+            return head[1] + self.say(head[2])
+        return self._listed(text)
+
+    def _whole(self, text: str) -> str | None:
+        """The translation of a text as one; None where there is none."""
+        for written, end, off in _variants(_line(text)):
+            said = self._exact.get(written)
+            if said is None:
+                said = self._by_template(text if written == _line(text) else written)
+            if said is not None:
+                return _as_written(text, said, end, off)
+        return None
+
+    def _by_template(self, text: str) -> str | None:
+        words = {"", *_WORD.findall(text)}
+        found = sorted(one for word in words for one in self._templates.get(word, ()))
+        for _, _, template in found:
+            match = template.pattern.fullmatch(text)
+            if match and (values := self._values(template, match)) is not None:
+                return template.filled(values)
+        return None
+
+    def _values(self, template: Template, match: re.Match[str]) -> dict[int, str] | None:
+        """What stands in the places; None where a template with few words of its own would part what isn't known."""
+        if template.is_weak and not all(map(self._is_known, match.groups())):
+            return None
+        return {place: self.say(value) for place, value in zip(template.places, match.groups())}
+
+    def _is_known(self, text: str) -> bool:
+        return not _PROSE.search(text) or self._whole(text.strip()) is not None
+
+    def _by_parts(self, text: str, separator: re.Pattern[str]) -> str:
+        """The longest beginning that is known, and the rest; or the first part alone, and the rest."""
+        gaps = list(separator.finditer(text))
+        for gap in reversed(gaps):
+            known = self._whole(text[:gap.start()])
+            if known is not None:
+                return known + gap[0] + self.say(text[gap.end():])
+        gap = gaps[0]
+        return self.say(text[:gap.start()]) + gap[0] + self.say(text[gap.end():])
+
+    def _listed(self, text: str) -> str:
+        """A list, where each of what it lists is known; else the text as it is."""
+        for separator in filter(lambda one: one.search(text), _LISTED):
+            gaps = [gap[0] for gap in separator.finditer(text)]
+            parts = separator.split(text)
+            said = [self.say(part) for part in parts]
+            if said != parts and all(map(self._is_known, parts)):
+                return said[0] + "".join(self._gap(gap) + one for gap, one in zip(gaps, said[1:]))
+        return text
+
+    def _gap(self, gap: str) -> str:
+        return gap.replace("and", self.texts.get("and", "and"))
+
+
+def _line(text: str) -> str:
+    """The same in one line."""
+    return re.sub(r"\s+", " ", text)
+
+
+def _bare(text: str) -> str:
+    return text[:-1] if text.endswith(".") else text
+
+
+def _variants(text: str) -> Iterator[tuple[str, str, str]]:
+    """How a text may stand in the catalogue: with what is added to its translation, and what is taken off."""
+    forms = [(text, "", "")]
+    if text[-1:] in (".", ":") and not text.endswith(".."):
+        forms.append((text[:-1], text[-1], ""))
+    else:
+        forms.append((text + ":", "", ":"))
+    yield from forms
+    if text[:1].isupper() and text[1:2].islower():
+        yield from ((one[:1].lower() + one[1:], end, off) for one, end, off in forms)
+
+
+def _as_written(text: str, said: str, end: str, off: str) -> str:
+    said = said.removesuffix(off) if off else said
+    is_capital = text[:1].isupper() and text[1:2].islower()
+    return (said[:1].upper() + said[1:] if is_capital else said) + end
+
+
+def read(path: Path) -> tuple[str, dict[str, str]]:
+    """A language's own name, and its texts. Raises OSError."""
+    found = tomllib.loads(path.read_text(encoding="utf-8"))
+    return found["name"], found["texts"]
+
+
+def languages() -> dict[str, tuple[str, dict[str, str]]]:
+    """All that there are, each by the name of its file, English first. Raises OSError."""
+    names = sorted((path.stem for path in TEXTS.glob("*.toml")), key=lambda name: (name != ENGLISH, name))
+    return {name: read(TEXTS / f"{name}.toml") for name in names}
+
+
+def language(name: str) -> Language:
+    """One of them; of English nothing is read. Raises OSError."""
+    return Language() if name == ENGLISH else Language(read(TEXTS / f"{name}.toml")[1], name)
+
+
+def names() -> list[str]:
+    """The names of all."""
+    return sorted(path.stem for path in TEXTS.glob("*.toml"))
+
+
+def of_environment(environment: Mapping[str, str] = os.environ) -> str:
+    """The language that LC_ALL, LC_MESSAGES or LANG names, the first that is set; else English."""
+    told = next((value for name in ("LC_ALL", "LC_MESSAGES", "LANG") if (value := environment.get(name))), "")
+    short = re.split(r"[_.@]", told)[0].lower()
+    return short if short in names() else ENGLISH
