@@ -3,7 +3,7 @@ by a catalogue of texts with places for what is put in. page/static/language.js 
 import os
 import re
 import tomllib
-from collections.abc import Iterator, Mapping
+from collections.abc import Iterator, Mapping, Sequence
 from functools import cached_property
 from pathlib import Path
 
@@ -18,7 +18,7 @@ _SEPARATORS = tuple(map(re.compile, (r"\s{2,}", r"(?<=[.?!])\s+", r"(?<=;)\s+", 
 _LISTED = tuple(map(re.compile, (r",\s+", r"\s+and\s+")))
 _WORD = re.compile(r"[A-Za-z]{2,}")
 _OWN_WORD = re.compile(r"(?<![A-Za-z0-9\0])[A-Za-z]{2,}(?![A-Za-z0-9\0])")
-_PROSE = re.compile(r"(?:^|\s)[A-Za-z]?[a-z]+[,;:.]?\s+(?:\S+\s+)*[A-Za-z]?[a-z]+[.,;:?!]?(?:\s|$)")
+_PROSE = re.compile(r"(?:^|\s)[A-Za-z][a-z]{2,}[,;:.]?\s+(?:\S+\s+)*[A-Za-z][a-z]{2,}[.,;:?!]?(?:\s|$)")
 _AROUND = re.compile(r"(\s*)(.*?)(\s*)", re.DOTALL)
 _HEAD = re.compile(r"([^A-Za-z]+)([A-Za-z].*)", re.DOTALL)
 
@@ -33,9 +33,15 @@ class Template:
         own = "".join(pieces[::2])
         self.is_weak = sum(char.isalpha() for char in own) < _WEAK
         self.size = len(re.sub(r"\s", "", own))
+        self.gaps = [not gap.strip() for gap in pieces[2:-1:2]]  # between its places: whether it is a blank
         words = _OWN_WORD.findall("\0".join(pieces[::2]))
         self.word = max(words, key=len, default="")
         self.pattern = re.compile("".join(r"([\s\S]*?)" if i % 2 else _loose(piece) for i, piece in enumerate(pieces)))
+
+    def parts_prose(self, values: Sequence[str]) -> bool:
+        """Whether words that belong together stand in two places with a blank between them."""
+        pairs = zip(self.gaps, values, values[1:])
+        return any(is_blank and _PROSE.search(f"{one} {other}") for is_blank, one, other in pairs)
 
     def filled(self, values: Mapping[int, str]) -> str:
         """Its translation with what stands in its places."""
@@ -100,25 +106,25 @@ class Language:
         for separator in _SEPARATORS:
             if separator.search(text):
                 return self._by_parts(text, separator)
-        head = _HEAD.fullmatch(text)
-        if head:
-            return head[1] + self.say(head[2])
-        return self._listed(text)
+        listed, head = self._listed(text), _HEAD.fullmatch(text)
+        return head[1] + self.say(head[2]) if head and listed == text else listed
 
-    def _whole(self, text: str) -> str | None:
-        """The translation of a text as one; None where there is none."""
-        for written, end, off in _variants(_line(text)):
-            said = self._exact.get(written)
-            if said is None:
-                said = self._by_template(text if written == _line(text) else written)
+    def _whole(self, text: str, is_sure: bool = False) -> str | None:
+        """The translation of a text as one; None where there is none, or, if it has to be sure, by few words alone."""
+        variants = _variants(_line(text))
+        for written, end, off in variants:
+            if written in self._exact:
+                return _as_written(text, self._exact[written], end, off)
+        for written, end, off in variants:
+            said = self._by_template(text if written == _line(text) else written, is_sure)
             if said is not None:
                 return _as_written(text, said, end, off)
         return None
 
-    def _by_template(self, text: str) -> str | None:
+    def _by_template(self, text: str, is_sure: bool) -> str | None:
         words = {"", *_WORD.findall(text)}
         found = sorted(one for word in words for one in self._templates.get(word, ()))
-        for _, _, template in found:
+        for template in (one for _, _, one in found if not (is_sure and one.is_weak)):
             match = template.pattern.fullmatch(text)
             if match and (values := self._values(template, match)) is not None:
                 return template.filled(values)
@@ -126,12 +132,16 @@ class Language:
 
     def _values(self, template: Template, match: re.Match[str]) -> dict[int, str] | None:
         """What stands in the places; None where a template with few words of its own would part what isn't known."""
-        if template.is_weak and not all(map(self._is_known, match.groups())):
+        values = match.groups()
+        if template.is_weak and (template.parts_prose(values) or not all(map(self._is_known, values))):
             return None
-        return {place: self.say(value) for place, value in zip(template.places, match.groups())}
+        return {place: self.say(value) for place, value in zip(template.places, values)}
 
     def _is_known(self, text: str) -> bool:
-        return not _PROSE.search(text) or self._whole(text.strip()) is not None
+        if not _PROSE.search(text) or self._whole(text.strip(), is_sure=True) is not None:
+            return True
+        parts = _LISTED[0].split(text)
+        return len(parts) > 1 and all(map(self._is_known, parts))
 
     def _by_parts(self, text: str, separator: re.Pattern[str]) -> str:
         """The longest beginning that is known, and the rest; or the first part alone, and the rest."""
@@ -166,16 +176,16 @@ def _bare(text: str) -> str:
     return text[:-1] if text.endswith(".") else text
 
 
-def _variants(text: str) -> Iterator[tuple[str, str, str]]:
+def _variants(text: str) -> list[tuple[str, str, str]]:
     """How a text may stand in the catalogue: with what is added to its translation, and what is taken off."""
     forms = [(text, "", "")]
     if text[-1:] in (".", ":") and not text.endswith(".."):
         forms.append((text[:-1], text[-1], ""))
     else:
         forms.append((text + ":", "", ":"))
-    yield from forms
     if text[:1].isupper() and text[1:2].islower():
-        yield from ((one[:1].lower() + one[1:], end, off) for one, end, off in forms)
+        forms += [(one[:1].lower() + one[1:], end, off) for one, end, off in forms]
+    return forms
 
 
 def _as_written(text: str, said: str, end: str, off: str) -> str:

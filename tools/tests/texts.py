@@ -314,7 +314,7 @@ _UNREAD = (
     # lines of G-code, of files
     r"M0 \(look.*", r"\(ngc: .*", r"ngc begins here", r"angle_deg.*", r"\[T@\]\n.*", r"# The shapes.*", r"[TFGS]?@",
     r"works\|.*", r".*(\[ \\t|\)\?\[).*")
-ALSO = (f"{PLACE} hold", f"{PLACE} holds", f"{PLACE} stop", f"{PLACE} stops")
+ALSO = (f"Adapted, still {PLACE}", f"{PLACE} hold", f"{PLACE} holds", f"{PLACE} stop", f"{PLACE} stops")
 """What is put together of strings that are no texts by themselves."""
 NOT_TEXTS = re.compile("|".join(_UNREAD).replace("@", r"\{\d+\}"), re.DOTALL)
 """What isn't for people though it reads so; @ is a place."""

@@ -10,7 +10,7 @@ const SEPARATORS = [/\s{2,}/g, /(?<=[.?!])\s+/g, /(?<=;)\s+/g, /(?<=:)\s+/g];
 const LISTED = [/,\s+/g, /\s+and\s+/g];
 const WORD = /[A-Za-z]{2,}/, WORDS = /[A-Za-z]{2,}/g;
 const OWN_WORDS = /(?<![A-Za-z0-9\0])[A-Za-z]{2,}(?![A-Za-z0-9\0])/g;
-const PROSE = /(?:^|\s)[A-Za-z]?[a-z]+[,;:.]?\s+(?:\S+\s+)*[A-Za-z]?[a-z]+[.,;:?!]?(?:\s|$)/;
+const PROSE = /(?:^|\s)[A-Za-z][a-z]{2,}[,;:.]?\s+(?:\S+\s+)*[A-Za-z][a-z]{2,}[.,;:?!]?(?:\s|$)/;
 const AROUND = /^(\s*)(.*?)(\s*)$/s;
 const HEAD = /^([^A-Za-z]+)([A-Za-z].*)$/s;
 
@@ -30,8 +30,12 @@ class Template {
     this.size = literals.join('').replace(/\s/g, '').length;
     this.word = (literals.join('\0').match(OWN_WORDS) ?? []).reduce((a, b) => (b.length > a.length ? b : a), '');
     this.pattern = new RegExp(`^${pieces.map((piece, i) => (i % 2 ? '([\\s\\S]*?)' : loose(piece))).join('')}$`);
+    this.gaps = literals.slice(1, -1).map(gap => !gap.trim()); // between its places: whether it is a blank
     this.order = order;
   }
+
+  // Whether words that belong together stand in two places with a blank between them.
+  partsProse(texts) { return this.gaps.some((isBlank, i) => isBlank && PROSE.test(`${texts[i]} ${texts[i + 1]}`)); }
 
   filled(values) { return this.translated.map((piece, i) => (i % 2 ? values.get(piece) : piece)).join(''); }
 }
@@ -76,25 +80,29 @@ export class Language {
     if (whole !== null) return text.includes('\n') ? whole : line(whole);
     if (text.includes('\n')) return text.split('\n').map(one => this.say(one)).join('\n');
     for (const separator of SEPARATORS) if (text.search(separator) >= 0) return this.byParts(text, separator);
-    const head = HEAD.exec(text);
-    return head ? head[1] + this.say(head[2]) : this.listed(text);
+    const listed = this.listed(text), head = HEAD.exec(text);
+    return head && listed === text ? head[1] + this.say(head[2]) : listed;
   }
 
-  // The translation of a text as one; null where there is none.
-  whole(text) {
-    const plain = line(text);
-    for (const [written, end, off] of variants(plain)) {
-      const said = this.exact.get(written) ?? this.byTemplate(written === plain ? text : written);
+  // The translation of a text as one; null where there is none, or, if it has to be sure, by few words alone.
+  whole(text, isSure = false) {
+    const plain = line(text), all = variants(plain);
+    for (const [written, end, off] of all) {
+      const said = this.exact.get(written);
+      if (said !== undefined) return asWritten(text, said, end, off);
+    }
+    for (const [written, end, off] of all) {
+      const said = this.byTemplate(written === plain ? text : written, isSure);
       if (said !== null) return asWritten(text, said, end, off);
     }
     return null;
   }
 
-  byTemplate(text) {
+  byTemplate(text, isSure) {
     const words = new Set(['', ...text.match(WORDS) ?? []]);
     const found = [...words].flatMap(word => this.templates.get(word) ?? [])
       .sort((a, b) => b.size - a.size || a.order - b.order);
-    for (const template of found) {
+    for (const template of found.filter(one => !(isSure && one.isWeak))) {
       const match = template.pattern.exec(text), values = match && this.values(template, match.slice(1));
       if (values) return template.filled(values);
     }
@@ -103,11 +111,15 @@ export class Language {
 
   // What stands in the places; null where a template with few words of its own would part what isn't known.
   values(template, texts) {
-    if (template.isWeak && !texts.every(text => this.isKnown(text))) return null;
+    if (template.isWeak && (template.partsProse(texts) || !texts.every(text => this.isKnown(text)))) return null;
     return new Map(template.places.map((place, i) => [place, this.say(texts[i])]));
   }
 
-  isKnown(text) { return !PROSE.test(text) || this.whole(text.trim()) !== null; }
+  isKnown(text) {
+    if (!PROSE.test(text) || this.whole(text.trim(), true) !== null) return true;
+    const parts = text.split(LISTED[0]);
+    return parts.length > 1 && parts.every(part => this.isKnown(part));
+  }
 
   // The longest beginning that is known, and the rest; or the first part alone, and the rest.
   byParts(text, separator) {
