@@ -36,7 +36,19 @@ class Template:
         self.gaps = [not gap.strip() for gap in pieces[2:-1:2]]  # between its places: whether it is a blank
         words = _OWN_WORD.findall("\0".join(pieces[::2]))
         self.word = max(words, key=len, default="")
-        self.pattern = re.compile("".join(r"([\s\S]*?)" if i % 2 else _loose(piece) for i, piece in enumerate(pieces)))
+        first, *between, last = map(_loose, pieces[::2])
+        self.literals = [re.compile(pattern) for pattern in (rf"\A{first}", *between, rf"{last}\Z")]
+
+    def values(self, text: str) -> list[str] | None:
+        """What stands in its places in a text, each as little as can be; None where it is another text."""
+        found, at = [], 0
+        for literal in self.literals:
+            match = literal.search(text, at)
+            if match is None:
+                return None
+            found.append(text[at:match.start()])
+            at = match.end()
+        return found[1:]
 
     def parts_prose(self, values: Sequence[str]) -> bool:
         """Whether words that belong together stand in two places with a blank between them."""
@@ -69,8 +81,10 @@ class Language:
 
     @cached_property
     def _templates(self) -> dict[str, list[tuple[int, int, Template]]]:
-        """Those with places, by their longest word; those that count most come first."""
+        """Those with places, by their longest word; those that count most come first. What begins as `, and` does goes
+        behind anything."""
         own = {english: said for english, said in self.texts.items() if _PLACE.search(english)}
+        own |= {f"{{0}}{english}": f"{{0}}{said}" for english, said in self.texts.items() if english[:1] in ",;:."}
         parts = {english: said for english, said in self._sentences() if _PLACE.search(english) and english not in own}
         found: dict[str, list[tuple[int, int, Template]]] = {}
         for order, (english, said) in enumerate((own | parts).items()):
@@ -100,7 +114,7 @@ class Language:
     def _said(self, text: str) -> str:
         whole = self._whole(text)
         if whole is not None:
-            return whole if "\n" in text else _line(whole)
+            return whole if "\n" in text else re.sub(r"\s*\n\s*", " ", whole)
         if "\n" in text:
             return "\n".join(map(self.say, text.split("\n")))
         for separator in _SEPARATORS:
@@ -114,28 +128,25 @@ class Language:
         variants = _variants(_line(text))
         for written, end, off in variants:
             if written in self._exact:
-                return _as_written(text, self._exact[written], end, off)
+                return _as_written(self._exact[written], written[:1] != text[:1], end, off)
         for written, end, off in variants:
             said = self._by_template(text if written == _line(text) else written, is_sure)
             if said is not None:
-                return _as_written(text, said, end, off)
+                return _as_written(said, written[:1] != text[:1], end, off)
         return None
 
     def _by_template(self, text: str, is_sure: bool) -> str | None:
         words = {"", *_WORD.findall(text)}
         found = sorted(one for word in words for one in self._templates.get(word, ()))
         for template in (one for _, _, one in found if not (is_sure and one.is_weak)):
-            match = template.pattern.fullmatch(text)
-            if match and (values := self._values(template, match)) is not None:
-                return template.filled(values)
+            values = template.values(text)
+            if values is not None and not (template.is_weak and self._parts(template, values)):
+                return template.filled({place: self.say(value) for place, value in zip(template.places, values)})
         return None
 
-    def _values(self, template: Template, match: re.Match[str]) -> dict[int, str] | None:
-        """What stands in the places; None where a template with few words of its own would part what isn't known."""
-        values = match.groups()
-        if template.is_weak and (template.parts_prose(values) or not all(map(self._is_known, values))):
-            return None
-        return {place: self.say(value) for place, value in zip(template.places, values)}
+    def _parts(self, template: Template, values: Sequence[str]) -> bool:
+        """Whether a template with few words of its own would part what isn't known."""
+        return template.parts_prose(values) or not all(map(self._is_known, values))
 
     def _is_known(self, text: str) -> bool:
         if not _PROSE.search(text) or self._whole(text.strip(), is_sure=True) is not None:
@@ -159,7 +170,7 @@ class Language:
             gaps = [gap[0] for gap in separator.finditer(text)]
             parts = separator.split(text)
             said = [self.say(part) for part in parts]
-            if said != parts and all(map(self._is_known, parts)):
+            if said != parts and all(not _PROSE.search(one) or self._whole(one) is not None for one in parts):
                 return said[0] + "".join(self._gap(gap) + one for gap, one in zip(gaps, said[1:]))
         return text
 
@@ -188,9 +199,8 @@ def _variants(text: str) -> list[tuple[str, str, str]]:
     return forms
 
 
-def _as_written(text: str, said: str, end: str, off: str) -> str:
+def _as_written(said: str, is_capital: bool, end: str, off: str) -> str:
     said = said.removesuffix(off) if off else said
-    is_capital = text[:1].isupper() and text[1:2].islower()
     return (said[:1].upper() + said[1:] if is_capital else said) + end
 
 

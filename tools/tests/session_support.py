@@ -20,7 +20,11 @@ from pathlib import Path
 TOOLS = Path(__file__).resolve().parents[1]
 sys.path.insert(0, str(TOOLS))
 
+from ngc_tools.language import ENGLISH, of_environment
 from ngc_tools.link.out_file import born_ns
+
+if of_environment() != ENGLISH:
+    os.environ["LC_ALL"] = "C.UTF-8"  # what tests read is English
 
 FIRST = """step_nm = [1000, 1000, 1000]
 low_nm = [-1000000000, -1000000000, -1000000000]

@@ -314,8 +314,9 @@ _UNREAD = (
     # lines of G-code, of files
     r"M0 \(look.*", r"\(ngc: .*", r"ngc begins here", r"angle_deg.*", r"\[T@\]\n.*", r"# The shapes.*", r"[TFGS]?@",
     r"works\|.*", r".*(\[ \\t|\)\?\[).*")
-ALSO = (f"Adapted, still {PLACE}", f"{PLACE} hold", f"{PLACE} holds", f"{PLACE} stop", f"{PLACE} stops")
-"""What is put together of strings that are no texts by themselves."""
+ALSO = ("idle", "stopped", "running", f"done {PLACE}", f"message, {PLACE}", f"comment, {PLACE}", f"Adapted, still {PLACE}", f"{PLACE} hold", f"{PLACE} holds",
+        f"{PLACE} stop", f"{PLACE} stops")
+"""What ngc answers, and what is put together of strings that are no texts by themselves."""
 NOT_TEXTS = re.compile("|".join(_UNREAD).replace("@", r"\{\d+\}"), re.DOTALL)
 """What isn't for people though it reads so; @ is a place."""
 

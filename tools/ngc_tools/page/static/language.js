@@ -29,9 +29,24 @@ class Template {
     this.isWeak = (literals.join('').match(/\p{L}/gu)?.length ?? 0) < WEAK;
     this.size = literals.join('').replace(/\s/g, '').length;
     this.word = (literals.join('\0').match(OWN_WORDS) ?? []).reduce((a, b) => (b.length > a.length ? b : a), '');
-    this.pattern = new RegExp(`^${pieces.map((piece, i) => (i % 2 ? '([\\s\\S]*?)' : loose(piece))).join('')}$`);
+    const ends = i => [i ? '' : '^', i === literals.length - 1 ? '$' : ''];
+    this.literals = literals.map((one, i) => new RegExp(ends(i).join(loose(one)), 'g'));
     this.gaps = literals.slice(1, -1).map(gap => !gap.trim()); // between its places: whether it is a blank
     this.order = order;
+  }
+
+  // What stands in its places in a text, each as little as can be; null where it is another text.
+  values(text) {
+    const found = [];
+    let at = 0;
+    for (const literal of this.literals) {
+      literal.lastIndex = at;
+      const match = literal.exec(text);
+      if (!match) return null;
+      found.push(text.slice(at, match.index));
+      at = match.index + match[0].length;
+    }
+    return found.slice(1);
   }
 
   // Whether words that belong together stand in two places with a blank between them.
@@ -48,7 +63,8 @@ export class Language {
     this.kept = new Map();
     this.exact = new Map();
     this.templates = new Map();
-    const all = Object.entries(texts), seen = new Set(), own = all.filter(([english]) => placesOf(english).length);
+    const all = Object.entries(texts), seen = new Set(), own = new Map(all.filter(pair => placesOf(pair[0]).length));
+    for (const [english, said] of all) if (/^[,;:.]/.test(english)) own.set(`{0}${english}`, `{0}${said}`);
     for (const [english, said] of all) if (!placesOf(english).length) this.exact.set(line(english), said);
     const parts = all.flatMap(pair => sentences(...pair));
     const wordy = new Set(this.exact.keys());
@@ -77,7 +93,7 @@ export class Language {
 
   said(text) {
     const whole = this.whole(text);
-    if (whole !== null) return text.includes('\n') ? whole : line(whole);
+    if (whole !== null) return text.includes('\n') ? whole : whole.replace(/\s*\n\s*/g, ' ');
     if (text.includes('\n')) return text.split('\n').map(one => this.say(one)).join('\n');
     for (const separator of SEPARATORS) if (text.search(separator) >= 0) return this.byParts(text, separator);
     const listed = this.listed(text), head = HEAD.exec(text);
@@ -89,11 +105,11 @@ export class Language {
     const plain = line(text), all = variants(plain);
     for (const [written, end, off] of all) {
       const said = this.exact.get(written);
-      if (said !== undefined) return asWritten(text, said, end, off);
+      if (said !== undefined) return asWritten(said, written[0] !== text[0], end, off);
     }
     for (const [written, end, off] of all) {
       const said = this.byTemplate(written === plain ? text : written, isSure);
-      if (said !== null) return asWritten(text, said, end, off);
+      if (said !== null) return asWritten(said, written[0] !== text[0], end, off);
     }
     return null;
   }
@@ -103,17 +119,16 @@ export class Language {
     const found = [...words].flatMap(word => this.templates.get(word) ?? [])
       .sort((a, b) => b.size - a.size || a.order - b.order);
     for (const template of found.filter(one => !(isSure && one.isWeak))) {
-      const match = template.pattern.exec(text), values = match && this.values(template, match.slice(1));
-      if (values) return template.filled(values);
+      const values = template.values(text);
+      if (values && !(template.isWeak && this.parts(template, values))) {
+        return template.filled(new Map(template.places.map((place, i) => [place, this.say(values[i])])));
+      }
     }
     return null;
   }
 
-  // What stands in the places; null where a template with few words of its own would part what isn't known.
-  values(template, texts) {
-    if (template.isWeak && (template.partsProse(texts) || !texts.every(text => this.isKnown(text)))) return null;
-    return new Map(template.places.map((place, i) => [place, this.say(texts[i])]));
-  }
+  // Whether a template with few words of its own would part what isn't known.
+  parts(template, values) { return template.partsProse(values) || !values.every(value => this.isKnown(value)); }
 
   isKnown(text) {
     if (!PROSE.test(text) || this.whole(text.trim(), true) !== null) return true;
@@ -137,7 +152,7 @@ export class Language {
     for (const separator of LISTED.filter(one => text.search(one) >= 0)) {
       const gaps = text.match(separator), parts = text.split(separator), said = parts.map(part => this.say(part));
       const isOther = said.some((one, i) => one !== parts[i]);
-      if (isOther && parts.every(part => this.isKnown(part))) {
+      if (isOther && parts.every(part => !PROSE.test(part) || this.whole(part) !== null)) {
         return said.reduce((all, one, i) => all + gaps[i - 1].replace('and', this.texts.and ?? 'and') + one);
       }
     }
@@ -162,9 +177,9 @@ function variants(text) {
   return [...forms, ...forms.map(([one, end, off]) => [one[0].toLowerCase() + one.slice(1), end, off])];
 }
 
-function asWritten(text, said, end, off) {
+function asWritten(said, isRaised, end, off) {
   const own = off && said.endsWith(off) ? said.slice(0, -off.length) : said;
-  return (isCapital(text) ? own.charAt(0).toUpperCase() + own.slice(1) : own) + end;
+  return (isRaised ? own.charAt(0).toUpperCase() + own.slice(1) : own) + end;
 }
 
 // ---- the language of this page
