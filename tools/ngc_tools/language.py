@@ -11,15 +11,17 @@ TEXTS = Path(__file__).resolve().parent / "texts"
 ENGLISH = "en"
 
 _MOST = 4096  # answers that are kept
+_LOOKS = 8  # so many parts of a text are looked for as one at most
 _WEAK = 8  # a template with fewer letters isn't told from others by them alone
 _PLACE = re.compile(r"\{(\d+)\}")
 _SENTENCES = re.compile(r"(?<=[.?!])\s+(?=[A-Z{(])")
-_SEPARATORS = tuple(map(re.compile, (r"\s{2,}", r"(?<=[.?!])\s+", r"(?<=;)\s+", r"(?<=:)\s+")))
+_SEPARATORS = tuple(map(re.compile, (r"\n", r"\s{2,}", r"(?<=[.?!])\s+", r"(?<=;)\s+", r"(?<=:)\s+")))
 _LISTED = tuple(map(re.compile, (r",\s+", r"\s+and\s+")))
 _WORD = re.compile(r"[A-Za-z]{2,}")
 _OWN_WORD = re.compile(r"(?<![A-Za-z0-9\0])[A-Za-z]{2,}(?![A-Za-z0-9\0])")
 _PROSE = re.compile(r"(?:^|\s)[A-Za-z][a-z]{2,}[,;:.]?\s+(?:\S+\s+)*[A-Za-z][a-z]{2,}[.,;:?!]?(?:\s|$)")
 _AROUND = re.compile(r"(\s*)(.*?)(\s*)", re.DOTALL)
+_DATED = re.compile(r"(\d{4}-\d\d-\d\d \d\d:\d\d(?::\d\d [-+]\d{4})? )(.*)")
 _HEAD = re.compile(r"([^A-Za-z]+)([A-Za-z].*)", re.DOTALL)
 
 
@@ -112,11 +114,12 @@ class Language:
         return self._kept[text]
 
     def _said(self, text: str) -> str:
+        dated = _DATED.fullmatch(text)
+        if dated:
+            return dated[1] + self.say(dated[2])
         whole = self._whole(text)
         if whole is not None:
             return whole if "\n" in text else re.sub(r"\s*\n\s*", " ", whole)
-        if "\n" in text:
-            return "\n".join(map(self.say, text.split("\n")))
         for separator in _SEPARATORS:
             if separator.search(text):
                 return self._by_parts(text, separator)
@@ -157,7 +160,7 @@ class Language:
     def _by_parts(self, text: str, separator: re.Pattern[str]) -> str:
         """The longest beginning that is known, and the rest; or the first part alone, and the rest."""
         gaps = list(separator.finditer(text))
-        for gap in reversed(gaps):
+        for gap in reversed(gaps[:_LOOKS]):
             known = self._whole(text[:gap.start()])
             if known is not None:
                 return known + gap[0] + self.say(text[gap.end():])

@@ -314,7 +314,8 @@ _UNREAD = (
     # lines of G-code, of files
     r"M0 \(look.*", r"\(ngc: .*", r"ngc begins here", r"angle_deg.*", r"\[T@\]\n.*", r"# The shapes.*", r"[TFGS]?@",
     r"works\|.*", r".*(\[ \\t|\)\?\[).*")
-ALSO = ("idle", "stopped", "running", f"done {PLACE}", f"message, {PLACE}", f"comment, {PLACE}", f"Adapted, still {PLACE}", f"{PLACE} hold", f"{PLACE} holds",
+ALSO = ("idle", "stopped", "running", "segment", "there", "limit", f"limit {PLACE} low", f"limit {PLACE} high",
+        f"feed {PLACE} %", f"done {PLACE}", f"message, {PLACE}", f"comment, {PLACE}", f"Adapted, still {PLACE}", f"{PLACE} hold", f"{PLACE} holds",
         f"{PLACE} stop", f"{PLACE} stops")
 """What ngc answers, and what is put together of strings that are no texts by themselves."""
 NOT_TEXTS = re.compile("|".join(_UNREAD).replace("@", r"\{\d+\}"), re.DOTALL)

@@ -2,16 +2,18 @@
 // texts with places for what is put in. ngc_tools/language.py does the same by the same rules. What people wrote
 // themselves, as lines of a program and names of files, stands in elements with translate="no", and stays as it is.
 const MOST = 4096;         // answers that are kept
+const LOOKS = 8;           // so many parts of a text are looked for as one at most
 const WEAK = 8;            // a template with fewer letters isn't told from others by them alone
 const PATIENCE_MS = 3000;
 const ATTRIBUTES = ['aria-label', 'title', 'placeholder', 'alt'];
 const SENTENCES = /(?<=[.?!])\s+(?=[A-Z{(])/;
-const SEPARATORS = [/\s{2,}/g, /(?<=[.?!])\s+/g, /(?<=;)\s+/g, /(?<=:)\s+/g];
+const SEPARATORS = [/\n/g, /\s{2,}/g, /(?<=[.?!])\s+/g, /(?<=;)\s+/g, /(?<=:)\s+/g];
 const LISTED = [/,\s+/g, /\s+and\s+/g];
 const WORD = /[A-Za-z]{2,}/, WORDS = /[A-Za-z]{2,}/g;
 const OWN_WORDS = /(?<![A-Za-z0-9\0])[A-Za-z]{2,}(?![A-Za-z0-9\0])/g;
 const PROSE = /(?:^|\s)[A-Za-z][a-z]{2,}[,;:.]?\s+(?:\S+\s+)*[A-Za-z][a-z]{2,}[.,;:?!]?(?:\s|$)/;
 const AROUND = /^(\s*)(.*?)(\s*)$/s;
+const DATED = /^(\d{4}-\d\d-\d\d \d\d:\d\d(?::\d\d [-+]\d{4})? )(.*)$/;
 const HEAD = /^([^A-Za-z]+)([A-Za-z].*)$/s;
 
 const line = text => text.replace(/\s+/g, ' ');
@@ -92,9 +94,10 @@ export class Language {
   }
 
   said(text) {
+    const dated = DATED.exec(text);
+    if (dated) return dated[1] + this.say(dated[2]);
     const whole = this.whole(text);
     if (whole !== null) return text.includes('\n') ? whole : whole.replace(/\s*\n\s*/g, ' ');
-    if (text.includes('\n')) return text.split('\n').map(one => this.say(one)).join('\n');
     for (const separator of SEPARATORS) if (text.search(separator) >= 0) return this.byParts(text, separator);
     const listed = this.listed(text), head = HEAD.exec(text);
     return head && listed === text ? head[1] + this.say(head[2]) : listed;
@@ -140,7 +143,7 @@ export class Language {
   byParts(text, separator) {
     const gaps = [...text.matchAll(separator)];
     const rest = gap => gap[0] + this.say(text.slice(gap.index + gap[0].length));
-    for (const gap of gaps.toReversed()) {
+    for (const gap of gaps.slice(0, LOOKS).toReversed()) {
       const known = this.whole(text.slice(0, gap.index));
       if (known !== null) return known + rest(gap);
     }
