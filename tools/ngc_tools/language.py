@@ -12,7 +12,7 @@ ENGLISH = "en"
 
 _MOST = 4096  # answers that are kept
 _LOOKS = 8  # so many parts of a text are looked for as one at most
-_WEAK = 8  # a template with fewer letters isn't told from others by them alone
+_WEAK = 8  # a template of one word with fewer letters isn't told from others by that alone
 _PLACE = re.compile(r"\{(\d+)\}")
 _SENTENCES = re.compile(r"(?<=[.?!])\s+(?=[A-Z{(])")
 _SEPARATORS = tuple(map(re.compile, (r"\n", r"\s{2,}", r"(?<=[.?!])\s+", r"(?<=;)\s+", r"(?<=:)\s+")))
@@ -33,7 +33,7 @@ class Template:
         self.places = list(map(int, pieces[1::2]))
         self.translated = _PLACE.split(translated)
         own = "".join(pieces[::2])
-        self.is_weak = sum(char.isalpha() for char in own) < _WEAK
+        self.is_weak = sum(char.isalpha() for char in own) < _WEAK and len(_WORD.findall("\0".join(pieces[::2]))) < 2
         self.size = len(re.sub(r"\s", "", own))
         self.gaps = [not gap.strip() for gap in pieces[2:-1:2]]  # between its places: whether it is a blank
         words = _OWN_WORD.findall("\0".join(pieces[::2]))
@@ -114,9 +114,6 @@ class Language:
         return self._kept[text]
 
     def _said(self, text: str) -> str:
-        dated = _DATED.fullmatch(text)
-        if dated:
-            return dated[1] + self.say(dated[2])
         whole = self._whole(text)
         if whole is not None:
             return whole if "\n" in text else re.sub(r"\s*\n\s*", " ", whole)
@@ -128,14 +125,16 @@ class Language:
 
     def _whole(self, text: str, is_sure: bool = False) -> str | None:
         """The translation of a text as one; None where there is none, or, if it has to be sure, by few words alone."""
-        variants = _variants(_line(text))
-        for written, end, off in variants:
-            if written in self._exact:
-                return _as_written(self._exact[written], written[:1] != text[:1], end, off)
-        for written, end, off in variants:
-            said = self._by_template(text if written == _line(text) else written, is_sure)
-            if said is not None:
-                return _as_written(said, written[:1] != text[:1], end, off)
+        dated = _DATED.fullmatch(text)
+        if dated:
+            said = self._whole(dated[2], is_sure)
+            return said and dated[1] + said
+        variants = _variants(text)
+        for find in (lambda written: self._exact.get(_line(written)), lambda written: self._by_template(written, is_sure)):
+            for written, end, off in variants:
+                said = find(written)
+                if said is not None and said.endswith(off):
+                    return _as_written(said.removesuffix(off), written[:1] != text[:1], end)
         return None
 
     def _by_template(self, text: str, is_sure: bool) -> str | None:
@@ -149,7 +148,8 @@ class Language:
 
     def _parts(self, template: Template, values: Sequence[str]) -> bool:
         """Whether a template with few words of its own would part what isn't known."""
-        return template.parts_prose(values) or not all(map(self._is_known, values))
+        is_list = any(", " in value or "\n" in value for value in values)
+        return is_list or template.parts_prose(values) or not all(map(self._is_known, values))
 
     def _is_known(self, text: str) -> bool:
         if not _PROSE.search(text) or self._whole(text.strip(), is_sure=True) is not None:
@@ -193,7 +193,7 @@ def _bare(text: str) -> str:
 def _variants(text: str) -> list[tuple[str, str, str]]:
     """How a text may stand in the catalogue: with what is added to its translation, and what is taken off."""
     forms = [(text, "", "")]
-    if text[-1:] in (".", ":") and not text.endswith(".."):
+    if text[-1:] in (".", ":", ";") and not text.endswith(".."):
         forms.append((text[:-1], text[-1], ""))
     else:
         forms.append((text + ":", "", ":"))
@@ -202,8 +202,7 @@ def _variants(text: str) -> list[tuple[str, str, str]]:
     return forms
 
 
-def _as_written(said: str, is_capital: bool, end: str, off: str) -> str:
-    said = said.removesuffix(off) if off else said
+def _as_written(said: str, is_capital: bool, end: str) -> str:
     return (said[:1].upper() + said[1:] if is_capital else said) + end
 
 

@@ -41,7 +41,7 @@ UNREAD_CALLS = {
 """What a string is given to there isn't for people."""
 UNREAD_NAMES = {"ABOUT", "EXAMPLE", "__all__", "_LIMITS_TEXT", "description", "epilog", "help", "metavar", "prog"}
 WORDS = {"stands", "clockwise", "counter-clockwise", "mist", "flood", "held", "moving", "moves", "alarm", "limits",
-         "longer", "shorter", "inches", "millimetres", "cut", "cuts", "done", "about", "yes", "no"}
+         "longer", "shorter", "inches", "millimetres", "cut", "cuts", "done", "about", "yes", "no", "this"}
 """Words that stand alone, and are shown."""
 UNREAD_WORDS = {"Operator", "Connection", "Server", "Setter", "Touches", "Typed", "Loss", "Stamp", "Recorded"}
 _WORD = re.compile(r"[A-Za-z][a-z'\u2019-]+")
@@ -227,8 +227,6 @@ def is_text(text: str) -> bool:
 def _texts_of_module(name: str) -> Iterator[str]:
     visitor = PythonTexts()
     visitor.visit(ast.parse((TOOLS / name).read_text()))
-    if name == "operator/commands.py":  # lines of help
-        visitor.found = [line for text in visitor.found for line in text.split("\n")]
     is_page = name.startswith("page/")
     is_core = name.startswith(("operator/", "ngc/", "link/")) and name != "operator/commands.py"
     for text in visitor.found:

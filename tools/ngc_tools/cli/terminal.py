@@ -14,6 +14,7 @@ from ngc_tools.formats.text import shown
 from ngc_tools.cli.keys import TerminalKeys, terminal_keys
 from ngc_tools.cli.typed_lines import TypedLines
 from ngc_tools.language import Language
+from ngc_tools.operator.commands import help_text
 from ngc_tools.operator.face import MESSAGE, SAID, WARNING, UnderWay, is_aside, is_override
 from ngc_tools.link.progress import Report
 
@@ -55,8 +56,7 @@ class Screen:
     def say(self, text: str, kind: str = SAID) -> None:
         """Shows lines; at a terminal none is longer than it is wide. A message of the program stays as it is."""
         self._clear()
-        head, colon, message = text.partition(": ") if kind == MESSAGE else (text, "", "")
-        text = self.language.say(head) + colon + message
+        text = self._spoken(text, kind)
         width = _width() if self.is_terminal else 0
         self._print("\n".join(_wrapped(shown(line), width) for line in text.split("\n")) + "\n")
 
@@ -75,6 +75,13 @@ class Screen:
             self._print("\r\033[K" + shown(self._translated(view).fitted(width)))
             self._live = True
             self._shown = time.monotonic()
+
+    def _spoken(self, text: str, kind: str) -> str:
+        """A text in the language of the screen."""
+        if kind == MESSAGE:
+            head, colon, message = text.partition(": ")
+            return self.language.say(head) + colon + message
+        return help_text(self.language.say) if text == help_text() else self.language.say(text)
 
     def _translated(self, view: UnderWay) -> UnderWay:
         say = self.language.say

@@ -297,9 +297,9 @@ def words_taken(when: Taken) -> frozenset[str]:
     return frozenset(word for word in BY_WORD if is_taken(word, when))
 
 
-def help_text() -> str:
-    """What `help` says: each form in a line or two."""
-    return "\n".join(_help_line(form, says) for command in COMMANDS for form, says in command.forms)
+def help_text(say: Callable[[str], str] = str) -> str:
+    """What `help` says: each form in a line or two. `say` gives a sentence as it is said."""
+    return "\n".join(_help_line(form, say(says)) for command in COMMANDS for form, says in command.forms)
 
 
 def _help_line(form: str, says: str) -> str:

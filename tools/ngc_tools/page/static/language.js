@@ -3,7 +3,7 @@
 // themselves, as lines of a program and names of files, stands in elements with translate="no", and stays as it is.
 const MOST = 4096;         // answers that are kept
 const LOOKS = 8;           // so many parts of a text are looked for as one at most
-const WEAK = 8;            // a template with fewer letters isn't told from others by them alone
+const WEAK = 8;            // a template of one word with fewer letters isn't told from others by that alone
 const PATIENCE_MS = 3000;
 const ATTRIBUTES = ['aria-label', 'title', 'placeholder', 'alt'];
 const SENTENCES = /(?<=[.?!])\s+(?=[A-Z{(])/;
@@ -28,7 +28,8 @@ class Template {
     const pieces = english.split(/\{(\d+)\}/), literals = pieces.filter((_, i) => i % 2 === 0);
     this.places = pieces.filter((_, i) => i % 2);
     this.translated = translated.split(/\{(\d+)\}/);
-    this.isWeak = (literals.join('').match(/\p{L}/gu)?.length ?? 0) < WEAK;
+    const count = (text, what) => text.match(what)?.length ?? 0;
+    this.isWeak = count(literals.join(''), /\p{L}/gu) < WEAK && count(literals.join('\0'), WORDS) < 2;
     this.size = literals.join('').replace(/\s/g, '').length;
     this.word = (literals.join('\0').match(OWN_WORDS) ?? []).reduce((a, b) => (b.length > a.length ? b : a), '');
     const ends = i => [i ? '' : '^', i === literals.length - 1 ? '$' : ''];
@@ -94,8 +95,6 @@ export class Language {
   }
 
   said(text) {
-    const dated = DATED.exec(text);
-    if (dated) return dated[1] + this.say(dated[2]);
     const whole = this.whole(text);
     if (whole !== null) return text.includes('\n') ? whole : whole.replace(/\s*\n\s*/g, ' ');
     for (const separator of SEPARATORS) if (text.search(separator) >= 0) return this.byParts(text, separator);
@@ -105,14 +104,16 @@ export class Language {
 
   // The translation of a text as one; null where there is none, or, if it has to be sure, by few words alone.
   whole(text, isSure = false) {
-    const plain = line(text), all = variants(plain);
-    for (const [written, end, off] of all) {
-      const said = this.exact.get(written);
-      if (said !== undefined) return asWritten(said, written[0] !== text[0], end, off);
+    const dated = DATED.exec(text), all = variants(text);
+    if (dated) {
+      const said = this.whole(dated[2], isSure);
+      return said && dated[1] + said;
     }
-    for (const [written, end, off] of all) {
-      const said = this.byTemplate(written === plain ? text : written, isSure);
-      if (said !== null) return asWritten(said, written[0] !== text[0], end, off);
+    for (const find of [written => this.exact.get(line(written)) ?? null, written => this.byTemplate(written, isSure)]) {
+      for (const [written, end, off] of all) {
+        const said = find(written);
+        if (said !== null && said.endsWith(off)) return asWritten(said, written[0] !== text[0], end, off);
+      }
     }
     return null;
   }
@@ -131,7 +132,10 @@ export class Language {
   }
 
   // Whether a template with few words of its own would part what isn't known.
-  parts(template, values) { return template.partsProse(values) || !values.every(value => this.isKnown(value)); }
+  parts(template, values) {
+    const isList = values.some(value => /, |\n/.test(value));
+    return isList || template.partsProse(values) || !values.every(value => this.isKnown(value));
+  }
 
   isKnown(text) {
     if (!PROSE.test(text) || this.whole(text.trim(), true) !== null) return true;
@@ -174,14 +178,14 @@ function sentences(english, said) {
 
 // How a text may stand in the catalogue: with what is added to its translation, and what is taken off.
 function variants(text) {
-  const isEnded = /[.:]$/.test(text) && !text.endsWith('..');
+  const isEnded = /[.:;]$/.test(text) && !text.endsWith('..');
   const forms = [[text, '', ''], isEnded ? [text.slice(0, -1), text.at(-1), ''] : [`${text}:`, '', ':']];
   if (!isCapital(text)) return forms;
   return [...forms, ...forms.map(([one, end, off]) => [one[0].toLowerCase() + one.slice(1), end, off])];
 }
 
 function asWritten(said, isRaised, end, off) {
-  const own = off && said.endsWith(off) ? said.slice(0, -off.length) : said;
+  const own = said.slice(0, said.length - off.length);
   return (isRaised ? own.charAt(0).toUpperCase() + own.slice(1) : own) + end;
 }
 
