@@ -129,9 +129,9 @@ class Language:
         if dated:
             said = self._whole(dated[2], is_sure)
             return said and dated[1] + said
-        variants = _variants(text)
-        for find in (lambda written: self._exact.get(_line(written)), lambda written: self._by_template(written, is_sure)):
-            for written, end, off in variants:
+        finders = (lambda one: self._exact.get(_line(one)), lambda one: self._by_template(one, is_sure))
+        for find in finders:
+            for written, end, off in _variants(text):
                 said = find(written)
                 if said is not None and said.endswith(off):
                     return _as_written(said.removesuffix(off), written[:1] != text[:1], end)

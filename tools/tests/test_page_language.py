@@ -35,8 +35,8 @@ WIZARD = """(async () => {
     const state = { ...ngc.state, half: 'program', half_opened: 1, half_text: 'G1 X1 F100 (done)', segment: 3,
       given_back: ['block delete'], not_given_back: ['feed 80 %'], past: 'It may be 20 ms and a sync old: they make at'
         + ' most 3 lines of OUT, 0.1 mm, in 25 ms', past_mm: '0.1', left_at: ngc.state.now - 60 };
-    const approach = { from: ['0', '0', '0'], to: ['1', '0', '-1'], length: '1.4', lowest: '-1', rate: 'the traverse rate',
-      time: '1.0 s', warnings: ['It goes DOWN 1.000 mm, to Z -1.000, at the traverse rate.'] };
+    const approach = { from: ['0', '0', '0'], to: ['1', '0', '-1'], length: '1.4', lowest: '-1', time: '1.0 s',
+      rate: 'the traverse rate', warnings: ['It goes DOWN 1.000 mm, to Z -1.000, at the traverse rate.'] };
     const plan = { lines: ['half-done: line 3: G1 X1', 'segment 3, counted from 0: X 1.000 Y 0.000 Z 0.000'], approach,
       comes_on: 'the spindle, clockwise at 1000', rest_us: 1e6, begins: ['1', '0', '-1'], refused: '' };
     window.wizard = new Recovery({ ...ngc, state }, async () => plan, { since: () => [] });

@@ -86,7 +86,8 @@ class Said(unittest.TestCase):
         """Which language that names."""
         for given, name in (({}, "en"), ({"LANG": "de_DE.UTF-8"}, "de"), ({"LANG": "de"}, "de"), ({"LANG": "C"}, "en"),
                             ({"LANG": "de_AT@euro", "LC_ALL": "C.UTF-8"}, "en"), ({"LANG": "xx_XX"}, "en"),
-                            ({"LANG": "en_GB.UTF-8", "LC_MESSAGES": "de_DE"}, "de"), ({"LC_ALL": "", "LANG": "de"}, "de")):
+                            ({"LANG": "en_GB.UTF-8", "LC_MESSAGES": "de_DE"}, "de"),
+                            ({"LC_ALL": "", "LANG": "de"}, "de")):
             self.assertEqual(of_environment(given), name, given)
 
 

@@ -302,8 +302,8 @@ _UNREAD = (
     r"import sys;.*", r"%Y.*", r"@\.@\..*", r"@:@ (min|mm).*", r"/proc/.*", r"texts\?.*", r"script, style",
     # commands, of ngc, the player and the console
     r"(mdi|anyway mdi|refused|tick|reference|single|units|resume|percent|switch|along|measures|jog|zero|touch) @",
-    r"delete on", r"waits spindle", r"ticks \d+", r"restore types: @", r"mdi [GT].*", r"tick \d+", r".*refused [A-Z]\d.*",
-    r"zero X Y Z", r"ngc-.* arc", r"(load|mdi|tool|tick|reference) ([A-Z]|LINE|G0 X1|X Y Z|[-\d. ]+)",
+    r"delete on", r"waits spindle", r"ticks \d+", r"restore types: @", r"mdi [GT].*", r"tick \d+", r"zero X Y Z",
+    r".*refused [A-Z]\d.*", r"ngc-.* arc", r"(load|mdi|tool|tick|reference) ([A-Z]|LINE|G0 X1|X Y Z|[-\d. ]+)",
     r"(along|straight|legs|jog|@) @ (@ )?(@ )?(feed|within|for|anyway) @", r"(legs|tool) @ @( @)?",
     r"reference (@ anyway|player)", r"(optional|delete) (on|off)", r"(measures|single|optional|delete) on, off",
     r"(load FILE|percent N|from N|tool N LENGTH|macro NAME|units in|touch tool N|probe edge X\+|spindle percent N)",
@@ -312,12 +312,13 @@ _UNREAD = (
     # lines of G-code, of files
     r"M0 \(look.*", r"\(ngc: .*", r"ngc begins here", r"angle_deg.*", r"\[T@\]\n.*", r"# The shapes.*", r"[TFGS]?@",
     r"works\|.*", r".*(\[ \\t|\)\?\[).*")
-ALSO = ("idle", "stopped", "running", "segment", "there", "limit", f"limit {PLACE} low", f"limit {PLACE} high",
-        f"feed {PLACE} %", f"done {PLACE}", f"message, {PLACE}", f"comment, {PLACE}", f"Adapted, still {PLACE}", f"{PLACE} hold", f"{PLACE} holds",
-        f"{PLACE} stop", f"{PLACE} stops")
-"""What ngc answers, and what is put together of strings that are no texts by themselves."""
 NOT_TEXTS = re.compile("|".join(_UNREAD).replace("@", r"\{\d+\}"), re.DOTALL)
 """What isn't for people though it reads so; @ is a place."""
+ALSO = (
+    "idle", "stopped", "running", "segment", "there", "limit", f"limit {PLACE} low", f"limit {PLACE} high",
+    f"feed {PLACE} %", f"done {PLACE}", f"message, {PLACE}", f"comment, {PLACE}", f"Adapted, still {PLACE}",
+    f"{PLACE} hold", f"{PLACE} holds", f"{PLACE} stop", f"{PLACE} stops")
+"""What ngc answers, and what is put together of strings that are no texts by themselves."""
 
 
 def quoted(text: str) -> str:

@@ -5,22 +5,26 @@ from itertools import product
 
 PLACE = "\0"
 MOST = 24
-_TOKEN = re.compile(r"""//[^\n]*|/\*.*?\*/|\s+|'(?:[^'\\\n]|\\.)*'|"(?:[^"\\\n]|\\.)*"|[A-Za-z_$][\w$]*|[0-9][\w.]*"""
-                    r"""|===|!==|=>|&&|\|\||\?\?|\?\.|\.\.\.|[-+*/%&|^!<>=]=|.""", re.DOTALL)
+_TOKEN = re.compile(
+    r"""//[^\n]*|/\*.*?\*/|\s+|'(?:[^'\\\n]|\\.)*'|"(?:[^"\\\n]|\\.)*"|[A-Za-z_$][\w$]*|[0-9][\w.]*"""
+    r"""|===|!==|=>|&&|\|\||\?\?|\?\.|\.\.\.|[-+*/%&|^!<>=]=|.""", re.DOTALL)
 _REGEX = re.compile(r"/(?:[^/\\\n\[]|\\.|\[(?:[^\]\\\n]|\\.)*\])+/[a-z]*")
 _BEFORE_REGEX = set("(,=:[!&|?{};+-*%<>") | {"return", "=>", "&&", "||", "===", "!==", "??"}
 UNREAD_KEYS = {
-    "class", "role", "inputMode", "type", "d", "viewBox", "transform", "id", "fill", "autocomplete", "colour", "name", "kind",
-    "mode", "method", "tag", "key", "what", "how", "spellcheck", "step", "translate", "passive", "stroke", "axis", "tip"}
+    "class", "role", "inputMode", "type", "d", "viewBox", "transform", "id", "fill", "autocomplete", "colour",
+    "name", "kind", "mode", "method", "tag", "key", "what", "how", "spellcheck", "step", "translate", "passive",
+    "stroke", "axis", "tip"}
 UNREAD_CALLS = {
-    "$", "querySelector", "querySelectorAll", "closest", "matches", "addEventListener", "setAttribute", "el", "made", "get",
-    "removeEventListener", "getAttribute", "asks", "fetch", "post", "startsWith", "endsWith", "includes", "split", "join",
-    "replace", "replaceAll", "padStart", "getContext", "createElement", "createElementNS", "Worker", "URL", "request",
-    "toLocaleString", "hasAttribute", "removeAttribute", "getPropertyValue"}
-UNREAD_METHODS = {"add", "remove", "toggle", "contains", "get", "has", "set"}
+    "$", "querySelector", "querySelectorAll", "closest", "matches", "addEventListener", "setAttribute", "el",
+    "made", "get", "removeEventListener", "getAttribute", "asks", "fetch", "post", "startsWith", "endsWith",
+    "includes", "split", "join", "replace", "replaceAll", "padStart", "getContext", "createElement",
+    "createElementNS", "Worker", "URL", "request", "toLocaleString", "hasAttribute", "removeAttribute",
+    "getPropertyValue"}
+UNREAD_METHODS = {
+    "add", "remove", "toggle", "contains", "get", "has", "set"}
 UNREAD_PROPERTIES = {
-    "className", "href", "src", "type", "font", "fillStyle", "strokeStyle", "textAlign", "method", "textBaseline", "lineCap",
-    "lineJoin", "cursor", "left", "top", "width", "height", "binaryType", "TYPED"}
+    "className", "href", "src", "type", "font", "fillStyle", "strokeStyle", "textAlign", "method", "textBaseline",
+    "lineCap", "lineJoin", "cursor", "left", "top", "width", "height", "binaryType", "TYPED"}
 WORDS = {"done", "left", "cut", "stands", "machine", "motors", "none", "off", "less", "more", "spindle", "coolant",
          "mist", "flood"}
 _WORD = re.compile(r"[A-Za-z][a-z'\u2019-]+")

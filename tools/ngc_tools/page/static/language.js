@@ -105,11 +105,12 @@ export class Language {
   // The translation of a text as one; null where there is none, or, if it has to be sure, by few words alone.
   whole(text, isSure = false) {
     const dated = DATED.exec(text), all = variants(text);
+    const finders = [one => this.exact.get(line(one)) ?? null, one => this.byTemplate(one, isSure)];
     if (dated) {
       const said = this.whole(dated[2], isSure);
       return said && dated[1] + said;
     }
-    for (const find of [written => this.exact.get(line(written)) ?? null, written => this.byTemplate(written, isSure)]) {
+    for (const find of finders) {
       for (const [written, end, off] of all) {
         const said = find(written);
         if (said !== null && said.endsWith(off)) return asWritten(said, written[0] !== text[0], end, off);
