@@ -17,6 +17,7 @@ _PLACE = re.compile(r"\{(\d+)\}")
 _SENTENCES = re.compile(r"(?<=[.?!])\s+(?=[A-Z{(])")
 _SEPARATORS = tuple(map(re.compile, (r"\n", r"\s{2,}", r"(?<=[.?!])\s+", r"(?<=;)\s+", r"(?<=:)\s+")))
 _LISTED = tuple(map(re.compile, (r",\s+", r"\s+and\s+")))
+_MANY = re.compile(r", |\n")
 _WORD = re.compile(r"[A-Za-z]{2,}")
 _OWN_WORD = re.compile(r"(?<![A-Za-z0-9\0])[A-Za-z]{2,}(?![A-Za-z0-9\0])")
 _PROSE = re.compile(r"(?:^|\s)[A-Za-z][a-z]{2,}[,;:.]?\s+(?:\S+\s+)*[A-Za-z][a-z]{2,}[.,;:?!]?(?:\s|$)")
@@ -148,7 +149,7 @@ class Language:
 
     def _parts(self, template: Template, values: Sequence[str]) -> bool:
         """Whether a template with few words of its own would part what isn't known."""
-        is_list = any(", " in value or "\n" in value for value in values)
+        is_list = any(_MANY.search(value) and self._whole(value, is_sure=True) is None for value in values)
         return is_list or template.parts_prose(values) or not all(map(self._is_known, values))
 
     def _is_known(self, text: str) -> bool:

@@ -134,7 +134,7 @@ export class Language {
 
   // Whether a template with few words of its own would part what isn't known.
   parts(template, values) {
-    const isList = values.some(value => /, |\n/.test(value));
+    const isList = values.some(value => /, |\n/.test(value) && this.whole(value, true) === null);
     return isList || template.partsProse(values) || !values.every(value => this.isKnown(value));
   }
 
