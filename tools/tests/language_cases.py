@@ -65,11 +65,12 @@ CASES = {
     "spindle stands; no coolant; no tool in the spindle":
         "Spindel steht; kein K\u00fchlmittel; kein Werkzeug in der Spindel",
     "a line of yours runs: hold first": "eine eigene Zeile l\u00e4uft: zuerst hold",
-    "idle; X 1.000000 Y 0.000000 Z 0.000000": "bereit; X 1.000000 Y 0.000000 Z 0.000000",
+    "idle; X 1.000000 Y 0.000000 Z 0.000000": "in Ruhe; X 1.000000 Y 0.000000 Z 0.000000",
     "in force now: G20 (G21 before), F100 mm/min (F0 mm/min before)":
         "jetzt wirksam: G20 (vorher G21), F100 mm/min (vorher F0 mm/min)",
     "2026-11-29 22:00:26 +0000 loaded 44 bytes, mark 8c0bf9cc: part.ngc":
         "2026-11-29 22:00:26 +0000 geladen 44 Bytes, Kennung 8c0bf9cc: part.ngc",
+    "Flood M8": "Flut M8",
     "message, line 5": "Meldung, Zeile 5",
     "line 12: G1 X10 F100": "Zeile 12: G1 X10 F100",
     "G1 X1 Q2": "G1 X1 Q2",

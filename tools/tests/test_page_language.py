@@ -48,8 +48,8 @@ OWN = {"ngc", "split", "adapt", "out", "arc", "yes", "run", "load", "recover"}
 
 
 def words_of(text: str) -> set[str]:
-    """The words of a text that are written small."""
-    return set(re.findall(r"(?<![A-Za-z.'\u2019-])[a-z]{2,}(?![A-Za-z-]|\.\w)", text))
+    """The words of a text, written small; those of one letter or in large letters are codes."""
+    return {one.lower() for one in re.findall(r"(?<![A-Za-z.'\u2019-])[A-Za-z][a-z]+(?![A-Za-z-]|\.\w)", text)}
 
 
 def english_words() -> set[str]:
@@ -89,10 +89,39 @@ class German(test_page_browser.Moves):
 
     def test_tabs(self) -> None:
         """Each tab, and what stands beside them."""
-        for name in ("Einrichten", "Werkzeuge", "Meldungen", "Programm"):
+        for name in ("R\u00fcsten", "Werkzeuge", "Log", "Programm"):
             self.browser.press(name, "nav button")
             self.is_german(name)
         self.no_complaints()
+
+    def test_sizes(self) -> None:
+        """In each size all is in the window, large enough and whole, as in English."""
+        for name in ("R\u00fcsten", "Werkzeuge", "Log", "Programm"):
+            self.browser.press(name, "nav button")
+            self.look(name)
+
+    def test_run(self) -> None:
+        """Run and Hold do what they do, and the band says it in German."""
+        browser = self.browser
+        self.load("G17 G21 G90 G94\nG1 X50 F60\nX0\nM2\n", 4)
+        self.is_german("a program")
+        browser.press("Start", "#run")
+        browser.wait("ngc.state.word === 'Running'")
+        self.is_german("it runs")
+        self.assertEqual(browser.js("document.getElementById('word').textContent"), "L\u00e4uft")
+        self.machine.is_held = True
+        browser.press("Halt", "#hold")
+        browser.wait("ngc.state.does === 'held' && !ngc.state.busy")
+        self.is_german("it is held")
+        self.assertEqual(browser.js("document.getElementById('word').textContent"), "Angehalten")
+        self.no_complaints()
+
+    def load(self, text: str, count: int) -> None:
+        """Loads a program of so many lines, by the German button."""
+        self.choose(text)
+        self.browser.wait("ngc.preview?.count")
+        self.browser.press("Laden", "#over .go")
+        self.browser.wait(f"ngc.state.program.lines === {count} && ngc.job && !ngc.state.busy")
 
     def test_offsets(self) -> None:
         """The offsets, each of them chosen."""
@@ -131,7 +160,7 @@ class German(test_page_browser.Moves):
         browser.press("Ausf\u00fchren", "#do")
         browser.wait("document.querySelector('#toast p')")
         self.is_german("a refusal")
-        browser.press("Meldungen", "nav button")
+        browser.press("Log", "nav button")
         self.is_german("what was said")
         self.no_complaints()
 
@@ -151,7 +180,7 @@ class German(test_page_browser.Moves):
         browser.wait("document.querySelector('#over .warn')")
         self.is_german("the stock")
         browser.press("Zur\u00fcck", "#over button")
-        browser.press("Meldungen", "nav button")
+        browser.press("Log", "nav button")
         browser.press("Liste der L\u00e4ufe", "#runs")
         browser.wait("document.querySelector('#over pre')")
         self.is_german("the record")
@@ -181,7 +210,7 @@ class German(test_page_browser.Moves):
     def test_jog(self) -> None:
         """A jog, and a hold of it: what is touched does the same; the band says it in German."""
         browser = self.browser
-        browser.press("Alle referenzieren", "#tab-setup button")
+        browser.press("Ref. alle", "#tab-setup button")
         browser.wait("ngc.state.homed === 'XYZ' && !ngc.state.busy")
         self.is_german("homed")
         x, y = browser.place("X+", ".pad button")

@@ -317,7 +317,8 @@ NOT_TEXTS = re.compile("|".join(_UNREAD).replace("@", r"\{\d+\}"), re.DOTALL)
 ALSO = (
     "idle", "stopped", "running", "segment", "there", "limit", f"limit {PLACE} low", f"limit {PLACE} high",
     f"feed {PLACE} %", f"done {PLACE}", f"message, {PLACE}", f"comment, {PLACE}", f"Adapted, still {PLACE}",
-    f"{PLACE} hold", f"{PLACE} holds", f"{PLACE} stop", f"{PLACE} stops")
+    f"{PLACE} hold", f"{PLACE} holds", f"{PLACE} stop", f"{PLACE} stops", f"Clockwise {PLACE}", f"Reverse {PLACE}",
+    f"Off {PLACE}", f"Flood {PLACE}", f"Mist {PLACE}")
 """What ngc answers, and what is put together of strings that are no texts by themselves."""
 
 
