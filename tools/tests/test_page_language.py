@@ -100,29 +100,6 @@ class German(test_page_browser.Moves):
             self.browser.press(name, "nav button")
             self.look(name)
 
-    def test_run(self) -> None:
-        """Run and Hold do what they do, and the band says it in German."""
-        browser = self.browser
-        self.load("G17 G21 G90 G94\nG1 X50 F60\nX0\nM2\n", 4)
-        self.is_german("a program")
-        browser.press("Start", "#run")
-        browser.wait("ngc.state.word === 'Running'")
-        self.is_german("it runs")
-        self.assertEqual(browser.js("document.getElementById('word').textContent"), "L\u00e4uft")
-        self.machine.is_held = True
-        browser.press("Halt", "#hold")
-        browser.wait("ngc.state.does === 'held' && !ngc.state.busy")
-        self.is_german("it is held")
-        self.assertEqual(browser.js("document.getElementById('word').textContent"), "Angehalten")
-        self.no_complaints()
-
-    def load(self, text: str, count: int) -> None:
-        """Loads a program of so many lines, by the German button."""
-        self.choose(text)
-        self.browser.wait("ngc.preview?.count")
-        self.browser.press("Laden", "#over .go")
-        self.browser.wait(f"ngc.state.program.lines === {count} && ngc.job && !ngc.state.busy")
-
     def test_offsets(self) -> None:
         """The offsets, each of them chosen."""
         browser = self.browser
@@ -213,6 +190,7 @@ class German(test_page_browser.Moves):
         browser.press("Ref. alle", "#tab-setup button")
         browser.wait("ngc.state.homed === 'XYZ' && !ngc.state.busy")
         self.is_german("homed")
+        browser.wait("ngc.state.can.jog && !document.querySelector('.pad .right').matches(':disabled, [inert] *')")
         x, y = browser.place("X+", ".pad button")
         browser.down(x, y)
         self.wait_for("it goes on while the finger is down", lambda: self.jogs() > 3)
