@@ -330,9 +330,9 @@ class Misbehaves(OverBodies):
         """A routine ends with that cause, and asks for no zero; nothing went beyond what was said before the yes."""
         box = self.begins(title, within)
         self.rests()
-        self.browser.wait(f"document.getElementById('toast').textContent.includes({json.dumps(why)})")
         for axis, (low, high) in enumerate(box):
             self.assertTrue(low <= self.axes.least[axis] <= self.axes.greatest[axis] <= high, (title, axis))
+        self.browser.wait(f"document.getElementById('toast').textContent.includes({json.dumps(why)})")
         self.shows("T12.000 mm", (0, 0, 0), 2)
 
     def begins(self, title: str, within: float) -> list[tuple[int, int]]:
@@ -433,9 +433,9 @@ class Setter(OverBodies):
         waits for Continue."""
         named = self.agrees()
         self.rests("s.does === 'stopped'")
-        self.browser.wait(f"document.getElementById('toast').textContent.includes({json.dumps(why)})")
         for axis, least, greatest in zip("XYZ", self.axes.least, self.axes.greatest):
             self.assertTrue(min(named[axis]) <= least <= greatest <= max(named[axis]), (why, axis, least, greatest))
+        self.browser.wait(f"document.getElementById('toast').textContent.includes({json.dumps(why)})")
         self.shows("T23.000 mm")
         self.assertEqual(self.browser.js("[ngc.state.line, document.getElementById('run').textContent]"),
                          [4, "Continue"])
