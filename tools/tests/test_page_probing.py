@@ -230,9 +230,10 @@ class Mill(SocketMachine):
         os.close(self.pipe)
 
 
-def shown(nm: float) -> str:
-    """A length in mm, as the page shows it."""
-    return f"{round(nm / MM, 3) + 0.0:.3f}".replace("-", "\u2212")
+def shown(nm: float, is_inch: bool) -> str:
+    """A length, as the page shows it."""
+    of, digits = (25.4 * MM, 4) if is_inch else (MM, 3)
+    return f"{round(nm / of, digits) + 0.0:.{digits}f}".replace("-", "\u2212")
 
 
 class OverBodies(test_page_browser.InBrowser):
@@ -271,20 +272,24 @@ class OverBodies(test_page_browser.InBrowser):
 
     def do(self, line: str) -> None:
         """Types a line of G-code."""
-        entries = self.browser.js("ngc.state.entries")
         self.browser.fill("#line", line)
-        self.browser.press("Do", "#do")
+        self.press("Do", "#do")
+
+    def press(self, says: str, within: str) -> None:
+        """Touches a button that does lines of G-code, and waits until that is done."""
+        entries = self.browser.js("ngc.state.entries")
+        self.browser.press(says, within)
         self.rests(f"s.entries > {entries}")
 
     def asked(self) -> str:
         """What the page asks."""
         return str(self.browser.wait("ngc.state.question && document.querySelector('#over .asked')?.textContent"))
 
-    def shows(self, tool: str = "", zero: tuple[float, ...] = (0, 0, 0), length: float = 0) -> None:
+    def shows(self, tool: str, zero: tuple[float, ...] = (0, 0, 0), length: float = 0, is_inch: bool = False) -> None:
         """The page shows where the axes of the machine are, in machine coordinates, and of the work, by this zero and
         this length in force, in mm; and this tool."""
-        zero = (*zero[:2], zero[2] + length)
-        axes = [[shown(nm - origin * MM), shown(nm), shown(nm)] for nm, origin in zip(self.axes.at_nm, zero)]
+        of_work = [nm - origin * MM for nm, origin in zip(self.axes.at_nm, (*zero[:2], zero[2] + length))]
+        axes = [[shown(each, is_inch) for each in (mine, nm, nm)] for mine, nm in zip(of_work, self.axes.at_nm)]
         wanted = json.dumps([axes, tool], ensure_ascii=False, separators=(",", ":"))
         self.browser.wait(f"{self.SHOWN} === {json.dumps(wanted)}")
 
