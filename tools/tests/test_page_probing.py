@@ -374,6 +374,7 @@ class Setter(OverBodies):
         browser, axes = self.browser, self.axes
         axes.ends, axes.boxes = {2: (4 * MM, 0)}, [beside(2 * MM)]
         self.load(JOB, JOB.count("\n"))
+        self.do("G0 X0")  # a line of one's own before the program isn't what is asked about behind its change
         browser.press("Run", "#run")
         browser.press("Tool 2 is in", "#run")
         self.refused("the probe isn't touched within 6.000000 mm: nothing more moves")
