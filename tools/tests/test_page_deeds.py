@@ -24,8 +24,10 @@ Y0
 G0 Z5
 M2
 """
+"""Its line 6 goes along Y, within the work."""
 PRESSES = 50
 GAUGES = "[...document.querySelectorAll('#gauges dd')].slice(1, 3).map(one => one.textContent).join()"
+"""Of spindle and coolant."""
 
 
 class Deeds(OverBodies):
@@ -53,7 +55,7 @@ class Deeds(OverBodies):
     def is_at(self, *at_mm: float, zero: tuple[float, ...] = (0, 0, 0), is_inch: bool = False) -> None:
         """The axes are there, and so the page says."""
         self.assertEqual(self.axes.at_nm, [round(mm * MM) for mm in at_mm])
-        self.shows("none", zero, is_inch=is_inch)
+        self.shows("", zero, is_inch=is_inch)
 
     def homes(self) -> None:
         """All axes."""
@@ -92,8 +94,8 @@ class Deeds(OverBodies):
         browser.press("0.1", ".jog .choices button")
         browser.press("By keys", "#tab-setup button")
         for _ in range(PRESSES if isinstance(browser, Chromium) else 0):
-            for kind in ("rawKeyDown", "keyUp"):
-                browser.key(kind, "ArrowRight")
+            browser.key("rawKeyDown", "ArrowRight")
+            browser.key("keyUp", "ArrowRight")
             if browser.js(SOON % "ngc.state.motors[0] > -8"):
                 break
         self.rests()

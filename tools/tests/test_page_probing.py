@@ -26,6 +26,9 @@ from ngc_tools.operator.routines import ROUTINES
 PROBED = "[setter]\nprobe_tool = 1\nprobe_radius_um = 500\nfast_mm_min = 600\nslow_mm_min = 60\n"
 MILL = "[motion]\naccel_mm_s2 = [500, 500, 300]\n[inputs]\nprobe = 6\n" + PROBED
 MILL += "height_um = -5000\nat_um = [8000, 6000, 8000]\n"
+MM = 1_000_000  # nm
+REST_NM = 20_000
+"""How far the axes of `TouchingAxes` go on once something is touched."""
 TITLES = {"edge": "Edge", "outside": "Outside corner", "inside": "Inside corner", "surface": "Surface", "bore": "Bore",
           "boss": "Boss", "pocket": "Pocket", "web": "Web"}
 
@@ -95,11 +98,6 @@ class Sheets(test_page_browser.Moves):
         self.assertTrue(says.startswith("no tool is in the spindle, by its last M6, and the probe is tool 1"), says)
         self.assertEqual(self.machine.axes.words, [])
         self.no_complaints()
-
-
-REST_NM = 20_000
-"""How far the axes of `TouchingAxes` go on once something is touched."""
-MM = 1_000_000
 
 
 class TouchingAxes(Axes):
@@ -285,9 +283,10 @@ class OverBodies(test_page_browser.InBrowser):
         """What the page asks."""
         return str(self.browser.wait("ngc.state.question && document.querySelector('#over .asked')?.textContent"))
 
-    def shows(self, tool: str, zero: tuple[float, ...] = (0, 0, 0), length: float = 0, is_inch: bool = False) -> None:
+    def shows(self, has: str, zero: tuple[float, ...] = (0, 0, 0), length: float = 0, is_inch: bool = False) -> None:
         """The page shows where the axes of the machine are, in machine coordinates, and of the work, by this zero and
-        this length in force, in mm; and this tool."""
+        this length in force, in mm; and the tool in the spindle, which has that length."""
+        tool = f"T{self.axes.slot}{has} mm" if self.axes.slot else "none"
         of_work = [nm - origin * MM for nm, origin in zip(self.axes.at_nm, (*zero[:2], zero[2] + length))]
         axes = [[shown(each, is_inch) for each in (mine, nm, nm)] for mine, nm in zip(of_work, self.axes.at_nm)]
         wanted = json.dumps([axes, tool], ensure_ascii=False, separators=(",", ":"))
@@ -328,7 +327,7 @@ class Misbehaves(OverBodies):
         self.assertIn("machine X5", self.asked())
         self.browser.press("Yes: makes it", "#over .go")
         self.rests("Number(s.origin[0]) === 5")
-        self.shows("T12.000 mm", (5, 0, 0), 2)
+        self.shows("2.000", (5, 0, 0), 2)
         self.no_complaints()
 
     def refused(self, title: str, within: float, why: str) -> None:
@@ -338,7 +337,7 @@ class Misbehaves(OverBodies):
         for axis, (low, high) in enumerate(box):
             self.assertTrue(low <= self.axes.least[axis] <= self.axes.greatest[axis] <= high, (title, axis))
         self.browser.wait(f"document.getElementById('toast').textContent.includes({json.dumps(why)})")
-        self.shows("T12.000 mm", (0, 0, 0), 2)
+        self.shows("2.000", (0, 0, 0), 2)
 
     def begins(self, title: str, within: float) -> list[tuple[int, int]]:
         """Asks for a routine, and agrees: within which machine coordinates the page said that it moves, in nm."""
@@ -393,11 +392,11 @@ class Setter(OverBodies):
         self.measures()
         self.agrees()
         self.rests("Number(s.tools[1]) === 4")
-        self.shows("T24.000 mm")
+        self.shows("4.000")
         self.continues()
         self.rests("s.finished")
         self.assertEqual(axes.at_nm, [2 * MM, 0, 5 * MM])
-        self.shows("T24.000 mm", length=4)
+        self.shows("4.000", length=4)
         self.no_complaints()
 
     def continues(self) -> None:
@@ -442,7 +441,7 @@ class Setter(OverBodies):
         for axis, least, greatest in zip("XYZ", self.axes.least, self.axes.greatest):
             self.assertTrue(min(named[axis]) <= least <= greatest <= max(named[axis]), (why, axis, least, greatest))
         self.browser.wait(f"document.getElementById('toast').textContent.includes({json.dumps(why)})")
-        self.shows("T23.000 mm")
+        self.shows("3.000")
         self.assertEqual(self.browser.js("[ngc.state.line, document.getElementById('run').textContent]"),
                          [4, "Continue"])
 
