@@ -367,9 +367,9 @@ class Setter(OverBodies):
         Path("mill.dev.measure").write_text('{"down_nm": 2000000, "within_nm": 6000000}')
 
     def test_setter(self) -> None:
-        """One that is missed at a tool change, and a tool that is much longer than the table says, which touches on the
-        way over or down: it stops at what was said, or there; the length stays, and the job waits. Once all is well it
-        is measured, and the job goes on."""
+        """One that is missed at a tool change, a tool that is much longer than the table says, which touches on the way
+        over or down, and one whose setter is on at first: it stops at what was said, or there; the length stays, and
+        the job waits. Once all is well it is measured, and the job goes on."""
         browser, axes = self.browser, self.axes
         axes.ends, axes.boxes = {2: (4 * MM, 0)}, [beside(2 * MM)]
         self.load(JOB, JOB.count("\n"))
@@ -388,7 +388,11 @@ class Setter(OverBodies):
             self.assertEqual((axes.at_nm, axes.greatest, axes.least[2]), (stops, [*stops[:2], 8 * MM], stops[2]))
         self.goes_back()
         self.do("G53 G0 Z0")
-        axes.ends = {2: (4 * MM, 0)}
+        axes.ends, axes.is_stuck = {2: (4 * MM, 0)}, True
+        self.measures()
+        self.refused("the probe is on before it moves, and nothing may touch it: nothing moves")
+        self.assertEqual(axes.least, axes.greatest)
+        axes.is_stuck = False
         self.measures()
         self.agrees()
         self.rests("Number(s.tools[1]) === 4")
