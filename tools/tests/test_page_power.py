@@ -102,7 +102,7 @@ class Finished(unittest.TestCase):
             self.assertEqual([move.points for move in finished(moves, lost)], points, lost)
 
 
-# A disk of OUT that is full while the file `full` is there, for `ngc` alone, behind one byte more.
+# The disk of FILE is full while the file `full` is there, for `ngc` alone, behind one byte more.
 FULL = r"""#define _GNU_SOURCE
 #include <dlfcn.h>
 #include <errno.h>
@@ -115,7 +115,7 @@ ssize_t write(int file, const void *text, size_t size) {
     struct stat what, out;
     ssize_t (*real)(int, const void *, size_t) = dlsym(RTLD_NEXT, "write");
     if (strcmp(program_invocation_short_name, "ngc") != 0 || access("full", F_OK) != 0 || fstat(file, &what) != 0
-        || stat("out", &out) != 0 || what.st_ino != out.st_ino) {
+        || stat("FILE", &out) != 0 || what.st_ino != out.st_ino) {
         return real(file, text, size);
     }
     is_full++;
@@ -132,23 +132,51 @@ int statvfs64(const char *path, struct statvfs64 *found) {
 
 
 class FullDisk(InFolder):
-    """OUT's disk is full in the midst of a job: it is named, and once there is room again the page's button leads on,
-    with the player that goes on."""
+    """A disk is full in the midst of a job: it is named, and once there is room again the page's button leads on, with
+    the player that goes on."""
 
-    def test_full(self) -> None:
-        """400 pulses on, and 300 back. The pins got each of them once in the end, but for what is gone back over."""
+    def begin(self, file: str) -> tuple[Page, subprocess.Popen]:
+        """A page, and the player, where the disk of a file gets full."""
         self.device()
         Path("out").touch()
         words = (*("--follow", "--untimed", "--no-ask-tool", "--pins", "pins", "--progress", "progress"), "out",
                  "first.toml", "position")
         player = self.started(built("-O2"), *words)
         self.wait_for("the player listens", lambda: os.path.exists("progress"))
-        with patch.dict(os.environ, preloaded("disk", FULL)):
+        with patch.dict(os.environ, preloaded("disk", FULL.replace("FILE", file))):
             server = self.start("ngc-page", "mill.dev", "first.toml", "out", "--player", "progress", "--ngc", ngc(),
                                 "--listen", "127.0.0.1:0")
         page = Page(server.stdout.readline().strip())
         self.addCleanup(page.close)
         page.rested()
+        return page, player
+
+    def test_device(self) -> None:
+        """The device's: nothing is handed out that it doesn't have, and the program goes on where it stopped. The pins
+        got each pulse once."""
+        page, player = self.begin("mill.dev")
+        found = page.post("check", b"G21 G90 G94\nG1 X0.2 F600\nM0\nX0.5\nM2\n", X_Name="part.ngc",
+                          Content_Type="application/octet-stream")[1]
+        self.assertEqual(page.post("load", {"id": found["id"]}), (200, {"taken": True}))
+        page.post("run")
+        page.until("it stops", lambda state: state["does"] == "stopped" and not state["busy"])
+        Path("full").touch()
+        page.post("run")
+        page.until("it is told", lambda state: state["word"] == "Device failed" and not state["busy"])
+        self.assertEqual(Path("out").read_bytes().count(b"P "), 200)
+        os.unlink("full")
+        self.assertEqual(page.post("restart"), (200, {}))
+        state = page.until("another session goes on", lambda state: not state["ended"] and not state["busy"])
+        self.assertEqual((state["motors"][0], state["half"], player.poll()), ("0.200000", "none", None))
+        self.assertEqual(page.post("run"), (200, {}))
+        page.until("it is through", lambda state: state["finished"] and state["motors"][0] == "0.500000")
+        self.assertEqual(Path("pins").read_text().count("P 1 0 0 "), 500)
+        self.assertEqual(Path("out").read_bytes().count(b"P "), 500)
+
+    def test_full(self) -> None:
+        """OUT's: 400 pulses on, and 300 back. The pins got each of them once in the end, but for what is gone back
+        over."""
+        page, player = self.begin("out")
         page.post("mdi", {"line": "G0 X0.4"})
         page.until("it is there", lambda state: state["motors"][0] == "0.400000" and not state["busy"])
         Path("full").touch()

@@ -29,7 +29,7 @@ sys.path.insert(0, str(Path(__file__).resolve().parent))
 from browser_support import ANSWERS_S, Failed, chromium
 from session_support import PATIENCE_S, memory
 from walk_late import Lateness
-from walk_machine import Bench
+from walk_machine import JOBS, Bench
 from walk_page import Seen, Tabs
 from walk_rules import Judge, Truth, Wrong, changes, motors_of, number, within_of
 
@@ -73,7 +73,7 @@ def _probed(routine: str, *lines: str, entries: tuple[Step, ...] = ()) -> tuple[
     """The probe goes into the spindle, and where these lines lead; there a routine begins."""
     return (("type", "T1 M6"), ("touch", "Tool 1 is in"), *_typed("G43 H1", "M5", "G53 G0 Z4", *lines),
             ("touch", "Setup"), ("touch", "Probe the work\u2026 @Seek the probe"), ("touch", routine), *entries,
-            ("touch", "Probe"), ("touch", "Yes: begins"), ("wait", "5.0"), ("wait", "5.0"))
+            ("touch", "Probe"), ("touch", "Yes: begins"), *[("wait", "5.0")] * 4)
 
 
 ROUTINES = (
@@ -85,9 +85,23 @@ ROUTINES = (
      ("touch", "Measure tool 2\u2026 @Touch off a tool"), ("touch", "Yes: measures"), *[("wait", "5.0")] * 4))
 """The steps by which a routine of the probe, or a measure, begins, and some of its time; a button with a picture is
 named by its axes too. What comes of it is by chance."""
+DAILY = (
+    (("touch", "Setup"), ("touch", "By keys or gamepad"), ("key", "ArrowRight", "0.5"), ("key", "PageUp", "0.3"),
+     ("key", "ArrowDown", "0.8"), ("touch", "0.1"), ("key", "z", "0.1"), ("key", "+", "0.1"), ("key", "-", "0.1")),
+    (("touch", "Setup"), ("touch", "Offsets\u2026 @Work zero"), ("fill", "G54 X, in mm", "2.5"), ("touch", "Set G54"),
+     ("wait", "0.5"), ("touch", "Back")),
+    (("load", "0"), ("touch", "Load"), ("wait", "0.5"), ("touch", "Program"), ("row", "7"),
+     ("touch", "From line 7\u2026"), ("wait", "1.0"), ("fill", "Answer", "4"), ("touch", "Go on"), ("wait", "1.0"),
+     ("fill", "Answer", "600"), ("touch", "Go on"), ("wait", "1.0"), ("touch", "Yes: stores and begins it"),
+     ("wait", "2.0"), ("touch", "On, as it should be: the spindle, clockwise at 1000"),
+     ("touch", "The right tool is in, and sound"), ("touch", "The way is free, and my hand is at Hold"),
+     ("touch", "Yes: goes there"), ("wait", "1.0")),
+    (("touch", "Load\u2026"), ("wait", "1.0")), (("touch", "Log"), ("touch", "Record of runs"), ("touch", "Back")))
+"""The steps by which something else begins that is done each day."""
 NUMBERS = ("0", "1", "2.5", "-3", "4", "10", "-40", "0.1", "x")
 
 _WEIGHTS: tuple[tuple[str, float], ...] = (
+    (r"^From line \d+\u2026", 3), (r"^(Load\u2026|Offsets\u2026|By keys)", 0.6),
     (r"^(Run|Continue|Let go on|Tool .* (in|out)$|Yes|It is done|Go on|Load$|Recover|Home)", 9),
     (r"^(Next|Confirm|Go along|Go by|Resume|Rehearse again|Start ngc|They stand|It stands)", 7),
     (r"^(Spindle.* off|Coolant off|Take over|Where |Restore|Drop|Give up|Yes, give)", 5), (r"^(Stop|From line 1)", 1),
@@ -96,7 +110,7 @@ _WEIGHTS: tuple[tuple[str, float], ...] = (
     (r"^(Program|Setup|Tools|Log)$", 1.2),
     (r"^(Probe|Measure tool \d)", 3), (r"^X[YZ](Edge|Outside corner|Surface|Boss)$", 6), (r"^Read the macros", 0.2),
     (r"^(Top|3-D|Fit|Light|Dark|All that|Stock|So far|After the job|Draw anew|As assumed|Flat|Ball|V$)", 0.2),
-    (r"^Quit", 0.25), (r"^(Load\u2026|Hold|Do$)", 0),
+    (r"^Quit", 0.25), (r"^(Hold|Do$)", 0),
 )
 _WAYS_ON = (
     r"Take over", r"Yes, give it up", r"Yes: (cuts|drops)", r"(They|It) stand", r"Tool .* (is in|is out|in)$", r"Home$",
@@ -112,6 +126,13 @@ _MOVING = re.compile(r"^(Run|Continue|Let go on|Tool .* (in|out)$|Yes|It is done
 _BY_RECORD = "by the record"
 """A yes to a question with these words says that the motors stand where the player has them."""
 _AXIS = re.compile(r"^([XYZ])([+\u2212]?)( @.*)?$")
+_STORES = "Yes: stores"
+"""Behind this yes a look is asked for, and before that nothing moves."""
+KEYS = {"ArrowRight": "X+", "ArrowLeft": "X-", "ArrowUp": "Y+", "ArrowDown": "Y-", "PageUp": "Z+", "PageDown": "Z-"}
+WHEEL = ("+", "-", "x", "y", "z")
+"""What a wheel sends: a step, and of which axis."""
+LET_GO_S = 0.15
+"""So soon a key that was let go is heeded."""
 
 
 @dataclass
@@ -152,6 +173,9 @@ class Walk:
 
     def begin(self) -> None:
         """All is started, and a page is open."""
+        os.mkdir(JOBS)
+        for number_, text in enumerate(PROGRAMS):
+            Path(JOBS, f"part{number_}.ngc").write_text(text)
         self.bench.start_player()
         self.bench.start_server()
         self.tabs.add(self.bench.address)
@@ -336,7 +360,7 @@ class Walk:
         self.judge.moves()  # what was before it was before it
         if seen.waits and re.match(r"Tool .* (in|out)$", text):
             truth.tool, truth.tool_told_at = int(seen.waitsTool), time.monotonic()
-        if not _MOVING.match(text):
+        if not _MOVING.match(text) or text.startswith(_STORES):
             self._zero_asked(text)
             return
         asked = (seen.question or {}).get("text", "") if text.startswith("Yes") else ""
@@ -344,20 +368,23 @@ class Walk:
         if truth.within is not None:
             self.bench.mill.forget_reached()
         truth.measures = asked.startswith("measure tool") or truth.measures and "would get" in asked
-        was_quiet, axis = not truth.may_move, _AXIS.match(text)
-        truth.may_move, truth.is_change_done = True, text.startswith("Tool")
-        if axis:
-            ways = {f"{axis[1]}{way}" for way in {"+": "+", "\u2212": "-", "": "+-"}[axis[2]]}
-            truth.ways = ways if was_quiet else truth.ways and truth.ways | ways
-            truth.without_lines = True
+        if axis := _AXIS.match(text):
+            self._axis_asked({f"{axis[1]}{way}" for way in {"+": "+", "\u2212": "-", "": "+-"}[axis[2]]})
             return
+        truth.may_move, truth.is_change_done = True, text.startswith("Tool")
         truth.ways, truth.is_zero_asked = None, True
         truth.without_lines = text.startswith("Home")
         if text.startswith("Home"):
             truth.homes_at, truth.offset = seen.logs, None if any(truth.offset or (1,)) else truth.offset
 
+    def _axis_asked(self, ways: set[str]) -> None:
+        """A person asks for motion along one axis, as X+."""
+        truth = self.truth
+        truth.ways = ways if not truth.may_move else truth.ways and truth.ways | ways
+        truth.may_move, truth.is_change_done, truth.without_lines = True, False, True
+
     def _zero_asked(self, text: str) -> None:
-        if re.match(r"Set|Undo|Tool \d+ stands|Add|Load|Give up|Yes, give|Drop", text):
+        if re.match(r"Set|Undo|Tool \d+ stands|Add|Load|Give up|Yes, give|Drop|None: |H\d+: |Yes: stores", text):
             self.truth.is_zero_asked = True
 
     # what a person does
@@ -412,6 +439,35 @@ class Walk:
             self.judge.all(self.seen)
             time.sleep(0.05)
         self.tabs.up(*place)
+
+    def _do_key(self, key: str, seconds: str) -> None:
+        """Keeps a key down for a while, which repeats as those of keyboards do, and lets it go."""
+        self.judge.moves()
+        self.seen = seen = self.tabs.see()
+        jogs = seen.keys and not seen.busy and not seen.sheet and key not in WHEEL[2:]
+        if jogs:
+            self._axis_asked({KEYS.get(key, f"{seen.wheel}{key}")})
+        self.truth.touched_at = time.monotonic()
+        self.tabs.key("rawKeyDown", key)
+        until = time.monotonic() + float(seconds)
+        while time.monotonic() < until:
+            time.sleep(0.03)
+            self.tabs.key("rawKeyDown", key, autoRepeat=True)
+            self.seen = self.tabs.see()
+            self.judge.all(self.seen)
+        let_go = time.monotonic()
+        self.tabs.key("keyUp", key)
+        if jogs and not seen.steps:
+            self.judge.hold(let_go, LET_GO_S)
+            self._rests_now()
+
+    def _do_row(self, line: str) -> None:
+        """Touches a line of the program."""
+        self.seen = seen = self.tabs.see()
+        place = self.tabs.find("rows", seen.rows.index(line)) if line in seen.rows else None
+        if place is not None:
+            self.tabs.down(*place)
+            self.tabs.up(*place)
 
     def _do_type(self, line: str) -> None:
         """Types a line of G-code."""
@@ -692,7 +748,7 @@ class Chance:
         if draw < 0.20:
             return "wait", chance.choice(("0.1", "0.3", "1.0"))
         if seen.tone == "idle" and not seen.sheet and chance.random() < 0.06:
-            self.routine = list(chance.choice(ROUTINES))
+            self.routine = list(chance.choice(ROUTINES + DAILY))
             return self.routine.pop(0)
         ids = {one["id"] for one in seen.buttons}
         has_program = "No program" not in seen.detail
@@ -700,6 +756,10 @@ class Chance:
             return "type", chance.choice(LINES)
         if draw < (0.31 if has_program else 0.6) and "load" in ids and not seen.sheet:
             return "load", str(chance.randrange(len(PROGRAMS)))
+        if draw < 0.33 and seen.rows and not seen.sheet:
+            return "row", chance.choice(seen.rows)
+        if draw < 0.45 and seen.keys and not seen.sheet:
+            return "key", chance.choice((*KEYS, *KEYS, *WHEEL)), chance.choice(("0.1", "0.3", "0.8"))
         entries = [one["label"] for one in seen.entries if one["id"] != "line" and one["label"]]
         if draw < 0.36 and entries:
             return "fill", chance.choice(entries), chance.choice(NUMBERS)

@@ -20,6 +20,8 @@ from player_support import SOURCES, built
 from session_support import PATIENCE_S, TOOLS, ngc
 from test_moves import BOX, DOOR, POST, PROBE, STOP, World
 
+JOBS = "jobs"
+"""The folder of programs that the page's server is given."""
 STEP_MM = 0.005
 ACCEL_MM_S2 = 500.0
 SETTINGS = """step_nm = [5000, 5000, 5000]
@@ -275,7 +277,7 @@ class Bench:
         if self.server is not None:
             self.server.stdout.close()
         words = ["mill.dev", "first.toml", "out", "--player", "progress", "--machine", "motion.toml", "--ngc", ngc(),
-                 "--listen", f"127.0.0.1:{self.port}"]
+                 "--listen", f"127.0.0.1:{self.port}", "--jobs", JOBS]
         self.server = subprocess.Popen([sys.executable, self.serves, *words], stdin=subprocess.DEVNULL,
                                        stdout=subprocess.PIPE, stderr=self.complaints, text=True,
                                        env=os.environ | {"NGC_PAGE_KEY": self.key})

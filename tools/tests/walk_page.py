@@ -42,6 +42,8 @@ _SEE = """(() => {
         && !one.disabled && isFree(one));
     window.walked ??= { posts: [], clicks: [] };
     window.walked.buttons = buttons.filter(isFree);
+    window.walked.rows = [...document.querySelectorAll('#program .row')].filter(one => isSeen(one) && isFree(one)
+        && Number(one.dataset.number));
     window.walked.entries = entries;
     const group = one => one.closest('section.part')?.querySelector('h2')?.firstChild?.textContent ?? '';
     const isChosen = one => one.getAttribute('aria-selected') === 'true'
@@ -71,6 +73,8 @@ _SEE = """(() => {
         buttons: window.walked.buttons.map(named), entries: entries.map(one => ({ ...named(one), value: one.value })),
         switches: Object.fromEntries(['single', 'optional', 'delete'].map(name => [name,
             shown(name).getAttribute('aria-checked')])),
+        keys: document.body.classList.contains('keys'), wheel: ngc.keys.axis, steps: ngc.keys.jog.length !== null,
+        rows: window.walked.rows.map(one => one.dataset.number),
         overrides: [...document.querySelectorAll('.override button:not(.tens)')].filter(isSeen).map(text),
         now: s.now, session: s.session, busy: s.busy, does: s.does, half: s.half, known: s.known, line: s.line,
         alarm: s.alarm ?? '', waits: Boolean(s.waits), waitsTool: s.waits_tool ?? 0, yours: s.yours, ended: s.ended,

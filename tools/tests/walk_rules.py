@@ -372,26 +372,27 @@ class Judge:
 
     # how Hold is answered
 
-    def hold(self, touched: float) -> None:
-        """After a touch of Hold at a moment the motors rest within v^2/2a, and what they go in 100 ms.
+    def hold(self, touched: float, most_s: float = HOLD_S) -> None:
+        """After a touch of Hold at a moment, or of what else is heeded within so long, the motors rest within v^2/2a,
+        and what they go in that time.
 
-        In these 100 ms the move goes on as it would, and gains what it would, as at its beginning. So v is the greatest
+        In that time the move goes on as it would, and gains what it would, as at its beginning. So v is the greatest
         rate until then; what comes faster later is too late all the same."""
         mill, now = self.bench.mill, time.monotonic
         if mill.last_pulse_at() < touched - 0.3:
             time.sleep(0.05)
             return
-        while now() < touched + HOLD_S + 0.4 + self.slack_s(touched):
+        while now() < touched + most_s + 0.4 + self.slack_s(touched):
             time.sleep(0.01)
-        heeded_s = HOLD_S + self.slack_s(touched)
+        heeded_s = most_s + self.slack_s(touched)
         way_mm, last = mill.steps_between(touched, now())
         rate = max(mill.rate_mm_s(touched + ms / 1000) for ms in range(0, 10 + round(1000 * heeded_s), 10))
         ramp_s, stop_mm = rate / ACCEL_MM_S2, rate * rate / (2 * ACCEL_MM_S2)
         self._count("hold")
         if last - touched > ramp_s + heeded_s:
             raise Wrong("hold too late", f"at {rate:.1f} mm/s they rest {1000 * (last - touched):.0f} ms after it,"
-                        f" {way_mm:.3f} mm on; allowed are {1000 * (ramp_s + HOLD_S):.0f} ms, and"
-                        f" {1000 * (heeded_s - HOLD_S):.0f} ms for the load; pauses in ms: {mill.pauses_ms(touched)}")
+                        f" {way_mm:.3f} mm on; allowed are {1000 * (ramp_s + most_s):.0f} ms, and"
+                        f" {1000 * (heeded_s - most_s):.0f} ms for the load; pauses in ms: {mill.pauses_ms(touched)}")
         if way_mm > stop_mm + rate * heeded_s + 10 * STEP_MM:
             raise Wrong("hold too far", f"{way_mm:.3f} mm at {rate:.1f} mm/s")
 

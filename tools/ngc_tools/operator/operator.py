@@ -208,7 +208,7 @@ class Operator:
             self.session.told = status.place
         self.work.timeline = timeline
         ended = self._run_on()
-        if ended != "refused" or self.console.status().place != status.place:
+        if ended != CHANGE and (ended != "refused" or self.console.status().place != status.place):
             self.left.forget()
 
     def _begun(self) -> str | None:
@@ -502,10 +502,11 @@ class Operator:
     def _run_on(self) -> str | None:
         """The same as `_work`, and says how all stands then."""
         ended = self._work()
-        if ended == "stopped":
+        stands = "stopped" if ended == CHANGE else ended
+        if stands == "stopped":
             self._say_remark()
-        if ended is not None:
-            self._say_stand(ended)
+        if stands is not None:
+            self._say_stand(stands)
         return ended
 
     def _say_remark(self) -> None:
@@ -516,7 +517,8 @@ class Operator:
             self.face.say(f"comment, {self.session.program.named(found[0])}: {found[1]}", MESSAGE)
 
     def _work(self) -> str | None:
-        """Gives ticks until there is nothing to do, or somebody holds. Returns what ended them, None for a hold."""
+        """Gives ticks until there is nothing to do, or somebody holds. Returns what ended them, None for a hold, CHANGE
+        where the program waits behind a tool change, and isn't as it was left there."""
         is_program = self.runs.goes()
         ended = self.work.go()
         if is_program:
@@ -533,16 +535,17 @@ class Operator:
 
     def _measured(self, ended: str) -> str | None:
         """Behind a tool change, where the program is held: once the tool is measured, as a person wants, the program
-        goes on; else it waits. Returns what ended its work then, None for a hold."""
+        goes on; else it waits. Returns as `_work`."""
         report, slot, probe = self.session.report(), self.stored().slot, self.touch.setter.probe
         if report is None or report.behind or report.is_held or self.session.single:
             return ended
         if slot and not (probe and probe.slot == slot):
+            self.left.forget()  # what is kept from now on is how the program was left here
             if self._line_done(f"(tool {slot} is in)", True) is None:
                 return None
             if not self.measuring.at_change(slot):
                 self.face.say("the program waits behind the tool change: run goes on", WARNING)
-                return "stopped"
+                return "stopped" if self.left.is_as_left() else CHANGE
         self.left.forget()
         if refused(self.session, self.console.ask("continue")[0], "continue"):
             return "stopped"

@@ -1,0 +1,187 @@
+"""Deeds of a day by touch, in a browser: switches, macros, ways, a step by a key, offsets, inches, a job of the folder,
+and one from its midst. What the page shows is compared with where the axes of the machine are, and with what is on
+there. In Chromium, or in Firefox where NGC_BROWSER says so."""
+import sys
+import unittest
+from pathlib import Path
+
+sys.path.insert(0, str(Path(__file__).resolve().parent))
+
+from browser_support import Chromium
+from test_moves import MACHINE
+from test_page_day import SOON
+from test_page_probing import MILL, MM, OverBodies
+
+HOME = [-8 * MM, -7 * MM, 9 * MM]
+PART = """G21 G90 G17 G54 G94 G49
+M3 S800
+G0 X0 Y0 Z5
+G1 Z1 F600
+X3
+Y2
+X0
+Y0
+G0 Z5
+M2
+"""
+"""Its line 6 goes along Y, within the work."""
+PRESSES = 50
+GAUGES = "[...document.querySelectorAll('#gauges dd')].slice(1, 3).map(one => one.textContent).join()"
+"""Of spindle and coolant."""
+
+
+class Deeds(OverBodies):
+    """One after the other, on one machine, which homes at X-8 Y-7 Z9."""
+
+    MACHINE = MILL + "".join(MACHINE.partition("[home]")[1:])
+    JOBS = "jobs"
+
+    def begin_player(self) -> None:
+        """A folder of programs, and a macro."""
+        Path("jobs").mkdir()
+        Path("jobs/part.ngc").write_text(PART)
+        Path("first.macros").write_text('Lift = ["G53 G0 Z3", "G53 G0 X1"]\n')
+        super().begin_player()
+        self.axes.home_at = list(HOME)
+
+    def test_day(self) -> None:
+        """Each of them."""
+        self.browser.press("Setup", "nav button")
+        for deed in (self.homes, self.switches, self.ways, self.steps, self.offsets, self.inches, self.job,
+                     self.from_line):
+            deed()
+        self.no_complaints()
+
+    def is_at(self, *at_mm: float, zero: tuple[float, ...] = (0, 0, 0), is_inch: bool = False) -> None:
+        """The axes are there, and so the page says."""
+        self.assertEqual(self.axes.at_nm, [round(mm * MM) for mm in at_mm])
+        self.shows("", zero, is_inch=is_inch)
+
+    def homes(self) -> None:
+        """All axes."""
+        self.browser.press("Home all", "#tab-setup button")
+        self.rests("s.homed === 'XYZ'")
+        self.is_at(-8, -7, 9)
+
+    def switches(self) -> None:
+        """What turns and flows."""
+        for says, on, told in (("Clockwise M3", (1, 1000 * MM, False, False), "\u21bb 1,000/min,off"),
+                               ("Reverse M4", (2, 1000 * MM, False, False), "\u21ba 1,000/min,off"),
+                               ("Flood M8", (2, 1000 * MM, False, True), "\u21ba 1,000/min,flood"),
+                               ("Mist M7", (2, 1000 * MM, True, True), "\u21ba 1,000/min,mist + flood"),
+                               ("Off M5", (0, 1000 * MM, True, True), "offset 1,000,mist + flood"),
+                               ("Off M9", (0, 1000 * MM, False, False), "offset 1,000,off")):
+            self.press(says, "#tab-setup button")
+            now = self.mill.outputs
+            self.assertEqual((now.spindle, now.speed, now.mist, now.flood), on)
+            self.assertEqual(self.browser.js(GAUGES), told)
+
+    def ways(self) -> None:
+        """A macro, above the zero, and parked: with all off."""
+        self.press("Lift", "#tab-setup .macros button")
+        self.is_at(1, -7, 3)
+        self.press("Flood M8", "#tab-setup button")
+        self.press("Above work zero", "#tab-setup button")
+        self.is_at(0, 0, 9)
+        self.assertTrue(self.mill.outputs.flood)
+        self.press("Park", "#tab-setup button")
+        self.is_at(-8, -7, 9)
+        self.assertFalse(self.mill.outputs.flood)
+
+    def steps(self) -> None:
+        """One by a key, which is pressed anew where the page is too late."""
+        browser = self.browser
+        browser.press("0.1", ".jog .choices button")
+        browser.press("By keys", "#tab-setup button")
+        for _ in range(PRESSES if isinstance(browser, Chromium) else 0):
+            browser.key("rawKeyDown", "ArrowRight")
+            browser.key("keyUp", "ArrowRight")
+            if browser.js(SOON % "ngc.state.motors[0] > -8"):
+                break
+        self.rests()
+        self.is_at(-7.9 if isinstance(browser, Chromium) else -8, -7, 9)
+
+    def offsets(self) -> None:
+        """The origin of G55 is set in the table; where its zero is the machine goes; it is taken back."""
+        browser = self.browser
+        browser.press("Offsets", "#tab-setup button")
+        browser.press("G55", "#over .offsets button")
+        browser.fill("#over input[aria-label='G55 X, in mm']", "2,5")
+        browser.press("Set G55", "#over button")
+        self.rests("Number(s.offsets.origins[1][0]) === 2.5")
+        browser.press("Back", "#over button")
+        self.do("G55 G0 X0 Y0")
+        self.is_at(2.5, 0, 9, zero=(2.5, 0, 0))
+        browser.press("Offsets", "#tab-setup button")
+        browser.press("Undo: G", "#over button")
+        self.rests("Number(s.offsets.origins[1][0]) === 0")
+        browser.press("Back", "#over button")
+        self.is_at(2.5, 0, 9)
+        self.do("G54")
+
+    def inches(self) -> None:
+        """This place is a tenth of an inch, and the machine goes to the zero in inches; it is taken back."""
+        browser = self.browser
+        browser.press("Inches", "#tab-setup button")
+        self.is_at(2.5, 0, 9, is_inch=True)
+        browser.fill("input[aria-label='Work coordinate of this place, in in']", "0.1")
+        browser.press("Set X", "#tab-setup .four button:first-child")
+        self.rests("Number(s.origin[0]) === -0.04")
+        self.is_at(2.5, 0, 9, zero=(-0.04, 0, 0), is_inch=True)
+        self.do("G20 G0 X0.2")
+        self.is_at(5.04, 0, 9, zero=(-0.04, 0, 0), is_inch=True)
+        self.do("G21")
+        browser.press("Inches", "#tab-setup button")
+        self.is_at(5.04, 0, 9, zero=(-0.04, 0, 0))
+        browser.press("Undo: G", "#tab-setup button")
+        self.rests("Number(s.origin[0]) === 0")
+        self.is_at(5.04, 0, 9)
+
+    def job(self) -> None:
+        """A program of the folder is chosen, loaded and run: the axes went where it says, and both lists have that."""
+        browser = self.browser
+        browser.press("Load", "#load")
+        browser.press("part.ngc", "#over .jobs button")
+        browser.wait("document.querySelector('#over h1').textContent === 'Load part.ngc'")
+        browser.press("Load", "#over .foot button")
+        self.rests("s.program.lines === 10 && ngc.job")
+        self.do("G0 X0 Y0 Z5")
+        self.axes.forget()
+        browser.press("Run", "#run")
+        self.rests("s.finished")
+        self.is_at(0, 0, 5)
+        self.assertEqual((self.axes.least, self.axes.greatest), ([0, 0, MM], [3 * MM, 2 * MM, 5 * MM]))
+        browser.press("Load", "#load")
+        browser.wait("document.querySelector('#over .jobs')?.textContent.includes('ended, through')")
+        browser.press("Back", "#over button")
+        browser.press("Log", "nav button")
+        browser.press("Record of runs", "#runs")
+        browser.wait("document.querySelector('#over pre').textContent.includes('began part.ngc')")
+        browser.press("Back", "#over button")
+
+    def from_line(self) -> None:
+        """From line 6, beside the work: nothing moves before somebody looked; then no lower than said, and the rest."""
+        browser = self.browser
+        self.do("G0 X-4 Y-4")
+        browser.press("Program", "nav button")
+        browser.press("Y2", "#program .row")
+        browser.press("From line 6", "#from")
+        for asked, answer in (("Up to which Z", "9.5"), ("How fast", "600")):
+            browser.wait(f"document.querySelector('#over .asked')?.textContent.includes('{asked}')")
+            browser.fill("#over .entry input", answer)
+            browser.press("Go on", "#over .go")
+        browser.press("Yes: stores and begins it", "#over .go")
+        browser.wait("document.querySelectorAll('#over .look button').length === 3")
+        browser.js("document.querySelectorAll('#over .look button').forEach(one => one.click())")
+        self.is_at(-4, -4, 5)
+        self.assertEqual((self.mill.outputs.spindle, self.mill.outputs.speed), (1, 800 * MM))
+        self.axes.forget()
+        browser.press("Yes: goes there", "#over .go")
+        self.rests("s.finished")
+        self.is_at(0, 0, 5)
+        self.assertEqual((self.axes.least, self.axes.greatest), ([-4 * MM, -4 * MM, MM], [3 * MM, 2 * MM, 9.5 * MM]))
+        self.assertEqual(self.mill.outputs.spindle, 0)
+
+
+if __name__ == "__main__":
+    unittest.main()
