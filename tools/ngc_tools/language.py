@@ -74,6 +74,7 @@ class Language:
     def __init__(self, texts: Mapping[str, str] | None = None, name: str = ENGLISH) -> None:
         self.texts, self.name = dict(texts or {}), name
         self._kept: dict[str, str] = {}
+        self._wholes: dict[tuple[str, bool], str | None] = {}
 
     @cached_property
     def _exact(self) -> dict[str, str]:
@@ -126,6 +127,14 @@ class Language:
 
     def _whole(self, text: str, is_sure: bool = False) -> str | None:
         """The translation of a text as one; None where there is none, or, if it has to be sure, by few words alone."""
+        if (text, is_sure) not in self._wholes:
+            said = self._found(text, is_sure)
+            if len(self._wholes) >= _MOST:
+                self._wholes.clear()
+            self._wholes[text, is_sure] = said
+        return self._wholes[text, is_sure]
+
+    def _found(self, text: str, is_sure: bool) -> str | None:
         dated = _DATED.fullmatch(text)
         if dated:
             said = self._whole(dated[2], is_sure)

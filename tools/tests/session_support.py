@@ -110,8 +110,10 @@ class InFolder(unittest.TestCase):
 
     @staticmethod
     def _end(child: subprocess.Popen[str]) -> None:
+        """What it started may outlive it, as an `ngc` that writes into a pipe which nobody reads; no test waits for that
+        for ever."""
         child.kill()
-        child.communicate()
+        child.communicate(timeout=PATIENCE_S)
 
     def run_ngc(self, commands: str, out: str = "out") -> list[str]:
         """Gives commands to `ngc run` over mill.dev, and returns its replies."""

@@ -5,12 +5,14 @@ import re
 import sys
 import unittest
 from pathlib import Path
+from statistics import median
 
 sys.path.insert(0, str(Path(__file__).resolve().parent))
 
 import test_page_browser
 from firefox_support import MISSING, PATH
 from language_cases import CASES
+from page_support import SLOW, slow_by
 
 from ngc_tools.language import languages
 
@@ -43,6 +45,15 @@ WIZARD = """(async () => {
     wizard.begin();
 })()"""
 """The steps after a loss of power, as of a session in which a line is half-done."""
+TIMED = """void (window.took = [], (parse => {
+    JSON.parse = text => {
+        const begun = performance.now(), found = parse(text);
+        const over = () => took.push(performance.now() - begun);
+        if (found?.stamp) queueMicrotask(() => queueMicrotask(over)); // behind observers of what changed
+        return found;
+    };
+})(JSON.parse))"""
+"""Takes down how long each state takes until it is shown, in ms."""
 OWN = {"ngc", "split", "adapt", "out", "arc", "yes", "run", "load", "recover"}
 """Names and commands, which are the same in each language."""
 
@@ -58,15 +69,11 @@ def english_words() -> set[str]:
     return set().union(*map(words_of, texts)) - set().union(*map(words_of, texts.values())) - OWN
 
 
-@unittest.skipUnless(PATH, MISSING)
-class German(test_page_browser.Moves):
-    """The player is in this process."""
-
-    JOBS = "programs"
-    test_setup = test_axis_without_home = test_ended_in_an_alarm = None
+class InGerman(test_page_browser.InBrowser):
+    """The page in German."""
 
     def setUp(self) -> None:
-        """In German."""
+        """It is chosen there."""
         super().setUp()
         self.addCleanup(lambda: self.browser.js("void localStorage.removeItem('language')"))
         self.english = english_words()
@@ -75,17 +82,100 @@ class German(test_page_browser.Moves):
         self.browser.press("Deutsch", "#tab-setup button")
         self.browser.wait("document.documentElement.lang === 'de'")
 
-    def begin_player(self) -> None:
-        """A folder of programs is there too."""
-        Path("programs").mkdir(exist_ok=True)
-        Path("programs", "left.ngc").write_text("G17 G21 G90 G94\nG0 X1\nM2\n")
-        super().begin_player()
-
     def is_german(self, where: str) -> None:
         """No word that people read there is English."""
         self.browser.frame()
         left = [(text, found) for text in self.browser.js(SAID) if (found := words_of(text) & self.english)]
         self.assertEqual(left, [], where)
+
+
+@unittest.skipUnless(PATH, MISSING)
+class Runs(InGerman):
+    """A program runs: what is touched does the same, the band says it in German, and as quickly."""
+
+    def load(self, text: str, count: int) -> None:
+        """By the German button."""
+        self.choose(text)
+        self.browser.wait("ngc.preview?.count")
+        self.browser.press("Laden", "#over .go")
+        self.browser.wait(f"ngc.state.program.lines === {count} && ngc.job && !ngc.state.busy")
+
+    def says(self, word: str) -> None:
+        """What the band says, in one word; all else is German too."""
+        self.is_german(word)
+        self.assertEqual(self.browser.js("document.getElementById('word').textContent"), word)
+
+    def test_run(self) -> None:
+        """Run, Hold, Continue, Stop."""
+        browser = self.browser
+        self.load(SLOW, 4)
+        self.is_german("a program")
+        browser.press("Start", "#run")
+        browser.wait("ngc.state.line === 3 && ngc.state.half === 'program'")
+        self.says("L\u00e4uft")
+        browser.press("Halt", "#hold")
+        browser.wait("ngc.state.does === 'held' && !ngc.state.busy")
+        self.says("Angehalten")
+        browser.press("Weiter", "#run")
+        browser.wait("ngc.state.does === 'running'")
+        self.says("L\u00e4uft")
+        browser.press("Stopp", "#stop")
+        browser.wait("ngc.state.question")
+        self.says("Frage")
+        browser.press("Ja", "#over .foot button")
+        browser.wait("!ngc.state.question && !ngc.state.busy")
+        self.is_german("it is stopped")
+        self.no_complaints()
+
+    def test_change(self) -> None:
+        """A change of tools, a message of the program, and its end."""
+        browser = self.browser
+        browser.press("Werkzeuge", "nav button")
+        browser.fill("#tab-tools input[aria-label='L\u00e4nge von Werkzeug 1']", "50")
+        browser.press("Neu", "#tab-tools button")
+        browser.wait("ngc.state.tools.length === 1 && !ngc.state.busy")
+        self.is_german("a tool")
+        self.load("G17 G21 G90 G94\nT1 M6\nG0 X0.1\nM0 (MSG, turn the part)\nG0 X0\nM2\n", 6)
+        browser.press("Start", "#run")
+        browser.wait("ngc.state.waits && ngc.state.waits_tool === 1")
+        self.says("Werkzeugwechsel")
+        browser.press("Werkzeug 1 eingesetzt", "#run")
+        browser.wait("ngc.state.does === 'stopped' && !ngc.state.busy && !ngc.state.behind")
+        self.says("Gestoppt")
+        self.assertEqual(browser.js("document.getElementById('detail').textContent"), "turn the part")
+        browser.press("Weiter", "#run")
+        browser.wait("ngc.state.finished && !ngc.state.busy")
+        self.is_german("its end")
+        self.no_complaints()
+
+    def test_quick(self) -> None:
+        """To show a state takes less than 3 ms of a machine that has time for it, by the median, while numbers change
+        in each of them."""
+        browser, slowness = self.browser, [1.0]
+        self.load(SLOW, 4)
+        browser.press("Start", "#run")
+        browser.wait("ngc.state.line === 3 && ngc.state.half === 'program'")
+        browser.js(TIMED)
+        while (count := browser.js("took.length")) < 50:
+            slowness.append(slow_by())
+            browser.wait(f"took.length > {count + 5}")
+        took_ms = browser.js("took")
+        self.assertEqual(browser.js("document.getElementById('word').textContent"), "L\u00e4uft")
+        self.assertLess(median(took_ms), 3 * max(slowness), took_ms)
+
+
+@unittest.skipUnless(PATH, MISSING)
+class German(InGerman, test_page_browser.Moves):
+    """The player is in this process."""
+
+    JOBS = "programs"
+    test_setup = test_axis_without_home = test_ended_in_an_alarm = None
+
+    def begin_player(self) -> None:
+        """A folder of programs is there too."""
+        Path("programs").mkdir(exist_ok=True)
+        Path("programs", "left.ngc").write_text("G17 G21 G90 G94\nG0 X1\nM2\n")
+        super().begin_player()
 
     def test_tabs(self) -> None:
         """Each tab, and what stands beside them."""

@@ -64,6 +64,7 @@ export class Language {
     this.texts = texts;
     this.isEnglish = !Object.keys(texts).length;
     this.kept = new Map();
+    this.wholes = [new Map(), new Map()]; // the same of texts as one, and of what is sure
     this.exact = new Map();
     this.templates = new Map();
     const all = Object.entries(texts), seen = new Set(), own = new Map(all.filter(pair => placesOf(pair[0]).length));
@@ -104,6 +105,16 @@ export class Language {
 
   // The translation of a text as one; null where there is none, or, if it has to be sure, by few words alone.
   whole(text, isSure = false) {
+    const kept = this.wholes[Number(isSure)];
+    if (!kept.has(text)) {
+      const said = this.found(text, isSure);
+      if (kept.size >= MOST) kept.clear();
+      kept.set(text, said);
+    }
+    return kept.get(text);
+  }
+
+  found(text, isSure) {
     const dated = DATED.exec(text), all = variants(text);
     const finders = [one => this.exact.get(line(one)) ?? null, one => this.byTemplate(one, isSure)];
     if (dated) {
