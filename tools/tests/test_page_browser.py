@@ -551,11 +551,13 @@ class WithRamps(SocketMachine):
 class Moves(InBrowser):
     """Home, jog, work zero and an alarm, by a player in this process."""
 
+    PLAYER = WithRamps
+
     def begin_player(self) -> None:
         """A player that makes moves by itself, and a reader of OUT."""
         pipe = os.open("axis", os.O_RDONLY | os.O_NONBLOCK)
         self.addCleanup(os.close, pipe)
-        self.machine = WithRamps(os.path.abspath("axis"))
+        self.machine = self.PLAYER(os.path.abspath("axis"))
         self.addCleanup(self.machine.close)
 
     def jogs(self) -> int:

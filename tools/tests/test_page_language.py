@@ -4,6 +4,7 @@ import json
 import re
 import sys
 import unittest
+from functools import cache
 from pathlib import Path
 from statistics import median
 
@@ -63,6 +64,7 @@ def words_of(text: str) -> set[str]:
     return {one.lower() for one in re.findall(r"(?<![A-Za-z.'\u2019-])[A-Za-z][a-z]+(?![A-Za-z-]|\.\w)", text)}
 
 
+@cache
 def english_words() -> set[str]:
     """The words that English texts have, and German ones don't."""
     texts = languages()["de"][1]
@@ -106,12 +108,13 @@ class Runs(InGerman):
         self.assertEqual(self.browser.js("document.getElementById('word').textContent"), word)
 
     def test_run(self) -> None:
-        """Run, Hold, Continue, Stop."""
+        """Run, Hold, Continue, Stop; each state of a job that runs is shown as quickly as in English."""
         browser = self.browser
         self.load(SLOW, 4)
         self.is_german("a program")
         browser.press("Start", "#run")
         browser.wait("ngc.state.line === 3 && ngc.state.half === 'program'")
+        self.is_quick()
         self.says("L\u00e4uft")
         browser.press("Halt", "#hold")
         browser.wait("ngc.state.does === 'held' && !ngc.state.busy")
@@ -148,27 +151,33 @@ class Runs(InGerman):
         self.is_german("its end")
         self.no_complaints()
 
-    def test_quick(self) -> None:
+    def is_quick(self) -> None:
         """To show a state takes less than 3 ms of a machine that has time for it, by the median, while numbers change
         in each of them."""
         browser, slowness = self.browser, [1.0]
-        self.load(SLOW, 4)
-        browser.press("Start", "#run")
-        browser.wait("ngc.state.line === 3 && ngc.state.half === 'program'")
         browser.js(TIMED)
-        while (count := browser.js("took.length")) < 50:
+        while (count := browser.js("took.length")) < 30:
             slowness.append(slow_by())
             browser.wait(f"took.length > {count + 5}")
         took_ms = browser.js("took")
-        self.assertEqual(browser.js("document.getElementById('word').textContent"), "L\u00e4uft")
         self.assertLess(median(took_ms), 3 * max(slowness), took_ms)
+
+
+class Keeps(test_page_browser.WithRamps):
+    """A player that says how old its record may be: nobody waits for that as a session begins."""
+
+    def _answer(self, question: bytes, sender: str | bytes | None) -> None:
+        if question.startswith(b"kept "):
+            self.listener.answer(question + b" lines 0 bytes 0 age 20", sender)
+            return
+        super()._answer(question, sender)
 
 
 @unittest.skipUnless(PATH, MISSING)
 class German(InGerman, test_page_browser.Moves):
     """The player is in this process."""
 
-    JOBS = "programs"
+    PLAYER, JOBS = Keeps, "programs"
     test_setup = test_axis_without_home = test_ended_in_an_alarm = None
 
     def begin_player(self) -> None:

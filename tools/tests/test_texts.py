@@ -8,7 +8,7 @@ from pathlib import Path
 sys.path.insert(0, str(Path(__file__).resolve().parent))
 
 from language_cases import CASES
-from session_support import FIRST, InFolder, ngc
+from session_support import InFolder, ngc
 
 from ngc_tools.language import ENGLISH, Language, language, languages, of_environment
 from tests.texts import texts, written
