@@ -166,17 +166,19 @@ class Files(InFolder):
         self.assertEqual((done.returncode, done.stdout), (0, "the runtime's functions: as they should be\n"))
 
     def test_version(self) -> None:
-        """The copy of the crates that a package's ngc is built of says of which commit and kit it is, and differs in
-        nothing else; what is proved here is in it, and stays here as it is."""
-        names = [source.VERSION, "crates/ngc/src/main.rt"]
-        for name in names:
-            Path("here", name).parent.mkdir(parents=True)
-            shutil.copy(TOOLS.parent / name, Path("here", name))
-        Path("here/crates/ng_num/out/rlib").mkdir(parents=True)
-        Path("here/crates/ng_num/out/rlib/ng_num.rlib").write_text("proved")
+        """The copy of the crates that a package's ngc is built of says of which commit and kit it is. It has the crates
+        that are needed, without edits that are to fail, and differs in nothing else."""
+        names = [source.VERSION, "crates/ngc/src/main.rt", "crates.txt"]
+        others = ["crates/ng_console/must-fail/one.edit", "crates/ng_tests/src/lib.rt"]
+        for name in names + others:
+            Path("here", name).parent.mkdir(parents=True, exist_ok=True)
+            Path("here", name).write_text("other\n" if name in others else (TOOLS.parent / name).read_text())
         commit, kit = "c" * 40 + "+changed", "rattle-kit-13f logic dac8208d650f15bf"
-        source.make(Path("here"), names, Path("copy"), commit, kit)
-        self.assertEqual(Path("copy/crates/ng_num/out/rlib/ng_num.rlib").read_text(), "proved")
+        source.make(Path("here"), names + others, Path("copy"), commit, kit)
+        self.assertEqual([name for name in names + others if Path("copy", name).exists()], names)
+        crates = [line.split()[0].rstrip(":") for line in Path("copy/crates.txt").read_text().splitlines()]
+        self.assertEqual(set(crates) & {"ngc", "ng_pace_c", "ng_lines_c", "ng_num", "ng_tests", "ngc_cases"},
+                         {"ngc", "ng_pace_c", "ng_lines_c", "ng_num"})
         self.assertEqual(Path("copy", names[1]).read_text(), Path("here", names[1]).read_text())
         here, copy = (Path(folder, source.VERSION).read_text() for folder in ("here", "copy"))
         number = re.search(r"^ngc ([\d.]+)$", (TOOLS.parent / "crates/ngc_cases/data/command_lines.words").read_text(),

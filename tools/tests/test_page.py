@@ -250,6 +250,25 @@ class Work(Served):
                            and not state["behind"])
         self.assertEqual((state["tool_length"], state["work"][2]), ("0.625000", "0.150000"))
 
+    def test_tool_of_a_typed_line(self) -> None:
+        """While the tool of a line of one's own is wanted, and somebody holds, that changes neither what is in force nor
+        which line is next, though a line of the program wanted the same tool."""
+        page = self.page()
+        for slot, length in ((1, "0.5"), (2, "0.625")):
+            self.assertEqual(page.post("tool", {"slot": slot, "length": length}), (200, {}))
+        self.load(page, "G17 G21 G90 G94\nT1 M6\nG43 H1\nT2 M6\nM0\nM2\n")
+        page.until("it is drawn", lambda state: page.job())
+        self.assertEqual(page.post("run"), (200, {}))
+        for tool in (1, 2):
+            page.until("it waits", lambda state, tool=tool: state["waits"] and state["waits_tool"] == tool)
+            self.assertEqual(page.post("go"), (200, {}))
+        page.until("it stopped", lambda state: state["does"] == "stopped" and not state["busy"] and not state["behind"])
+        page.post("mdi", {"line": "T1 M6"})
+        page.until("it waits", lambda state: state["waits"] and state["waits_tool"] == 1)
+        page.post("hold")
+        state = page.until("nothing is under way", lambda state: not state["busy"])
+        self.assertEqual((state["waits_tool"], state["tool_length"], state["line"]), (1, "0.500000", 6))
+
     def test_hold(self) -> None:
         """Hold is heeded within a line; what is asked meanwhile is refused; it goes on."""
         page = self.page()

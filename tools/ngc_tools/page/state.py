@@ -1,6 +1,7 @@
 """What pages show and what changes, as JSON has it."""
 import time
 from collections.abc import Iterator
+from itertools import pairwise
 
 from ngc_tools.formats.device import Device, State
 from ngc_tools.formats.lines import Program
@@ -73,11 +74,18 @@ class Pictured:
         """The line of the program at which the player waits for a tool, since `ngc` is some lines ahead; None where it
         waits for none, or that can't be told."""
         drawing, report = self.session.drawer.drawing, self.report
-        if report is None or not report.waits or drawing is None or self.operator.session.own:
+        if report is None or not report.waits or drawing is None or self._is_typed(report.tool):
             return None
         number = self.program.number(self.status.place)
         return max((line for line, slot in drawing.tools.items() if line <= number and slot == report.tool),
                    default=None)
+
+    def _is_typed(self, slot: int) -> bool:
+        """Whether a line of one's own changed to a tool last: such a line leaves the place in the program as it is."""
+        if self.operator.session.own:
+            return True
+        return next((state.half == 2 if state.half else state.place == before.place
+                     for state, before in pairwise(self._states()) if state.slot == slot != before.slot), False)
 
     @property
     def _state(self) -> State | None:
