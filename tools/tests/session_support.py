@@ -110,7 +110,7 @@ class InFolder(unittest.TestCase):
 
     @staticmethod
     def _end(child: subprocess.Popen[str]) -> None:
-        """What it started may outlive it, as an `ngc` that writes into a pipe which nobody reads; no test waits for that
+        """What it started may outlive it, as an `ngc` that writes into a pipe which nobody reads: that isn't waited for
         for ever."""
         child.kill()
         child.communicate(timeout=PATIENCE_S)

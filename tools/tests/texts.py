@@ -262,7 +262,8 @@ class _Words(HTMLParser):
 
     def handle_starttag(self, tag: str, attrs: list[tuple[str, str | None]]) -> None:
         """Those of attributes."""
-        self.found += [value for name, value in attrs if value and name in ("aria-label", "title", "placeholder", "alt")]
+        read = ("aria-label", "title", "placeholder", "alt")
+        self.found += [value for name, value in attrs if value and name in read]
 
     def handle_data(self, data: str) -> None:
         """Those of elements."""
