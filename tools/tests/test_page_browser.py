@@ -543,21 +543,26 @@ class Work(InBrowser):
 
 
 class WithRamps(SocketMachine):
-    """A player with a machine's file."""
+    """A player with a machine's file. It says how old its record may be, so that nobody waits for that as a session
+    begins."""
 
     wants = 340
+
+    def _answer(self, question: bytes, sender: str | bytes | None) -> None:
+        if question.startswith(b"kept "):
+            self.listener.answer(question + b" lines 0 bytes 0 age 20", sender)
+            return
+        super()._answer(question, sender)
 
 
 class Moves(InBrowser):
     """Home, jog, work zero and an alarm, by a player in this process."""
 
-    PLAYER = WithRamps
-
     def begin_player(self) -> None:
         """A player that makes moves by itself, and a reader of OUT."""
         pipe = os.open("axis", os.O_RDONLY | os.O_NONBLOCK)
         self.addCleanup(os.close, pipe)
-        self.machine = self.PLAYER(os.path.abspath("axis"))
+        self.machine = WithRamps(os.path.abspath("axis"))
         self.addCleanup(self.machine.close)
 
     def jogs(self) -> int:

@@ -163,21 +163,11 @@ class Runs(InGerman):
         self.assertLess(median(took_ms), 3 * max(slowness), took_ms)
 
 
-class Keeps(test_page_browser.WithRamps):
-    """A player that says how old its record may be: nobody waits for that as a session begins."""
-
-    def _answer(self, question: bytes, sender: str | bytes | None) -> None:
-        if question.startswith(b"kept "):
-            self.listener.answer(question + b" lines 0 bytes 0 age 20", sender)
-            return
-        super()._answer(question, sender)
-
-
 @unittest.skipUnless(PATH, MISSING)
 class German(InGerman, test_page_browser.Moves):
     """The player is in this process."""
 
-    PLAYER, JOBS = Keeps, "programs"
+    JOBS = "programs"
     test_setup = test_axis_without_home = test_ended_in_an_alarm = None
 
     def begin_player(self) -> None:
