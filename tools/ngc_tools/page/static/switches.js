@@ -1,5 +1,5 @@
 // Switches and macros: each button is a line of G-code, or a few, which Log shows.
-import { el, may, text, typedNumber } from './dom.js';
+import { clock, el, may, text, typedNumber } from './dom.js';
 import { get } from './link.js';
 import { button } from './sheet.js';
 import { means } from './steady.js';
@@ -20,7 +20,7 @@ export class Switches {
     this.park = button('Park: off, Z up, to X Y of home', () => asks('park', {}));
     this.names = el('div', { class: 'macros' });
     this.why = el('p', { class: 'hint' });
-    this.read = button('Read the macros', () => this.fetch());
+    this.read = button('Read the macros', () => this.fetch(true));
     for (const one of [this.above, this.park, this.read]) one.className = 'wide';
     this.box = [el('label', { class: 'entry-row' }, 'Spindle at', this.speed, 'a minute'),
       el('div', { class: 'three' }, ...this.turns), el('div', { class: 'three' }, ...this.coolant),
@@ -44,16 +44,20 @@ export class Switches {
     for (const one of this.names.children) one.disabled = !may(s, 'macro');
   }
 
-  // The macros of the file, as it is now.
-  async fetch() {
+  // The macros of the file, as it is now. What somebody asked for is said, as it may be what was there before.
+  async fetch(isAsked = false) {
     const found = await get('macros').catch(() => null);
-    if (!found) return;
+    if (found) this.list(found);
+    const says = found ? found.failed || (found.macros.length ? '' : `No macros: ${found.path}, beside the settings, has `
+      + 'lines as Lift = ["M5", "G53 G0 Z0"]') : 'The server doesn\u2019t answer: no macro was read';
+    text(this.why, says || (isAsked ? `Read at ${clock(new Date())}: ${found.macros.length} in all` : ''));
+    this.why.hidden = !this.why.textContent;
+    this.show(this.shown);
+  }
+
+  list(found) {
     this.names.replaceChildren(...found.macros.map(({ name, lines }) => el('button', { title: lines.join('\n'),
       translate: 'no', onclick: () => this.asks('macro', { name }) }, name)));
     means(this.names, found.macros.map(one => one.name).join('|'));
-    text(this.why, found.failed || (found.macros.length ? '' : `No macros: ${found.path}, beside the settings, has `
-      + 'lines as Lift = ["M5", "G53 G0 Z0"]'));
-    this.why.hidden = !this.why.textContent;
-    this.show(this.shown);
   }
 }
