@@ -110,7 +110,7 @@ _WEIGHTS: tuple[tuple[str, float], ...] = (
     (r"^(Program|Setup|Tools|Log)$", 1.2),
     (r"^(Probe|Measure tool \d)", 3), (r"^X[YZ](Edge|Outside corner|Surface|Boss)$", 6), (r"^Read the macros", 0.2),
     (r"^(Top|3-D|Fit|Light|Dark|All that|Stock|So far|After the job|Draw anew|As assumed|Flat|Ball|V$)", 0.2),
-    (r"^Quit", 0.25), (r"^(Hold|Do$)", 0),
+    (r"^Quit", 0.25), (r"^(Hold|Do$|English|Deutsch)", 0),  # the person knows the buttons by their English names
 )
 _WAYS_ON = (
     r"Take over", r"Yes, give it up", r"Yes: (cuts|drops)", r"(They|It) stand", r"Tool .* (is in|is out|in)$", r"Home$",
