@@ -12,8 +12,7 @@ use Rattle.ng_pace.specs.declared.slopes.Slopes.{Slopes}
 use Rattle.ng_pace.specs.Axes.{AreMostPulses, IsFarFromCorner, IsFullAlone, IsFullCorner, IsFullRate, IsQuarterRamp, SomeAxis}
 use Rattle.ng_pace.specs.Chord.{Slope, IsSlope, IsNear}
 use Rattle.ng_pace.specs.Cone.{IsReached, size_of, bend_of}
-use Rattle.ng_pace.specs.Legs.{steps_along, bend_between}
-use Rattle.ng_pace.specs.Haste.{HasQuarter, IsFullAtCorner, IsLongest, IsQuarterSpent, IsRateSpent, IsTooFar, IsBendSpent}
+use Rattle.ng_pace.specs.Legs.{HasQuarter, IsFullAtCorner, IsLongest, IsQuarterSpent, IsRateSpent, IsTooFar, IsBendSpent, steps_along, bend_between}
 use Rattle.ng_pace.specs.Making.{HasAll}
 use Rattle.ng_pace.specs.Passing.{BendAll}
 use Rattle.ng_pace.specs.Path.{AreReached}

@@ -15,8 +15,7 @@ use Rattle.ng_pace.specs.Path.{AreReached}
 use Rattle.ng_pace.specs.Axes.{EachAxis, SomeAxis, IsAlong, IsCorner, IsFullAlone, IsFullRamp, IsFullRate, IsNearCorner}
 use Rattle.ng_pace.specs.Chord.{Slope, IsSlope, IsSlower, IsNear}
 use Rattle.ng_pace.specs.Cone.{AreBetween, IsReached, IsBend, IsPull, size_of}
-use Rattle.ng_pace.specs.Legs.{IsBending, steps_along, bend_between}
-use Rattle.ng_pace.specs.Haste.{IsAccelerationSpent, IsRateSpent, IsFullOn}
+use Rattle.ng_pace.specs.Legs.{IsAccelerationSpent, IsRateSpent, IsFullOn, IsBending, steps_along, bend_between}
 
 rate-exact : (size slope over most rate : ℕ) → slope * 1048576 ≤ size * over → size * size * most ≤ rate * rate * 1048576 * 1048576 * 65536
     → slope * slope * most ≤ rate * rate * over * over * 65536

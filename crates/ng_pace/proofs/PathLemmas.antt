@@ -17,10 +17,9 @@ use Rattle.std.specs.Int.{abs_diff}
 use Rattle.ng_pace.specs.declared.slopes.Slopes.{Slopes}
 use Rattle.ng_pace.specs.Axes.{IsAlong, IsCorner}
 use Rattle.ng_pace.specs.Chord.{Slope, IsSlope, IsSlower, IsNear}
-use Rattle.ng_pace.specs.Legs.{Leg, IsLeg, IsChord, IsPaced, IsBehind, IsCornered, IsOnChord, IsOnCorner, IsAlongEitherWay, IsBending, IsTurning}
-use Rattle.ng_pace.specs.Legs.{bend_between, step_of, steps_along}
+use Rattle.ng_pace.specs.Legs.{Leg, IsLeg, IsChord, IsFarthest, IsFullAt, IsFullAtCorner, IsLongest, IsPaced}
+use Rattle.ng_pace.specs.Legs.{IsBehind, IsCornered, IsOnChord, IsOnCorner, IsAlongEitherWay, IsBending, IsTurning, bend_between, step_of, steps_along}
 use Rattle.ng_pace.specs.Legs.{slope_along}
-use Rattle.ng_pace.specs.Haste.{AreHasty, IsFarthest, IsFullAt, IsFullAtCorner, IsHastyBehind, IsHastyCorner, IsHastyLeg, IsLongest}
 use Rattle.ng_pace.specs.Making.{IsWithin}
 use Rattle.ng_pace.specs.Passing.{AllowAlong, TakesCorner}
 use Rattle.ng_pace.specs.Path.{AreSlopes}
@@ -180,47 +179,26 @@ enters-chord limits stop before after pulses some some' line on = record {
 }
 
 -- a chord with more lines
-abbrev pub with_more : Leg → List Line → Leg
-with_more leg made = record { pulses = leg.pulses; lines = leg.lines ++ made; corner = leg.corner }
-
 behind-more : (limits : Limits) (stop : ℕ) (leg : Leg) (made : List Line) (rest : List Leg) → IsBehind limits stop leg rest
-    → IsBehind limits stop (with_more leg made) rest
+    → IsBehind limits stop (record { pulses = leg.pulses; lines = leg.lines ++ made }) rest
 behind-more limits stop leg made [] behind = tt
 behind-more limits stop leg made (before ∷ rest) behind = record {
+  farthest = behind.farthest;
+  pulses = behind.pulses;
   some = behind.some;
   few = behind.few;
   near = behind.near;
   whole = behind.whole;
   begun = omega (arith, length-append leg.lines made, behind.begun);
   leaves = behind.leaves;
-  enters = rw (take-append-le ((leg.corner + 1) / 2) leg.lines made behind.begun) behind.enters;
-}
-
--- the lines behind a corner are there
-abbrev pub HasEntered : Leg → List Leg → Type 0
-HasEntered leg [] = Unit {0}
-HasEntered leg (before ∷ rest) = (leg.corner + 1) / 2 ≤ length leg.lines
-
-pub has-entered : (limits : Limits) (stop : ℕ) (leg : Leg) (rest : List Leg) → IsPaced limits stop (leg ∷ rest) → HasEntered leg rest
-has-entered limits stop leg [] paced = tt
-has-entered limits stop leg (before ∷ rest) paced = paced.1.0.begun
-
-entered-more : (leg : Leg) (made : List Line) (rest : List Leg) → HasEntered leg rest → HasEntered (with_more leg made) rest
-entered-more leg made [] entered = tt
-entered-more leg made (before ∷ rest) entered = omega (arith, length-append leg.lines made, entered)
-
-hasty-behind-more : (limits : Limits) (leg : Leg) (made : List Line) (rest : List Leg) → HasEntered leg rest → IsHastyBehind limits leg rest
-    → IsHastyBehind limits (with_more leg made) rest
-hasty-behind-more limits leg made [] entered behind = tt
-hasty-behind-more limits leg made (before ∷ rest) entered behind = record {
-  farthest = behind.farthest;
+  enters = rw (take-append-le ((behind.pulses + 1) / 2) leg.lines made behind.begun) behind.enters;
   known = behind.known;
   others = behind.others;
   all = behind.all;
   enough = behind.enough;
   longest = behind.longest;
   leaves_full = behind.leaves_full;
-  enters_full = λ k d short more. rw (get_or-append leg.lines made d k (omega (arith, short, entered))) (behind.enters_full k d short more);
+  enters_full = λ k d short more. rw (get_or-append leg.lines made d k (omega (arith, short, behind.begun))) (behind.enters_full k d short more);
 }
 
 full-append : (limits : Limits) (pulses : List Pulse) (lines made : List Line)
@@ -240,98 +218,90 @@ full-append limits pulses lines made old new k d short from to = by_case (cases_
 
 pub paced-more : (limits : Limits) (stop : ℕ) (leg : Leg) (made : List Line) (rest : List Leg) → IsPaced limits stop (leg ∷ rest)
     → All (IsOnChord limits stop leg.pulses) made → length leg.lines + length made ≤ length leg.pulses
-    → IsPaced limits stop (with_more leg made ∷ rest)
-paced-more limits stop leg made rest paced on few = (
+    → ((k : ℕ) (d : Line) → k < length made → length leg.lines + k + limits.half < length leg.pulses
+    → IsFullAt limits leg.pulses (length leg.lines + k) (slice_index_or made k d))
+    → IsPaced limits stop (record { pulses = leg.pulses; lines = leg.lines ++ made } ∷ rest)
+paced-more limits stop leg made rest paced on few full = (
   record {
     chord = paced.0.chord;
     lines = All-append (IsOnChord limits stop leg.pulses) leg.lines made paced.0.lines on;
     few = omega (arith, length-append leg.lines made, few);
+    full = full-append limits leg.pulses leg.lines made paced.0.full full;
   },
   (behind-more limits stop leg made rest paced.1.0, paced.1.1),
 )
 
-pub hasty-more : (limits : Limits) (leg : Leg) (made : List Line) (rest : List Leg) → HasEntered leg rest → AreHasty limits (leg ∷ rest)
-    → ((k : ℕ) (d : Line) → k < length made → length leg.lines + k + limits.half < length leg.pulses
-    → IsFullAt limits leg.pulses (length leg.lines + k) (slice_index_or made k d))
-    → AreHasty limits (with_more leg made ∷ rest)
-hasty-more limits leg made rest entered hasty full = (
-  full-append limits leg.pulses leg.lines made hasty.0 full,
-  (hasty-behind-more limits leg made rest entered hasty.1.0, hasty.1.1),
-)
-
--- the lines up to the end of a corner: some along the chord before it, and then those at the corner, of which the first
--- half belong to that chord
-record AreCut (before first second : List Line) (pulses count : ℕ) : Type 0 where
-  front : length (take (pulses / 2) second) ≡ pulses / 2
-  back : length (drop (pulses / 2) second) + pulses / 2 ≡ pulses
-  known : length (before ++ first) ≡ count - pulses / 2
-  cut : drop (count - pulses / 2) ((before ++ first) ++ take (pulses / 2) second) ≡ take (pulses / 2) second
-
-are-cut : (before first second : List Line) (pulses count : ℕ) → length before + length first + pulses / 2 ≡ count → length second ≡ pulses
-    → AreCut before first second pulses count
-are-cut before first second pulses count len len' = record {
-  front = front;
-  back = omega (arith, ap length (take-append-drop (pulses / 2) second), length-append (take (pulses / 2) second) (drop (pulses / 2) second), front, len');
-  known = known;
-  cut = drop_at (before ++ first) (take (pulses / 2) second) (count - pulses / 2) known;
-} where
-  front : length (take (pulses / 2) second) ≡ pulses / 2
-  front = length-take-le (pulses / 2) second (omega (arith, len'))
-
-  known : length (before ++ first) ≡ count - pulses / 2
-  known = omega (arith, length-append before first, len)
-
--- the chords on both sides of a corner, with these lines
-abbrev pub leg_before : Leg → List Line → List Line → ℕ → Leg
-leg_before before first second pulses = record {
-  pulses = before.pulses;
-  lines = (before.lines ++ first) ++ take (pulses / 2) second;
-  corner = before.corner;
-}
-
-abbrev pub leg_behind : List Pulse → List Line → ℕ → Leg
-leg_behind chord second pulses = record { pulses = chord; lines = drop (pulses / 2) second; corner = pulses }
-
+-- the lines up to the end of a corner: some along the chord before it, and then those at the corner, of which the first half belong to that chord
 pub corner-paced : (limits : Limits) (stop : ℕ) (slopes next : List Slopes) (chord : List Pulse) (before : Leg) (rest : List Leg) (first second : List Line)
     (pulses most ramp most' : ℕ) (ramp' : Ramp)
     → IsPaced limits stop (before ∷ rest) → IsChord limits.slack chord → 0 < length before.pulses → 0 < length chord → AreSlopes slopes before.pulses
     → AreSlopes next chord
+    → IsFarthest limits.slack before.pulses chord
     → 0 < pulses → pulses ≤ length before.pulses → TakesCorner limits slopes next pulses most' ramp' → AllowAlong limits slopes most ramp → All (IsWithin most (either_way ramp) stop) first
     → All (IsWithin most' ramp' stop) second
     → length before.lines + length first + pulses / 2 ≡ length before.pulses → length second ≡ pulses → (pulses + 1) / 2 ≤ length chord
-    → IsPaced limits stop (leg_behind chord second pulses ∷ (leg_before before first second pulses ∷ rest))
+    → pulses ≤ 2 * limits.half
+    → ((k : ℕ) (d : Line) → k < length first → length before.lines + k + limits.half < length before.pulses
+    → IsFullAt limits before.pulses (length before.lines + k) (slice_index_or first k d))
+    → (known others : List Pulse) → chord ≡ known ++ others → (others ≡ []) ⊎ (4 * limits.half ≤ length known) → 0 < length known
+    → IsLongest limits before.pulses known pulses
+    → ((k : ℕ) (d : Line) → k < length second → k + 1 < pulses / 2 + length known
+    → IsFullAtCorner limits before.pulses known pulses (slice_index_or second k d))
+    → IsPaced limits stop (record {
+      pulses = chord;
+      lines = drop (pulses / 2) second;
+    } ∷ (record { pulses = before.pulses; lines = (before.lines ++ first) ++ take (pulses / 2) second } ∷ rest))
 corner-paced limits stop slopes next chord before rest first second pulses most ramp most' ramp' paced straight some
-    some' are are' long_enough fits takes allowed each each' len len' few =
+    some' are are' farthest long_enough fits takes allowed
+    each each' len len' few half full known_pulses others all enough some_known longest full' =
     (leg, (cornered, before_paced))
   where
     on : All (IsOnCorner limits stop before.pulses chord pulses) second
     on = All-weaker (IsWithin most' ramp' stop) (IsOnCorner limits stop before.pulses chord pulses)
         (on-corner limits stop slopes next before.pulses chord pulses most' ramp' some some' takes are are') second each'
 
-    cut : AreCut before.lines first second pulses (length before.pulses)
-    cut = are-cut before.lines first second pulses (length before.pulses) len len'
+    front : length (take (pulses / 2) second) ≡ pulses / 2
+    front = length-take-le (pulses / 2) second (omega (arith, len'))
 
-    before_paced : IsPaced limits stop (leg_before before first second pulses ∷ rest)
-    before_paced = paced-more limits stop (with_more before first) (take (pulses / 2) second) rest
+    back : length (drop (pulses / 2) second) + pulses / 2 ≡ pulses
+    back = omega (arith, ap length (take-append-drop (pulses / 2) second), length-append (take (pulses / 2) second) (drop (pulses / 2) second), front, len')
+
+    known : length (before.lines ++ first) ≡ length before.pulses - pulses / 2
+    known = omega (arith, length-append before.lines first, len)
+
+    before_paced : IsPaced limits stop (record { pulses = before.pulses; lines = (before.lines ++ first) ++ take (pulses / 2) second } ∷ rest)
+    before_paced = paced-more limits stop (record { pulses = before.pulses; lines = before.lines ++ first }) (take (pulses / 2) second) rest
         (paced-more limits stop before first rest paced
         (All-weaker (IsWithin most (either_way ramp) stop) (IsOnChord limits stop before.pulses) (on-chord limits stop slopes before.pulses most ramp some allowed are)
-        first each) (omega (arith, len)))
+        first each) (omega (arith, len)) full)
         (All-take (IsOnChord limits stop before.pulses) (pulses / 2) second
         (All-weaker (IsOnCorner limits stop before.pulses chord pulses) (IsOnChord limits stop before.pulses)
         (leaves-chord limits stop before.pulses chord pulses long_enough some') second on))
-        (omega (arith, length-append before.lines first, cut.front, len))
+        (omega (arith, length-append before.lines first, front, len)) (λ k d short to. absurd (omega (arith, known, len, half, to)))
 
-    leg : IsLeg limits stop (leg_behind chord second pulses)
+    leg : IsLeg limits stop (record { pulses = chord; lines = drop (pulses / 2) second })
     leg = record {
       chord = straight;
       lines = All-drop (IsOnChord limits stop chord) (pulses / 2) second
           (All-weaker (IsOnCorner limits stop before.pulses chord pulses) (IsOnChord limits stop chord)
           (enters-chord limits stop before.pulses chord pulses long_enough some) second on);
-      few = omega (arith, cut.back, few);
+      few = omega (arith, back, few);
+      full = λ k d short from to. absurd (omega (arith, back, half, short, from));
     }
 
-    cornered : IsCornered limits stop (leg_before before first second pulses) (leg_behind chord second pulses)
+    within : (k : ℕ) → k < (pulses + 1) / 2 → k + 1 < length chord → (others ≡ []) ⊎ (4 * limits.half ≤ length known_pulses) → k + 1 < length known_pulses
+    within k short more (inl none) = omega (arith, more, ap length all, length-append known_pulses others, ap length none)
+    within k short more (inr long) = omega (arith, short, long, half, long_enough)
+
+    leaving : All (IsFullAtCorner limits before.pulses known_pulses pulses) (take (pulses / 2) second)
+    leaving = λ k d short. rw (get_or-take (pulses / 2) second k d (omega (arith, front, short)))
+        (full' k d (omega (arith, front, len', short)) (omega (arith, front, short, some_known)))
+
+    cornered : IsCornered limits stop (record { pulses = before.pulses; lines = (before.lines ++ first) ++ take (pulses / 2) second })
+        (record { pulses = chord; lines = drop (pulses / 2) second })
     cornered = record {
+      farthest = farthest;
+      pulses = pulses;
       some = long_enough;
       few = fits;
       near = record {
@@ -339,55 +309,23 @@ corner-paced limits stop slopes next chord before rest first second pulses most 
         y = takes.near.y (slope_along 1 before.pulses) (slope_along 1 chord) (slope-some 1 before.pulses some) (slope-some 1 chord some') are.y are'.y;
         z = takes.near.z (slope_along 2 before.pulses) (slope_along 2 chord) (slope-some 2 before.pulses some) (slope-some 2 chord some') are.z are'.z;
       };
-      whole = omega (arith, length-append (before.lines ++ first) (take (pulses / 2) second), length-append before.lines first, cut.front, len);
-      begun = omega (arith, cut.back);
-      leaves = rw cut.cut (All-take (IsOnCorner limits stop before.pulses chord pulses) (pulses / 2) second on);
+      whole = omega (arith, length-append (before.lines ++ first) (take (pulses / 2) second), length-append before.lines first, front, len);
+      begun = omega (arith, back);
+      leaves =
+          let cut : drop (length before.pulses - pulses / 2) ((before.lines ++ first) ++ take (pulses / 2) second) ≡ take (pulses / 2) second
+          = drop_at (before.lines ++ first) (take (pulses / 2) second) (length before.pulses - pulses / 2) known in
+          rw cut (All-take (IsOnCorner limits stop before.pulses chord pulses) (pulses / 2) second on);
       enters = All-take (IsOnCorner limits stop before.pulses chord pulses) ((pulses + 1) / 2) (drop (pulses / 2) second)
           (All-drop (IsOnCorner limits stop before.pulses chord pulses) (pulses / 2) second on);
-    }
-
-pub corner-hasty : (limits : Limits) (chord : List Pulse) (before : Leg) (rest : List Leg) (first second : List Line) (pulses : ℕ)
-    → HasEntered before rest → AreHasty limits (before ∷ rest) → IsFarthest limits.slack before.pulses chord → 0 < pulses
-    → length before.lines + length first + pulses / 2 ≡ length before.pulses → length second ≡ pulses → pulses ≤ 2 * limits.half
-    → ((k : ℕ) (d : Line) → k < length first → length before.lines + k + limits.half < length before.pulses
-    → IsFullAt limits before.pulses (length before.lines + k) (slice_index_or first k d))
-    → (known others : List Pulse) → chord ≡ known ++ others → (others ≡ []) ⊎ (4 * limits.half ≤ length known) → 0 < length known
-    → IsLongest limits before.pulses known pulses
-    → ((k : ℕ) (d : Line) → k < length second → k + 1 < pulses / 2 + length known
-    → IsFullAtCorner limits before.pulses known pulses (slice_index_or second k d))
-    → AreHasty limits (leg_behind chord second pulses ∷ (leg_before before first second pulses ∷ rest))
-corner-hasty limits chord before rest first second pulses entered hasty farthest long_enough len len' half full known_pulses others all enough
-    some_known longest full' =
-    (leg, (corner, before_hasty))
-  where
-    cut : AreCut before.lines first second pulses (length before.pulses)
-    cut = are-cut before.lines first second pulses (length before.pulses) len len'
-
-    before_hasty : AreHasty limits (leg_before before first second pulses ∷ rest)
-    before_hasty = hasty-more limits (with_more before first) (take (pulses / 2) second) rest (entered-more before first rest entered)
-        (hasty-more limits before first rest entered hasty full)
-        (λ k d short to. absurd (omega (arith, cut.known, len, half, to)))
-
-    leg : IsHastyLeg limits (leg_behind chord second pulses)
-    leg = λ k d short from to. absurd (omega (arith, cut.back, half, short, from))
-
-    within : (k : ℕ) → k < (pulses + 1) / 2 → k + 1 < length chord → (others ≡ []) ⊎ (4 * limits.half ≤ length known_pulses) → k + 1 < length known_pulses
-    within k short more (inl none) = omega (arith, more, ap length all, length-append known_pulses others, ap length none)
-    within k short more (inr long) = omega (arith, short, long, half, long_enough)
-
-    leaving : All (IsFullAtCorner limits before.pulses known_pulses pulses) (take (pulses / 2) second)
-    leaving = λ k d short. rw (get_or-take (pulses / 2) second k d (omega (arith, cut.front, short)))
-        (full' k d (omega (arith, cut.front, len', short)) (omega (arith, cut.front, short, some_known)))
-
-    corner : IsHastyCorner limits (leg_before before first second pulses) (leg_behind chord second pulses)
-    corner = record {
-      farthest = farthest;
       known = known_pulses;
       others = others;
       all = all;
       enough = enough;
       longest = longest;
-      leaves_full = rw cut.cut leaving;
+      leaves_full =
+          let cut : drop (length before.pulses - pulses / 2) ((before.lines ++ first) ++ take (pulses / 2) second) ≡ take (pulses / 2) second
+          = drop_at (before.lines ++ first) (take (pulses / 2) second) (length before.pulses - pulses / 2) known in
+          rw cut leaving;
       enters_full = λ k d short more. rw (get_or-drop (pulses / 2) second k d)
           (full' (pulses / 2 + k) d (omega (arith, len', short)) (omega (arith, within k short more enough)));
     }

@@ -17,11 +17,10 @@ use Rattle.ng_pace.specs.Pacer.{Motion}
 use Rattle.ng_pace.specs.Axes.{EachAxis}
 use Rattle.ng_pace.specs.Chord.{Slope, IsSlope, IsNear, IsStraight, slope_of}
 use Rattle.ng_pace.specs.Cone.{AreBetween}
-use Rattle.ng_pace.specs.Legs.{Leg, IsChord, IsPaced, IsBehind, IsAllowed}
+use Rattle.ng_pace.specs.Legs.{Leg, IsChord, IsFarthest, IsFullAt, IsFullAtCorner, IsPaced, IsBehind, IsAllowed}
 use Rattle.ng_pace.specs.Legs.{IsOnChord, IsOnCorner, steps_along, slope_along, pulses_of, lines_of}
-use Rattle.ng_pace.specs.Haste.{AreHasty, IsFarthest, IsFullAt, IsFullAtCorner}
 use Rattle.ng_pace.specs.Making.{IsWithin}
-use Rattle.ng_pace.specs.Putting.{AreHastySoFar, KeepSoFar}
+use Rattle.ng_pace.specs.Putting.{KeepSoFar}
 use Rattle.ng_pace.specs.Passing.{PassesAlong, PassesCorner}
 use Rattle.ng_pace.specs.Path.{AreCones, AreReached, AreSlopes, IsOpen, IsGoing, IsPending, IsJoined, IsPath}
 use Rattle.ng_pace.specs.Path.{IsClosed, Advances, Reaches, Bends, Finishes, IsBegun, IsBehindFarthest, longer}
@@ -29,8 +28,7 @@ use Rattle.ng_pace.specs.Path.{reserve_of}
 use Rattle.ng_pace.proofs.ConeLemmas.{near-push}
 use Rattle.ng_pace.proofs.CornerLemmas.{full-at-corner, longest}
 use Rattle.ng_pace.proofs.ExactLemmas.{full-on}
-use Rattle.ng_pace.proofs.PathLemmas.{slope-some, chord-front, on-chord, with_more, has-entered, paced-more, hasty-more, leg_before, leg_behind}
-use Rattle.ng_pace.proofs.PathLemmas.{corner-paced, corner-hasty}
+use Rattle.ng_pace.proofs.PathLemmas.{slope-some, chord-front, on-chord, paced-more, corner-paced}
 
 -- what slopes a chord may get, whatever pulses it still takes
 abbrev pub AreAhead : ℕ → List Slopes → List Pulse → Type 0
@@ -61,16 +59,15 @@ pub along-path : (limits : Limits) (stop : ℕ) (chord : Chord) (old new : Motio
 along-path limits stop chord old new waited waits leg rest slopes reserve going some ahead reached enough one passes = record {
   made = passes.makes.made;
   known = passes.makes.known;
-  leg = with_more leg passes.makes.made;
+  leg = record { pulses = leg.pulses; lines = leg.lines ++ passes.makes.made };
   rest = rest;
   pulses_are = refl;
   lines_are = sym (append_assoc (lines_of rest) leg.lines passes.makes.made);
   path = inl (record {
     opened = going.opened;
     decided = going.decided;
-    paced = λ more straight. paced-more limits stop (longer leg more) passes.makes.made rest (going.paced more straight) (on more straight) (few more);
-    hasty = λ more straight. hasty-more limits (longer leg more) passes.makes.made rest
-        (has-entered limits stop (longer leg more) rest (going.paced more straight)) (going.hasty more straight) (full more);
+    paced = λ more straight. paced-more limits stop (longer leg more) passes.makes.made rest (going.paced more straight) (on more straight) (few more)
+        (full more);
     waits_are = omega (arith, length-append leg.lines passes.makes.made, passes.makes.rest, going.waits_are);
     reserve = omega (arith, length-append leg.lines passes.makes.made, passes.makes.rest, passes.makes.count_is, going.waits_are, going.reserve, enough);
   });
@@ -129,33 +126,28 @@ joined-corner limits stop chord waits leg (before ∷ rest) joined = joined.pend
 corner-lines : (limits : Limits) (stop : ℕ) (chord : Chord) (old new : Motion) (waited waits : List Waiting) (leg before : Leg) (rest : List Leg)
     (next : List Slopes) (pulses : List Pulse)
     → IsPending limits stop chord (length waited) leg before rest → IsChord limits.slack pulses → (others : List Pulse) → pulses ≡ leg.pulses ++ others
-    → 0 < length leg.pulses → AreSlopes next pulses
+    → (others ≡ []) ⊎ (4 * limits.half ≤ length leg.pulses) → AreReached limits.slack next leg.pulses → 0 < length leg.pulses
+    → 0 < limits.half → IsFarthest limits.slack before.pulses pulses → AreSlopes next pulses
     → (p : PassesCorner limits chord.before next chord.before_pulses chord.pulses stop old new waited waits)
     → AreCounts (length before.lines) (length p.first.made) (length p.then.made) (length waits) (length leg.pulses) (length before.pulses) limits.half p.pulses
-    → IsPaced limits stop (leg_behind pulses p.then.made p.pulses ∷ (leg_before before p.first.made p.then.made p.pulses ∷ rest))
-corner-lines limits stop chord old new waited waits leg before rest next pulses pending straight others all some are p count =
+    → IsPaced limits stop (record {
+      pulses = pulses;
+      lines = drop (p.pulses / 2) p.then.made;
+    } ∷ (record {
+      pulses = before.pulses;
+      lines = (before.lines ++ p.first.made) ++ take (p.pulses / 2) p.then.made;
+    } ∷ rest))
+corner-lines limits stop chord old new waited waits leg before rest next pulses pending straight others all enough reached some half farthest are p count =
     corner-paced limits stop chord.before next pulses before rest p.first.made p.then.made p.pulses p.before_most p.before_ramp p.most p.ramp pending.paced
     straight pending.some (omega (arith, some, longer_is))
-    pending.before_is are p.some (omega (arith, p.before_few, pending.before_count, pending.some)) p.takes p.before_allowed p.first.each p.then.each count.meets
-    count.all (omega (arith, count.few, longer_is)) where
-      longer_is : length leg.pulses ≤ length pulses
-      longer_is = omega (arith, ap length all, length-append leg.pulses others)
-
--- are no slower than they have to be
-corner-haste : (limits : Limits) (stop : ℕ) (chord : Chord) (old new : Motion) (waited waits : List Waiting) (leg before : Leg) (rest : List Leg)
-    (next : List Slopes) (pulses : List Pulse)
-    → IsPending limits stop chord (length waited) leg before rest → (others : List Pulse) → pulses ≡ leg.pulses ++ others
-    → (others ≡ []) ⊎ (4 * limits.half ≤ length leg.pulses) → AreReached limits.slack next leg.pulses → 0 < length leg.pulses
-    → 0 < limits.half → IsFarthest limits.slack before.pulses pulses
-    → (p : PassesCorner limits chord.before next chord.before_pulses chord.pulses stop old new waited waits)
-    → AreCounts (length before.lines) (length p.first.made) (length p.then.made) (length waits) (length leg.pulses) (length before.pulses) limits.half p.pulses
-    → AreHasty limits (leg_behind pulses p.then.made p.pulses ∷ (leg_before before p.first.made p.then.made p.pulses ∷ rest))
-corner-haste limits stop chord old new waited waits leg before rest next pulses pending others all enough reached some half farthest p count =
-    corner-hasty limits pulses before rest p.first.made p.then.made p.pulses (has-entered limits stop before rest pending.paced) pending.hasty farthest p.some
-    count.meets count.all (omega (arith, p.half, half)) full leg.pulses others all enough some
+    pending.before_is are farthest p.some (omega (arith, p.before_few, pending.before_count, pending.some)) p.takes p.before_allowed p.first.each p.then.each count.meets count.all (omega (arith, count.few, longer_is))
+    (omega (arith, p.half, half)) full leg.pulses others all enough some
     (longest limits before.pulses leg.pulses chord.before next chord.before_pulses chord.pulses p.pulses p.feed
     p.most p.ramp pending.before_reached reached p.full
     pending.before_count pending.opened.count) full' where
+      longer_is : length leg.pulses ≤ length pulses
+      longer_is = omega (arith, ap length all, length-append leg.pulses others)
+
       full' : (k : ℕ) (d : Line) → k < length p.then.made → k + 1 < p.pulses / 2 + length leg.pulses
           → IsFullAtCorner limits before.pulses leg.pulses p.pulses (slice_index_or p.then.made k d)
       full' k d short to = full-at-corner limits before.pulses leg.pulses chord.before next chord.before_pulses chord.pulses p.pulses p.feed p.most p.ramp
@@ -219,18 +211,17 @@ corner-path limits stop chord chord' old new waited waits leg before rest next p
     record {
       made = p.first.made ++ p.then.made;
       known = known-both old p.mid new p.first.made p.then.made p.first.known p.then.known;
-      leg = leg_behind leg.pulses p.then.made p.pulses;
-      rest = leg_before before p.first.made p.then.made p.pulses ∷ rest;
+      leg = record { pulses = leg.pulses; lines = drop (p.pulses / 2) p.then.made };
+      rest = record { pulses = before.pulses; lines = (before.lines ++ p.first.made) ++ take (p.pulses / 2) p.then.made } ∷ rest;
       pulses_are = refl;
       lines_are = corner-split leg before rest p.first.made p.then.made (p.pulses / 2) pending.none;
       path = inl (record {
         opened = opened-decided limits chord chord' leg.pulses e pending.opened;
         decided = ap (λ t. t.has_corner) e;
         paced = λ more straight. corner-lines limits stop chord old new waited waits leg before rest next (leg.pulses ++ more) pending straight
-            more refl some (slopes-ahead limits.slack next leg.pulses more some ahead straight) p count;
-        hasty = λ more straight. corner-haste limits stop chord old new waited waits leg before rest next (leg.pulses ++ more) pending
             more refl (inr (omega (arith, long, pending.opened.count))) reached some half
-            (farthest-more limits.slack before.pulses leg.pulses more some pending.farthest) p count;
+            (farthest-more limits.slack before.pulses leg.pulses more some pending.farthest)
+            (slopes-ahead limits.slack next leg.pulses more some ahead straight) p count;
         waits_are = omega (arith, back, count.all, count.left);
         reserve = omega (arith, back, count.all, count.reserve);
       });
@@ -254,14 +245,12 @@ corner-reach limits stop chord old new waited waits leg before rest next pending
         made = p.first.made ++ p.then.made;
         known = known-both old p.mid new p.first.made p.then.made p.first.known p.then.known;
         last = drop (p.pulses / 2) p.then.made;
-        corner = p.pulses;
-        rest = leg_before before p.first.made p.then.made p.pulses ∷ rest;
+        rest = record { pulses = before.pulses; lines = (before.lines ++ p.first.made) ++ take (p.pulses / 2) p.then.made } ∷ rest;
         pulses_are = refl;
         lines_are = corner-split leg before rest p.first.made p.then.made (p.pulses / 2) pending.none;
         paced = corner-lines limits stop chord old new waited waits leg before rest next leg.pulses pending pending.opened.straight []
-            (sym (append-nil leg.pulses)) some are p count;
-        hasty = corner-haste limits stop chord old new waited waits leg before rest next leg.pulses pending []
-            (sym (append-nil leg.pulses)) (inl refl) reached some half pending.farthest p count;
+            (sym (append-nil leg.pulses)) (inl refl) reached some half pending.farthest are p
+            count;
         waits_are = omega (arith, back, count.all, count.left);
       },
       omega (arith, count.left, count.reserve),
@@ -277,14 +266,11 @@ going-reach limits stop chord m waited leg rest going = (
     made = [];
     known = sym (append-nil m.known);
     last = leg.lines;
-    corner = leg.corner;
     rest = rest;
     pulses_are = refl;
     lines_are = sym (append-nil (lines_of (leg ∷ rest)));
-    paced = let P : List Pulse → Type 0 = λ t. IsPaced limits stop (record { pulses = t; lines = leg.lines; corner = leg.corner } ∷ rest) in
+    paced = let P : List Pulse → Type 0 = λ t. IsPaced limits stop (record { pulses = t; lines = leg.lines } ∷ rest) in
         subst P (append-nil leg.pulses) (going.paced [] (rw (append-nil leg.pulses) going.opened.straight));
-    hasty = let P : List Pulse → Type 0 = λ t. AreHasty limits (record { pulses = t; lines = leg.lines; corner = leg.corner } ∷ rest) in
-        subst P (append-nil leg.pulses) (going.hasty [] (rw (append-nil leg.pulses) going.opened.straight));
     waits_are = going.waits_are;
   },
   omega (arith, going.waits_are, going.reserve),
@@ -372,23 +358,18 @@ along-reach limits stop old mid new waited waits chord pulses lines slopes reser
     made = reached.made ++ passes.makes.made;
     known = known-both old mid new reached.made passes.makes.made reached.known passes.makes.known;
     last = reached.last ++ passes.makes.made;
-    corner = reached.corner;
     rest = reached.rest;
     pulses_are = reached.pulses_are;
     lines_are = sym (append_assoc (lines_of reached.rest) reached.last passes.makes.made) ∙ ap (λ t. t ++ passes.makes.made) reached.lines_are
         ∙ append_assoc lines reached.made passes.makes.made;
-    paced = paced-more limits stop last passes.makes.made reached.rest reached.paced
+    paced = paced-more limits stop (record { pulses = chord; lines = reached.last }) passes.makes.made reached.rest reached.paced
         (All-weaker (IsWithin passes.most (either_way passes.ramp) stop) (IsOnChord limits stop chord)
         (on-chord limits stop slopes chord passes.most passes.ramp some passes.allowed are) passes.makes.made passes.makes.each)
-        (omega (arith, reached.waits_are, passes.makes.rest));
-    hasty = hasty-more limits last passes.makes.made reached.rest (has-entered limits stop last reached.rest reached.paced) reached.hasty full;
+        (omega (arith, reached.waits_are, passes.makes.rest)) full;
     waits_are = omega (arith, length-append reached.last passes.makes.made, reached.waits_are, passes.makes.rest);
   },
   omega (arith, passes.makes.count_is, passes.makes.rest, enough),
 ) where
-  last : Leg
-  last = record { pulses = chord; lines = reached.last; corner = reached.corner }
-
   full : (k : ℕ) (d : Line) → k < length passes.makes.made → length reached.last + k + limits.half < length chord
       → IsFullAt limits chord (length reached.last + k) (slice_index_or passes.makes.made k d)
   full k d short to = record {
@@ -406,7 +387,7 @@ pub take-path : (limits : Limits) (stop : ℕ) (chord chord' : Chord) (waits : �
     → chord' ≡ record chord { pulses = chord'.pulses; cones = chord'.cones } → AreCones limits.slack chord'.cones (leg.pulses ++ pulse ∷ [])
     → chord'.pulses ≡ length leg.pulses + 1
     → IsChord limits.slack (leg.pulses ++ pulse ∷ []) → length leg.pulses < 1048576 → IsBehindFarthest limits.slack rest (leg.pulses ++ pulse ∷ [])
-    → IsPath limits stop chord' (waits + 1) (record { pulses = leg.pulses ++ pulse ∷ []; lines = leg.lines; corner = leg.corner } ∷ rest)
+    → IsPath limits stop chord' (waits + 1) (record { pulses = leg.pulses ++ pulse ∷ []; lines = leg.lines } ∷ rest)
 take-path limits stop chord chord' waits leg rest pulse path same cones count straight few farthest = by_path rest path farthest where
   opened : IsOpen limits chord leg.pulses → IsOpen limits chord' (leg.pulses ++ pulse ∷ [])
   opened is = record {
@@ -418,14 +399,12 @@ take-path limits stop chord chord' waits leg rest pulse path same cones count st
   }
 
   by_path : (rest : List Leg) → IsPath limits stop chord waits (leg ∷ rest) → IsBehindFarthest limits.slack rest (leg.pulses ++ pulse ∷ [])
-      → IsPath limits stop chord' (waits + 1) (record { pulses = leg.pulses ++ pulse ∷ []; lines = leg.lines; corner = leg.corner } ∷ rest)
+      → IsPath limits stop chord' (waits + 1) (record { pulses = leg.pulses ++ pulse ∷ []; lines = leg.lines } ∷ rest)
   by_path rest (inl going) far = inl (record {
     opened = opened going.opened;
     decided = ap (λ t. t.has_corner) same ∙ going.decided;
-    paced = λ more chord_is. let P : List Pulse → Type 0 = λ t. IsPaced limits stop (record { pulses = t; lines = leg.lines; corner = leg.corner } ∷ rest) in
+    paced = λ more chord_is. let P : List Pulse → Type 0 = λ t. IsPaced limits stop (record { pulses = t; lines = leg.lines } ∷ rest) in
         subst P (sym (append_assoc leg.pulses (pulse ∷ []) more)) (going.paced (pulse ∷ more) (rw (append_assoc leg.pulses (pulse ∷ []) more) at chord_is));
-    hasty = λ more chord_is. let P : List Pulse → Type 0 = λ t. AreHasty limits (record { pulses = t; lines = leg.lines; corner = leg.corner } ∷ rest) in
-        subst P (sym (append_assoc leg.pulses (pulse ∷ []) more)) (going.hasty (pulse ∷ more) (rw (append_assoc leg.pulses (pulse ∷ []) more) at chord_is));
     waits_are = omega (arith, length-append leg.pulses (pulse ∷ []), going.waits_are);
     reserve = omega (arith, length-append leg.pulses (pulse ∷ []), going.reserve);
   })
@@ -435,7 +414,6 @@ take-path limits stop chord chord' waits leg rest pulse path same cones count st
     pending = ap (λ t. t.has_corner) same ∙ pending.pending;
     none = pending.none;
     paced = pending.paced;
-    hasty = pending.hasty;
     farthest = far;
     some = pending.some;
     before_reached = rw (ap (λ t. t.before) same) pending.before_reached;
@@ -447,7 +425,7 @@ take-path limits stop chord chord' waits leg rest pulse path same cones count st
 
 pub advances-pulses : (limits : Limits) (stop : ℕ) (old new : Motion) (chord : Chord) (waits : ℕ) (leg : Leg) (rest : List Leg) (pulse : Pulse)
     (lines : List Line)
-    → Advances limits stop old new chord waits (pulses_of (record { pulses = leg.pulses ++ pulse ∷ []; lines = leg.lines; corner = leg.corner } ∷ rest)) lines
+    → Advances limits stop old new chord waits (pulses_of (record { pulses = leg.pulses ++ pulse ∷ []; lines = leg.lines } ∷ rest)) lines
     → Advances limits stop old new chord waits (pulses_of (leg ∷ rest) ++ pulse ∷ []) lines
 advances-pulses limits stop old new chord waits leg rest pulse lines a = record {
   made = a.made;
@@ -471,15 +449,24 @@ allowed-stop P stop line is = record { ramp = is.ramp; allowed = is.allowed; wit
 behind-stop : (limits : Limits) (stop : ℕ) (leg : Leg) (rest : List Leg) → IsBehind limits 0 leg rest → IsBehind limits stop leg rest
 behind-stop limits stop leg [] behind = tt
 behind-stop limits stop leg (before ∷ rest) behind = record {
+  farthest = behind.farthest;
+  pulses = behind.pulses;
   some = behind.some;
   few = behind.few;
   near = behind.near;
   whole = behind.whole;
   begun = behind.begun;
-  leaves = All-weaker (IsOnCorner limits 0 before.pulses leg.pulses leg.corner) (IsOnCorner limits stop before.pulses leg.pulses leg.corner)
+  leaves = All-weaker (IsOnCorner limits 0 before.pulses leg.pulses behind.pulses) (IsOnCorner limits stop before.pulses leg.pulses behind.pulses)
       (λ line on. allowed-stop _ stop line on) _ behind.leaves;
-  enters = All-weaker (IsOnCorner limits 0 before.pulses leg.pulses leg.corner) (IsOnCorner limits stop before.pulses leg.pulses leg.corner)
+  enters = All-weaker (IsOnCorner limits 0 before.pulses leg.pulses behind.pulses) (IsOnCorner limits stop before.pulses leg.pulses behind.pulses)
       (λ line on. allowed-stop _ stop line on) _ behind.enters;
+  known = behind.known;
+  others = behind.others;
+  all = behind.all;
+  enough = behind.enough;
+  longest = behind.longest;
+  leaves_full = behind.leaves_full;
+  enters_full = behind.enters_full;
 }
 
 pub paced-stop : (limits : Limits) (stop : ℕ) (legs : List Leg) → IsPaced limits 0 legs → IsPaced limits stop legs
@@ -489,6 +476,7 @@ paced-stop limits stop (leg ∷ rest) paced = (
     chord = paced.0.chord;
     lines = All-weaker (IsOnChord limits 0 leg.pulses) (IsOnChord limits stop leg.pulses) (λ line on. allowed-stop _ stop line on) leg.lines paced.0.lines;
     few = paced.0.few;
+    full = paced.0.full;
   },
   (behind-stop limits stop leg rest paced.1.0, paced-stop limits stop rest paced.1.1),
 )
@@ -500,7 +488,6 @@ path-stop limits stop chord waits (leg ∷ rest) (inl going) = inl (record {
   opened = going.opened;
   decided = going.decided;
   paced = λ more straight. paced-stop limits stop (longer leg more ∷ rest) (going.paced more straight);
-  hasty = going.hasty;
   waits_are = going.waits_are;
   reserve = going.reserve;
 })
@@ -511,7 +498,6 @@ path-stop limits stop chord waits (leg ∷ (before ∷ rest)) (inr pending) = in
   none = pending.none;
   farthest = pending.farthest;
   paced = paced-stop limits stop (before ∷ rest) pending.paced;
-  hasty = pending.hasty;
   some = pending.some;
   before_reached = pending.before_reached;
   before_is = pending.before_is;
@@ -539,25 +525,15 @@ pub finish-reach : (limits : Limits) (stop : ℕ) (old new : Motion) (waits : �
 finish-reach limits stop old new waits chord pulses lines reached none = record {
   made = reached.made;
   known = reached.known;
-  legs = record { pulses = chord; lines = reached.last; corner = reached.corner } ∷ reached.rest;
+  legs = record { pulses = chord; lines = reached.last } ∷ reached.rest;
   pulses_are = reached.pulses_are;
   lines_are = reached.lines_are;
   paced = reached.paced;
-  hasty = reached.hasty;
-  whole = whole-paced limits stop (record { pulses = chord; lines = reached.last; corner = reached.corner }) reached.rest reached.paced (omega (arith, reached.waits_are, none));
+  whole = whole-paced limits stop (record { pulses = chord; lines = reached.last }) reached.rest reached.paced (omega (arith, reached.waits_are, none));
 }
 
 pub finish-none : (limits : Limits) (stop : ℕ) (m : Motion) → Finishes limits stop m m [] []
-finish-none limits stop m = record {
-  made = [];
-  known = sym (append-nil m.known);
-  legs = [];
-  pulses_are = refl;
-  lines_are = refl;
-  paced = tt;
-  hasty = tt;
-  whole = refl;
-}
+finish-none limits stop m = record { made = []; known = sym (append-nil m.known); legs = []; pulses_are = refl; lines_are = refl; paced = tt; whole = refl }
 
 pub finish-same : (limits : Limits) (stop : ℕ) (old mid new : Motion) (pulses : List Pulse) (lines : List Line) → Finishes limits stop old mid pulses lines
     → new.known ≡ mid.known → Finishes limits stop old new pulses lines
@@ -568,7 +544,6 @@ finish-same limits stop old mid new pulses lines f same = record {
   pulses_are = f.pulses_are;
   lines_are = f.lines_are;
   paced = f.paced;
-  hasty = f.hasty;
   whole = f.whole;
 }
 
@@ -592,7 +567,7 @@ pub bends-fresh : (limits : Limits) (chord chord' : Chord) (m : Motion) (waits :
 bends-fresh limits chord chord' m waits pulse same cones none = record {
   made = [];
   known = sym (append-nil m.known);
-  leg = record { pulses = []; lines = []; corner = 0 };
+  leg = record { pulses = []; lines = [] };
   rest = [];
   pulses_are = refl;
   lines_are = refl;
@@ -610,10 +585,11 @@ bends-fresh limits chord chord' m waits pulse same cones none = record {
         chord = straight;
         lines = All-nil (IsOnChord limits 0 more);
         few = omega arith;
+        full =
+            λ k d short. absurd (omega (arith, short));
       },
       (tt, tt),
     );
-    hasty = λ more straight. (λ k d short. absurd (omega (arith, short)), (tt, tt));
     waits_are = omega (arith, none);
     reserve = omega arith;
   });
@@ -632,8 +608,8 @@ pub bends-corner : (limits : Limits) (chord chord' : Chord) (old new : Motion) (
 bends-corner limits chord chord' old new waits reserve pulse last pulses lines reached closed kept_is some farthest same cones = record {
   made = reached.made;
   known = reached.known;
-  leg = record { pulses = []; lines = []; corner = 0 };
-  rest = record { pulses = last; lines = reached.last; corner = reached.corner } ∷ reached.rest;
+  leg = record { pulses = []; lines = [] };
+  rest = record { pulses = last; lines = reached.last } ∷ reached.rest;
   pulses_are = append-nil (pulses_of reached.rest ++ last) ∙ reached.pulses_are;
   lines_are = append-nil (lines_of reached.rest ++ reached.last) ∙ reached.lines_are;
   path = inr (record {
@@ -647,7 +623,6 @@ bends-corner limits chord chord' old new waits reserve pulse last pulses lines r
     pending = ap (λ t. t.has_corner) same;
     none = refl;
     paced = reached.paced;
-    hasty = reached.hasty;
     farthest = λ pulse rest is. absurd (cc);
     some = some;
     before_reached = rw (ap (λ t. t.before) same) closed.before_reached;
@@ -665,7 +640,7 @@ bends-corner limits chord chord' old new waits reserve pulse last pulses lines r
 path-farthest : (limits : Limits) (chord : Chord) (waits : ℕ) (leg : Leg) (rest : List Leg) (more : List Pulse) → IsPath limits 0 chord waits (leg ∷ rest)
     → 0 < length leg.pulses → IsChord limits.slack (leg.pulses ++ more) → IsBehindFarthest limits.slack rest (leg.pulses ++ more)
 path-farthest limits chord waits leg [] more path some straight = tt
-path-farthest limits chord waits leg (before ∷ rest) more (inl going) some straight = let hasty = going.hasty more straight in hasty.1.0.farthest
+path-farthest limits chord waits leg (before ∷ rest) more (inl going) some straight = let paced = going.paced more straight in paced.1.0.farthest
 path-farthest limits chord waits leg (before ∷ rest) more (inr pending) some straight
     = farthest-more limits.slack before.pulses leg.pulses more some pending.farthest
 
@@ -760,15 +735,7 @@ going-path limits chord m waits pulse (leg ∷ rest) path begun is stays =
 pub keep-so-far : (limits : Limits) (chord : Chord) (waits : ℕ) (legs : List Leg) → IsPath limits 0 chord waits legs → KeepSoFar limits legs
 keep-so-far limits chord waits [] path = tt
 keep-so-far limits chord waits (leg ∷ rest) (inl going) =
-    inl (let P : List Pulse → Type 0 = λ t. IsPaced limits 0 (record { pulses = t; lines = leg.lines; corner = leg.corner } ∷ rest) in
+    inl (let P : List Pulse → Type 0 = λ t. IsPaced limits 0 (record { pulses = t; lines = leg.lines } ∷ rest) in
     subst P (append-nil leg.pulses) (going.paced [] (rw (append-nil leg.pulses) going.opened.straight)))
 keep-so-far limits chord waits (leg ∷ []) (inr joined) = absurd joined
 keep-so-far limits chord waits (leg ∷ (before ∷ rest)) (inr pending) = inr (pending.none, (pending.opened.straight, pending.paced))
-
-pub hasty-so-far : (limits : Limits) (chord : Chord) (waits : ℕ) (legs : List Leg) → IsPath limits 0 chord waits legs → AreHastySoFar limits legs
-hasty-so-far limits chord waits [] path = tt
-hasty-so-far limits chord waits (leg ∷ rest) (inl going) =
-    inl (let P : List Pulse → Type 0 = λ t. AreHasty limits (record { pulses = t; lines = leg.lines; corner = leg.corner } ∷ rest) in
-    subst P (append-nil leg.pulses) (going.hasty [] (rw (append-nil leg.pulses) going.opened.straight)))
-hasty-so-far limits chord waits (leg ∷ []) (inr joined) = absurd joined
-hasty-so-far limits chord waits (leg ∷ (before ∷ rest)) (inr pending) = inr (pending.none, pending.hasty)

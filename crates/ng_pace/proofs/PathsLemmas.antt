@@ -9,11 +9,11 @@ use Rattle.ng_pace.specs.declared.stepping.Given.{Given}
 use Rattle.ng_pace.specs.Stream.{Flow, still_line}
 use Rattle.ng_pace.specs.Start.{start_of}
 use Rattle.ng_pace.specs.Legs.{Leg, pulses_of, lines_of}
-use Rattle.ng_pace.specs.Putting.{IsUnderway, Goes, Rests, KeepSoFar, AreHastySoFar}
+use Rattle.ng_pace.specs.Putting.{IsUnderway, Goes, Rests, KeepSoFar}
 use Rattle.ng_pace.specs.Calls.{IsEmpty, IsFlowGiven}
 use Rattle.ng_pace.specs.Run.{Event, put, end, ask, IsRun, lines_given}
-use Rattle.ng_pace.specs.Paths.{Path, lines_on, AreWithinLimits, AreHastyPaths, ArePathsOf, lines_out, KeepsToPaths}
-use Rattle.ng_pace.proofs.PathStepLemmas.{keep-so-far, hasty-so-far}
+use Rattle.ng_pace.specs.Paths.{Path, lines_on, AreWithinLimits, ArePathsOf, lines_out, KeepsToPaths}
+use Rattle.ng_pace.proofs.PathStepLemmas.{keep-so-far}
 
 -- what was made since some chords were underway
 record Makes (Q : List Path → List Leg → Type 0) (limits : Limits) (start : ℕ) (old : Flow) (legs : List Leg) (givens : List Given) (new : Flow) : Type 0 where
@@ -24,7 +24,6 @@ record Makes (Q : List Path → List Leg → Type 0) (limits : Limits) (start : 
   known : lines_out givens ++ new.motion.known ≡ old.motion.known ++ made
   lines : lines_of legs ++ made ≡ lines_on paths ++ lines_of last
   within_limits : AreWithinLimits limits start paths
-  hasty : AreHastyPaths limits paths
   limits_are : new.limits ≡ limits
   underway : IsUnderway new last
 
@@ -40,7 +39,6 @@ goes-on P Q f limits start old mid new legs chords made givens known lines later
   known = later.known ∙ ap (λ t. t ++ later.made) known ∙ append_assoc old.motion.known made later.made;
   lines = sym (append_assoc (lines_of legs) made later.made) ∙ ap (λ t. t ++ later.made) (sym lines) ∙ later.lines;
   within_limits = later.within_limits;
-  hasty = later.hasty;
   limits_are = later.limits_are;
   underway = later.underway;
 }
@@ -60,7 +58,6 @@ rests-on P Q limits start old mid new legs items givens same starts r f later = 
       ∙ ap (λ t. t ++ later.made) (sym (append_assoc (lines_of legs) r.made still) ∙ ap (λ t. t ++ still) (sym r.lines_are))
       ∙ ap (λ t. (lines_of r.chords ++ still) ++ t) later.lines ∙ sym (append_assoc (lines_of r.chords ++ still) (lines_on later.paths) (lines_of later.last));
   within_limits = (record { items = r.items_are; paced = rw (← same, ← starts) r.paced }, later.within_limits);
-  hasty = (rw (← same) r.hasty, later.hasty);
   limits_are = later.limits_are;
   underway = later.underway;
 } where
@@ -90,7 +87,6 @@ on-paths limits start old [] new legs same starts underway run = record {
   known = ap (λ t. t.motion.known) run ∙ sym (append-nil old.motion.known);
   lines = append-nil (lines_of legs);
   within_limits = tt;
-  hasty = tt;
   limits_are = ap (λ t. t.limits) run ∙ same;
   underway = rw run underway;
 }
@@ -129,7 +125,6 @@ on-paths limits start old (ask wanted (Some given) ∷ events) new legs same sta
       known = given-on (ArePathsOf (pulses_of legs) events) limits start old run.0 new legs given.line (lines_given events) gives.given_out.order later;
       lines = later.lines;
       within_limits = later.within_limits;
-      hasty = later.hasty;
       limits_are = later.limits_are;
       underway = later.underway;
     }
@@ -143,7 +138,6 @@ on-paths limits start old (ask wanted None ∷ events) new legs same starts unde
       known = later.known;
       lines = later.lines;
       within_limits = later.within_limits;
-      hasty = later.hasty;
       limits_are = later.limits_are;
       underway = later.underway;
     }
@@ -153,15 +147,12 @@ pub keeps-to-paths : (old : Flow) (limits : Limits) (capacity : ℕ) (events : L
 keeps-to-paths old limits capacity events new empty run =
     let m : Makes (ArePathsOf [] events) limits (start_of limits) old [] (lines_given events) new = on-paths limits
     (start_of limits) old events new [] empty.limits_are empty.start empty.underway run in
-    let so_far : KeepSoFar new.limits m.last = keep-so-far new.limits new.chord (length new.waiting) m.last m.underway.path in
-    let hasty_so_far : AreHastySoFar new.limits m.last = hasty-so-far new.limits new.chord (length new.waiting) m.last m.underway.path in record {
+    let so_far : KeepSoFar new.limits m.last = keep-so-far new.limits new.chord (length new.waiting) m.last m.underway.path in record {
       paths = m.paths;
       last = m.last;
       are_of = m.are_of;
       lines = m.known ∙ ap (λ t. t ++ m.made) empty.known ∙ m.lines;
       within_limits = m.within_limits;
       so_far = subst (λ t. KeepSoFar t m.last) m.limits_are so_far;
-      hasty = m.hasty;
-      hasty_so_far = subst (λ t. AreHastySoFar t m.last) m.limits_are hasty_so_far;
       items = m.underway.items;
     }

@@ -69,7 +69,6 @@ rest-flow old new legs more underway h items = record {
   items_are = ap items_of h.finishes.lines_are ∙ items_of-append (lines_of legs) h.finishes.made ∙ ap (λ t. items_of (lines_of legs) ++ t) all
       ∙ underway.items ∙ ap (λ t. map Pulse t) (sym h.finishes.pulses_are);
   paced = h.finishes.paced;
-  hasty = h.finishes.hasty;
   underway = record { path = h.path; begun = tt; items = none };
 } where
   known : new.motion.known ≡ old.motion.known ++ (h.finishes.made ++ map still_line more)

@@ -13,7 +13,6 @@ pub mod WaitingPulses
 pub mod Wanted
 pub mod Stream
 pub mod Legs
-pub mod Haste
 pub mod Making
 pub mod Passing
 pub mod Path

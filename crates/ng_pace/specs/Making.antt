@@ -3,8 +3,7 @@ use Rattle.std.specs.Prelude.{ℕ, ◌+◌, ◌*◌, ◌/◌, ◌^◌, ◌<◌, 
 use Rattle.std.specs.Prelude.{All}
 use Rattle.ng_pace.specs.declared.line.Line.{Line}
 use Rattle.ng_pace.specs.declared.line.Ramp.{Ramp}
-use Rattle.ng_pace.specs.Legs.{IsRampWithin}
-use Rattle.ng_pace.specs.Haste.{least_ramp}
+use Rattle.ng_pace.specs.Legs.{IsRampWithin, least_ramp}
 use Rattle.ng_pace.specs.declared.chord.Waiting.{Waiting}
 use Rattle.ng_pace.specs.declared.settling.Ending.{Ending}
 use Rattle.ng_pace.specs.declared.settling.Ending.TheVariants.{GoesOn, Ends}

@@ -11,8 +11,7 @@ use Rattle.ng_pace.specs.Pacer.{Motion}
 use Rattle.ng_pace.specs.Axes.{EachAxis}
 use Rattle.ng_pace.specs.Chord.{IsNear}
 use Rattle.ng_pace.specs.Cone.{IsCone, IsReached, AreBetween}
-use Rattle.ng_pace.specs.Legs.{Leg, IsChord, IsPaced, pulses_of, lines_of, steps_along, slope_along}
-use Rattle.ng_pace.specs.Haste.{AreHasty, IsFarthest}
+use Rattle.ng_pace.specs.Legs.{Leg, IsChord, IsFarthest, IsPaced, pulses_of, lines_of, steps_along, slope_along}
 
 -- the cones of some pulses, by axes
 abbrev pub AreCones : ℕ → List Cone → List Pulse → Type 0
@@ -41,7 +40,7 @@ reserve_of half pulses = min pulses (2 * half) / 2
 
 -- a chord with more pulses
 abbrev pub longer : Leg → List Pulse → Leg
-longer leg more = record { pulses = leg.pulses ++ more; lines = leg.lines; corner = leg.corner }
+longer leg more = record { pulses = leg.pulses ++ more; lines = leg.lines }
 
 -- the corner at which the chord begins, if it has one, is decided: whatever pulses the chord still takes, its lines
 -- keep to it
@@ -49,7 +48,6 @@ pub record IsGoing (limits : Limits) (stop : ℕ) (chord : Chord) (waits : ℕ) 
   pub opened : IsOpen limits chord leg.pulses
   pub decided : IsFalse chord.has_corner
   pub paced : (more : List Pulse) → IsChord limits.slack (leg.pulses ++ more) → IsPaced limits stop (longer leg more ∷ rest)
-  pub hasty : (more : List Pulse) → IsChord limits.slack (leg.pulses ++ more) → AreHasty limits (longer leg more ∷ rest)
   pub waits_are : waits + length leg.lines ≡ length leg.pulses
   pub reserve : length leg.lines + reserve_of limits.half (length leg.pulses) ≤ length leg.pulses
 
@@ -59,7 +57,6 @@ pub record IsPending (limits : Limits) (stop : ℕ) (chord : Chord) (waits : ℕ
   pub pending : IsTrue chord.has_corner
   pub none : leg.lines ≡ []
   pub paced : IsPaced limits stop (before ∷ rest)
-  pub hasty : AreHasty limits (before ∷ rest)
   pub farthest : IsFarthest limits.slack before.pulses leg.pulses
   pub some : 0 < length before.pulses
   pub before_is : AreSlopes chord.before before.pulses
@@ -93,12 +90,10 @@ pub record Reaches (limits : Limits) (stop : ℕ) (old new : Motion) (waits : �
   pub made : List Line
   pub known : new.known ≡ old.known ++ made
   pub last : List Line
-  pub corner : ℕ
   pub rest : List Leg
   pub pulses_are : pulses_of rest ++ chord ≡ pulses
   pub lines_are : lines_of rest ++ last ≡ lines ++ made
-  pub paced : IsPaced limits stop (record { pulses = chord; lines = last; corner = corner } ∷ rest)
-  pub hasty : AreHasty limits (record { pulses = chord; lines = last; corner = corner } ∷ rest)
+  pub paced : IsPaced limits stop (record { pulses = chord; lines = last } ∷ rest)
   pub waits_are : waits + length last ≡ length chord
 
 -- the last chord of a path has a pulse
@@ -139,5 +134,4 @@ pub record Finishes (limits : Limits) (stop : ℕ) (old new : Motion) (pulses : 
   pub pulses_are : pulses_of legs ≡ pulses
   pub lines_are : lines_of legs ≡ lines ++ made
   pub paced : IsPaced limits stop legs
-  pub hasty : AreHasty limits legs
   pub whole : length (lines_of legs) ≡ length (pulses_of legs)

@@ -8,8 +8,7 @@ use Rattle.ng_pace.specs.declared.line.Line.{Line}
 use Rattle.ng_pace.specs.declared.stepping.Given.{Given}
 use Rattle.ng_pace.specs.Stream.{Flow, items_of, items_waiting, still_line}
 use Rattle.ng_pace.specs.Legs.{Leg, IsPaced, pulses_of, lines_of}
-use Rattle.ng_pace.specs.Haste.{AreHasty}
-use Rattle.ng_pace.specs.Putting.{AreHastySoFar, KeepSoFar}
+use Rattle.ng_pace.specs.Putting.{KeepSoFar}
 use Rattle.ng_pace.specs.Run.{Event, put, end, ask, lines_given}
 
 -- the chords from one rest to the next, and the items behind them at which everything stands still
@@ -31,11 +30,6 @@ pub record IsWithinLimits (limits : Limits) (start : ℕ) (path : Path) : Type 0
 abbrev pub AreWithinLimits : Limits → ℕ → List Path → Type 0
 AreWithinLimits limits start [] = Unit {0}
 AreWithinLimits limits start (path ∷ rest) = IsWithinLimits limits start path × AreWithinLimits limits start rest
-
--- no line of these paths is slower than it has to be
-abbrev pub AreHastyPaths : Limits → List Path → Type 0
-AreHastyPaths limits [] = Unit {0}
-AreHastyPaths limits (path ∷ rest) = AreHasty limits path.chords × AreHastyPaths limits rest
 
 abbrev pub lines_out : List Given → List Line
 lines_out [] = []
@@ -66,6 +60,4 @@ pub record KeepsToPaths (limits : Limits) (start : ℕ) (events : List Event) (n
   pub lines : lines_out (lines_given events) ++ new.motion.known ≡ lines_on paths ++ lines_of last
   pub within_limits : AreWithinLimits limits start paths
   pub so_far : KeepSoFar limits last
-  pub hasty : AreHastyPaths limits paths
-  pub hasty_so_far : AreHastySoFar limits last
   pub items : items_of (lines_of last) ++ items_waiting new.waiting ≡ map Pulse (pulses_of last)

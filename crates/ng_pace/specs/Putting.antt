@@ -7,7 +7,6 @@ use Rattle.ng_pace.specs.declared.limits.Limits.{Limits}
 use Rattle.ng_pace.specs.declared.line.Line.{Line}
 use Rattle.ng_pace.specs.Stream.{Flow, items_of, items_waiting, still_line}
 use Rattle.ng_pace.specs.Legs.{Leg, IsChord, IsPaced, pulses_of, lines_of}
-use Rattle.ng_pace.specs.Haste.{AreHasty}
 use Rattle.ng_pace.specs.Path.{IsPath, IsBegun}
 
 -- these are the chords of the pulses that were put in since the last rest, with the lines that were made of them; the
@@ -36,7 +35,6 @@ pub record Rests (old new : Flow) (legs : List Leg) (items : List Item) : Type 0
   pub lines_are : lines_of chords ≡ lines_of legs ++ made
   pub items_are : items_of (lines_of chords) ≡ map Pulse (pulses_of chords)
   pub paced : IsPaced old.limits old.motion.start chords
-  pub hasty : AreHasty old.limits chords
   pub underway : IsUnderway new []
 
 -- an item was put in: a pulse goes on with the path, before all else it comes to rest
@@ -49,8 +47,3 @@ GoesOnWith old new legs (Switch outputs) = Rests old new legs (Switch outputs �
 abbrev pub KeepSoFar : Limits → List Leg → Type 0
 KeepSoFar limits [] = Unit {0}
 KeepSoFar limits (leg ∷ rest) = IsPaced limits 0 (leg ∷ rest) ⊎ ((leg.lines ≡ []) × (IsChord limits.slack leg.pulses × IsPaced limits 0 rest))
-
--- and they are no slower than they have to be
-abbrev pub AreHastySoFar : Limits → List Leg → Type 0
-AreHastySoFar limits [] = Unit {0}
-AreHastySoFar limits (leg ∷ rest) = AreHasty limits (leg ∷ rest) ⊎ ((leg.lines ≡ []) × AreHasty limits rest)

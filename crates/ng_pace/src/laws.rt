@@ -7,7 +7,7 @@ ghost use Rattle.ng_pace.specs.Start.{start_of};
 ghost use Rattle.ng_pace.specs.Legs.{Leg};
 ghost use Rattle.ng_pace.specs.Calls.{IsEmpty};
 ghost use Rattle.ng_pace.specs.Paths.{KeepsToPaths};
-ghost use Rattle.ng_pace.specs.Putting.{AreHastySoFar, IsUnderway, KeepSoFar};
+ghost use Rattle.ng_pace.specs.Putting.{IsUnderway, KeepSoFar};
 ghost use Rattle.ng_pace.specs.Run.{Event, IsRun, AsksOnly, HoldsOnly, lines_given};
 ghost use Rattle.ng_pace.specs.Run.{IsPacedBeginning, IsGivenOut, IsStopped};
 ghost use Rattle.ng_pace.specs.Speed.{KeepAcceleration};
@@ -36,18 +36,16 @@ pub fn held()
 
 /// Of a stream from its beginning, whatever is put in and wanted: each line that was given out, or is known, keeps to
 /// the chord of its pulse, and to the corner if it is at one. Along a chord no axis is asked for more than its
-/// acceleration and its greatest rate, and at a corner for no more than is left of them. And no line is slower than it
-/// has to be (own).
+/// acceleration and its greatest rate, and at a corner for no more than is left of them (own).
 pub fn keeps_to_paths()
     ensures { (old : Flow) (limits : Limits) (capacity : ℕ) (events : List Event) (new : Flow) → IsEmpty old limits capacity
         → IsRun old events new → KeepsToPaths limits (start_of limits) events new }
 {}
 
 /// At any moment the lines that were made of a path keep to its chords and corners: no axis is asked for more than its
-/// acceleration and its greatest rate. And no line is slower than it has to be (own).
+/// acceleration and its greatest rate (own).
 pub fn lines_keep()
-    ensures within { (flow : Flow) (legs : List Leg) → IsUnderway flow legs → KeepSoFar flow.limits legs }
-    ensures hasty { (flow : Flow) (legs : List Leg) → IsUnderway flow legs → AreHastySoFar flow.limits legs }
+    ensures { (flow : Flow) (legs : List Leg) → IsUnderway flow legs → KeepSoFar flow.limits legs }
 {}
 
 /// Of a stream from its beginning, whatever is put in and wanted: from each pulse to the next one that goes on from it,

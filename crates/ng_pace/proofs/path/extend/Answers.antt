@@ -11,7 +11,7 @@ pub returns-then-chord-eq0-clause-advances : goal.returns-then-chord-eq0-clause-
 returns-then-chord-eq0-clause-advances g c = λ waits leg rest path one straight few farthest.
     let opened = path-opened c.args.limits.now 0 c.args.chord.now waits leg rest path in
     let takes = c.take.ensures.takes leg.pulses opened.cones opened.count few in
-    let leg' : Leg = record { pulses = leg.pulses ++ c.args.pulse.now ∷ []; lines = leg.lines; corner = leg.corner } in
+    let leg' : Leg = record { pulses = leg.pulses ++ c.args.pulse.now ∷ []; lines = leg.lines } in
     let taken : IsPath c.args.limits.now 0 c.take.new.self (length c.args.waiting.now.items) (leg' ∷ rest)
     = rw one (take-path c.args.limits.now 0 c.args.chord.now c.take.new.self waits leg rest c.args.pulse.now path c.take.ensures.same takes.0 takes.1 straight
     few farthest) in
@@ -26,7 +26,7 @@ pub returns-else-chord-eq0-clause-advances : goal.returns-else-chord-eq0-clause-
 returns-else-chord-eq0-clause-advances g c = λ waits leg rest path one straight few farthest.
     let opened = path-opened c.args.limits.now 0 c.args.chord.now waits leg rest path in
     let takes = c.take.ensures.takes leg.pulses opened.cones opened.count few in
-    let leg' : Leg = record { pulses = leg.pulses ++ c.args.pulse.now ∷ []; lines = leg.lines; corner = leg.corner } in
+    let leg' : Leg = record { pulses = leg.pulses ++ c.args.pulse.now ∷ []; lines = leg.lines } in
     let taken : IsPath c.args.limits.now 0 c.take.new.self (length c.args.waiting.now.items) (leg' ∷ rest)
     = rw one (take-path c.args.limits.now 0 c.args.chord.now c.take.new.self waits leg rest c.args.pulse.now path c.take.ensures.same takes.0 takes.1 straight
     few farthest) in
