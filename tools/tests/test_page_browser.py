@@ -672,6 +672,7 @@ class Power(InBrowser):
         off = re.search(r"they make at most .* lines?(?: of OUT)?, ([0-9.]+) mm", said)[1]
         shown = "[...document.querySelectorAll('#over .confirm button')].map(one => one.textContent).join()"
         self.assertEqual(browser.js(shown), ",".join([f"Confirm, \u00b1\u00a0{off}\u00a0mm"] * 3))
+        self.moved_meanwhile()
         for _ in range(3):
             browser.press("Confirm", "#over button")
         self.look("where it stands")
@@ -698,6 +699,20 @@ class Power(InBrowser):
         browser.wait("ngc.state.does === 'running' && ngc.state.motors[0] > 0.02 && ngc.state.spindle === 1")
         self.assertFalse(browser.js("document.getElementById('over').checkVisibility()"))
         self.no_complaints()
+
+    def moved_meanwhile(self) -> None:
+        """Motors that come to rest only now: what was confirmed before isn't any more, and what nobody wrote goes with
+        them."""
+        shown = ("[...document.querySelectorAll('#over .confirm')].map(one => [one.querySelector('input').value,"
+                 " one.querySelector('button').getAttribute('aria-pressed')])")
+        self.browser.js("[0, 1].forEach(i => document.querySelectorAll('#over .confirm button')[i].click())")
+        before = self.browser.js(shown)
+        self.assertEqual([pressed for _, pressed in before], ["true", "true", "false"])
+        moved = self.browser.js("(() => { ngc.recovery.show({ ...ngc.state, motors: ['9.500000', ...ngc.state.motors"
+                                f".slice(1)] }}); return {shown} }})()")
+        self.assertEqual(moved, [["9.500", "false"], before[1], before[2]])
+        self.browser.wait(f"{shown}[0][0] === '{before[0][0]}'")
+        self.browser.js("document.querySelectorAll('#over .confirm button')[1].click()")
 
     def test_two_places(self) -> None:
         """After a loss of power within a jog the large button asks where the machine stands, with how far the record

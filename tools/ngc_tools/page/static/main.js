@@ -41,7 +41,7 @@ const picture = new Picture($('canvas'), (um, px) => {
   text($('scale'), um >= 1000 ? `${grouped(um / 1000)} mm` : `${um} µm`);
   $('scale').style.width = `${px}px`;
 });
-const recovery = new Recovery(app, asks, log);
+const recovery = app.recovery = new Recovery(app, asks, log);
 const stock = new StockSheet(app, asks);
 const alarm = new Alarm(asks, () => { if (recovery.isOpen) recovery.later(); });
 Object.assign(app, { picture, program, readout, stock, dead, keys: setup.keys });

@@ -25,6 +25,9 @@ const CHOICES = {
     + 'the tool is freed by lines of G-code.'],
 };
 
+// Where the machine stands as it is told, as people write it.
+const standing = s => [...(s.motors ?? s.at)].map(number => number.replace(/0{1,3}$/, ''));
+
 export class Recovery {
   // `app` has the state and the job; `asks` sends a request, and gives its answer, or null, where it can be told who is
   // to hear why; `log` knows what was said.
@@ -39,7 +42,8 @@ export class Recovery {
     const { state } = this.app;
     Object.assign(this, { isOpen: true, isLater: false, step: 0, stored: null, plan: null, key: '' });
     Object.assign(this, { isRehearsing: false, refusal: '' });
-    this.at = [...(state.motors ?? state.at)].map(number => number.replace(/0{1,3}$/, ''));
+    this.at = standing(state);
+    this.told = standing(state);
     this.sure = [false, false, false];
     this.steps = el('ol', { class: 'steps' });
     const sight = new Sight();
@@ -85,8 +89,20 @@ export class Recovery {
     }
     this.mark();
     const key = this.shownOf(s);
-    if (key !== this.key) this.go(this.step);
-    this.key = key;
+    if (this.follows(s)) this.go(Math.min(this.step, 1));
+    else if (key !== this.key) this.go(this.step);
+    this.key = this.shownOf(s);
+  }
+
+  // Motors that were still coming to rest as these steps began stand elsewhere by now: an axis that nobody wrote goes
+  // with them, and each that moved is confirmed anew. Whether one did.
+  follows(s) {
+    const now = standing(s), moved = now.map((number, i) => number !== this.told[i]);
+    if (this.step > 2 || s.busy || !moved.includes(true)) return false;
+    this.at = this.at.map((number, i) => (number === this.told[i] ? now[i] : number));
+    this.sure = this.sure.map((isSure, i) => isSure && !moved[i]);
+    this.told = now;
+    return true;
   }
 
   // What of a state decides what is on the sheet: while that stays, what somebody typed or ticked stays too.
