@@ -251,8 +251,8 @@ class Work(Served):
         self.assertEqual((state["tool_length"], state["work"][2]), ("0.625000", "0.150000"))
 
     def test_tool_of_a_typed_line(self) -> None:
-        """While the tool of a line of one's own is wanted, and somebody holds, that changes neither what is in force nor
-        which line is next, though a line of the program wanted the same tool."""
+        """While the tool of a line of one's own is wanted, and somebody holds, that changes neither what is in force
+        nor which line is next, though a line of the program wanted the same tool."""
         page = self.page()
         for slot, length in ((1, "0.5"), (2, "0.625")):
             self.assertEqual(page.post("tool", {"slot": slot, "length": length}), (200, {}))

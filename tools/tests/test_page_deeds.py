@@ -79,8 +79,8 @@ class Deeds(OverBodies):
     def ways(self) -> None:
         """A macro, which is read anew, above the zero, and parked: with all off."""
         self.browser.press("Read the macros", "#tab-setup button")
-        self.browser.wait("[...document.querySelectorAll('#tab-setup .hint')].some(one => /^Read at [\\d:]{8}: 1 in all$/"
-                          ".test(one.textContent))")
+        self.browser.wait("[...document.querySelectorAll('#tab-setup .hint')].some(one => "
+                          "/^Read at [\\d:]{8}: 1 in all$/.test(one.textContent))")
         self.press("Lift", "#tab-setup .macros button")
         self.is_at(1, -7, 3)
         self.press("Flood M8", "#tab-setup button")

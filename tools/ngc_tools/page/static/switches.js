@@ -48,8 +48,9 @@ export class Switches {
   async fetch(isAsked = false) {
     const found = await get('macros').catch(() => null);
     if (found) this.list(found);
-    const says = found ? found.failed || (found.macros.length ? '' : `No macros: ${found.path}, beside the settings, has `
-      + 'lines as Lift = ["M5", "G53 G0 Z0"]') : 'The server doesn\u2019t answer: no macro was read';
+    const none = `No macros: ${found?.path}, beside the settings, has lines as Lift = ["M5", "G53 G0 Z0"]`;
+    const says = found ? found.failed || (found.macros.length ? '' : none)
+      : 'The server doesn\u2019t answer: no macro was read';
     text(this.why, says || (isAsked ? `Read at ${clock(new Date())}: ${found.macros.length} in all` : ''));
     this.why.hidden = !this.why.textContent;
     this.show(this.shown);
