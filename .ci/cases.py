@@ -1,16 +1,19 @@
-"""Runs the cases of docs/CASES.md by a program that is given as words, as `qemu-aarch64 ngc`; ngc_cases runs the same
-ones within its own process."""
+"""Runs the cases of docs/CASES.md by calls of a program, as of `qemu-aarch64 ngc`; ngc_cases runs the same ones within
+its own process."""
 import fcntl
 import os
 import re
 import subprocess
-from collections.abc import Iterator
+from collections.abc import Callable, Iterator
 from dataclasses import dataclass, field
 from pathlib import Path
 
 LEAST_DEVICE, SECTOR = 875_520, 512
 _ESCAPE = re.compile(rb"\\(?:\{(\d+) (s|n|r|t|x[0-9a-f]{2})\}|(s|n|r|t|x[0-9a-f]{2}))")
 _BYTES = {b"s": b" ", b"n": b"\n", b"r": b"\r", b"t": b"\t"}
+
+Call = Callable[[list[str], bytes], tuple[int, bytes]]
+"""Calls ngc with these words, in the folder /, and what it is asked: its status, and what it says."""
 
 
 class Wrong(Exception):
@@ -74,11 +77,19 @@ _PACKAGED = re.compile(rb"\A(ngc [\d.]+\n)commit: .*\nkit: .*\n\Z")
 """What the ngc of a package says for --version: of which commit and kit it is stands below the version."""
 
 
+def starting(program: list[str]) -> Call:
+    """Starts a program that is given as words for each call."""
+    def call(words: list[str], asked: bytes) -> tuple[int, bytes]:
+        done = subprocess.run([*program, *words], input=asked, stdout=subprocess.PIPE, stderr=subprocess.PIPE, cwd="/")
+        return done.returncode, done.stdout
+    return call
+
+
 class Cases:
     """Cases in a folder of their own, which is emptied for each. Of `every` cases one is run."""
 
-    def __init__(self, words: list[str], data: Path, folder: Path, every: int = 1) -> None:
-        self.words, self.data, self.folder, self.handed = words, data, folder, b""
+    def __init__(self, call: Call, data: Path, folder: Path, every: int = 1) -> None:
+        self.call, self.data, self.folder, self.handed = call, data, folder, b""
         self.every, self.found, self.ran = every, 0, 0
 
     def _is_chosen(self) -> bool:
@@ -160,13 +171,12 @@ class Cases:
         other = open(self.folder / step.said["held"].name, "rb") if "held" in step.said else None
         if other:
             fcntl.flock(other, fcntl.LOCK_EX)
-        done = subprocess.run([*self.words, *words[1:]], input=step.asked, stdout=subprocess.PIPE,
-                              stderr=subprocess.PIPE, cwd="/")
+        found, said = self.call(words[1:], step.asked)
         if other:
             other.close()
-        if done.returncode != status:
-            raise Wrong(f"{step.name}: status {done.returncode}, wanted was {status}: {done.stdout[-200:]!r}")
-        same(step.text, _PACKAGED.sub(rb"\1", done.stdout), step.name)
+        if found != status:
+            raise Wrong(f"{step.name}: status {found}, wanted was {status}: {said[-200:]!r}")
+        same(step.text, _PACKAGED.sub(rb"\1", said), step.name)
 
     def _file(self, step: Part) -> None:
         """Makes a file, or looks at one."""

@@ -34,6 +34,17 @@ class Root:
             subprocess.run(["mount", "-t", kind, kind, self.path / name], check=True)
         subprocess.run(["mount", "--rbind", "/dev", self.path / "dev"], check=True)
 
+    def unmount(self) -> None:
+        """Takes that away again."""
+        for name in ("dev", "tmp", "run", "proc"):
+            subprocess.run(["umount", "--recursive", "--lazy", self.path / name], check=False,
+                           stderr=subprocess.DEVNULL)
+
+    def has_mounts(self) -> bool:
+        """Whether something is mounted there still, as this computer's own /dev: then nothing may be removed."""
+        places = (line.split()[4] for line in Path("/proc/self/mountinfo").read_text().splitlines())
+        return any(place.startswith(f"{self.path}/") for place in places)
+
     def words(self, words: list[str], user: str = "root", groups: str = "") -> list[str]:
         """The command that runs another one there."""
         given = ["--userspec", self.ids(user), f"--groups={groups}"] if user != "root" else []

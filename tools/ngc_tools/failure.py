@@ -3,7 +3,7 @@ from collections.abc import Iterator
 from contextlib import contextmanager
 from pathlib import Path
 
-from ngc_tools.formats.text import shown
+from ngc_tools.shown import shown
 
 
 class Failure(Exception):

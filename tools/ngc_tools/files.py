@@ -10,7 +10,7 @@ from pathlib import Path
 from typing import BinaryIO
 
 from ngc_tools.failure import Failure
-from ngc_tools.formats.text import shown
+from ngc_tools.shown import shown
 
 MOST = 2**30  # bytes that are read of a file, or of standard input
 MOST_SETTINGS = 2**20

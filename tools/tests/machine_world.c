@@ -15,8 +15,10 @@ enum { SWITCHES = 8, LAST_PULSES = 1 << 17, SOLIDS = 6, TOOLS = 4 };
 
 enum { BOX = 1, POST, HOLE };
 
+enum { WAS_OFF, WAS_ON, HAS_MOVED };
+
 /* On where `sign` times the axis is at least as far as `sign` times `at`; within `bounces` steps of it by chance. Each
- * time that it goes off it moves by `drifts` steps. */
+ * time that it goes off it moves by `drifts` steps, and then it is off until the axis has left it. */
 struct toggle {
     int32_t is_there;
     int32_t input;
@@ -25,7 +27,7 @@ struct toggle {
     int64_t at;
     int64_t bounces;
     int64_t drifts;
-    int64_t was_on;
+    int64_t state;
 };
 
 /* A body that what is in the spindle can touch: a box from `low` to `high`; a round post, or a round hole in a block
@@ -255,10 +257,15 @@ static uint32_t level(volatile struct toggle *toggle) {
     int64_t depth = toggle->sign * (world->place[toggle->axis] - toggle->at);
     bool is_near = depth < toggle->bounces && -depth < toggle->bounces;
     bool is_on = is_near ? is_by_chance() : depth >= 0;
-    if (!is_on && toggle->was_on) {
-        toggle->at += toggle->drifts;
+    if (toggle->state == HAS_MOVED && depth >= 0) {
+        return 0;
     }
-    toggle->was_on = is_on;
+    if (!is_on && toggle->state == WAS_ON && toggle->drifts != 0) {
+        toggle->at += toggle->drifts;
+        toggle->state = HAS_MOVED;
+        return 0;
+    }
+    toggle->state = is_on ? WAS_ON : WAS_OFF;
     return is_on ? UINT32_C(1) << toggle->input : 0;
 }
 

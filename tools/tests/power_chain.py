@@ -42,6 +42,8 @@ FAILS = ("ngc mill.dev write {} 28", "ngc mill.dev sync {} 5", "ngc out write {}
 CALLS = ("ngc mill.dev write {} kill", "ngc mill.dev sync {} kill", "ngc out write {} kill", "console out sync {} kill",
          "player position write {} kill", "player position sync {} kill", "console out cut 1 kill",
          "console out write 1 kill", "console out sync 1 kill")
+AGAIN = 1711
+"""How many sectors `ngc run` reads and writes again before power on: each of a device, and the last one once more."""
 
 
 @dataclass
@@ -69,7 +71,10 @@ def plan(chance: random.Random, moves: int, options: Options) -> Plan:
     elif kind in ("call", "fail"):
         text = chance.choice(CALLS if kind == "call" else FAILS)
         found.fails = kind == "fail"
-        found.deeds = text.format(1 + int(chance.random() ** 3 * (moves if "out write" in text else 80)))
+        number = 1 + int(chance.random() ** 3 * (moves if "out write" in text else 80))
+        if "mill.dev write" in text or "mill.dev read" in text:
+            number += (AGAIN - 3) * (number > 3)  # those come first, and few of them are tried
+        found.deeds = text.format(number)
     elif kind == "amid":
         found.amid = chance.uniform(0, 0.15) if chance.random() < 0.7 else chance.uniform(0, 1.5)
     else:

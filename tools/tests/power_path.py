@@ -180,6 +180,7 @@ class Ledger:
     lost: int = 0
     followed: int = 0  # lines of the pins
     homed: int = 0  # each is an entry of the device
+    home_after: int | None = None  # how many entries there were as a home began that isn't over
     legs: "Legs | None" = None
     is_by_hand: bool = False  # OUT has lines that aren't the program's
     is_away: bool = False  # lines of the person's own lead to where the program goes on
@@ -189,6 +190,11 @@ class Ledger:
     def told(self) -> int:
         """How many of the outputs are known: a sink that began anew doesn't know the tool."""
         return 3 if self.is_of_sink else 4
+
+    def counts_home(self, entries: int) -> None:
+        """A home that was stored as power was lost counts too, whether it was told or not."""
+        self.homed += self.home_after is not None and entries > self.home_after
+        self.home_after = None
 
     def comes_next(self, entries: int, *rest: Any) -> int:
         """The same of the uncut run. Raises Unjudged."""

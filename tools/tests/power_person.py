@@ -21,6 +21,7 @@ QUESTIONS = (
     (r"put it in, and type go; anything else leaves it", "go"),
     (r"yes gives it up, anything else keeps|yes drops them, anything else keeps", "keep"),
     (r"ngc ended with status -9\n.*Without lines of OUT legs alone lead on", "later"),
+    (r"ngc dry ended with status -9, and says nothing\nstore it all the same\?", "yes"),
     (r"half-done.*ends the session|yes ends|yes alone ends", "yes"),
 )
 
@@ -117,8 +118,10 @@ class Person:
         return min(record_move(self.shop.folder), len(self.job.uncut.moves))
 
     def finds_path(self) -> None:
-        """Motors that were measured may stand on the path all the same, where the record has them, or at the goal."""
-        for move in (self.to, self.left_at()):
+        """Motors that were measured may stand on the path all the same, where the record has them, or at the goal; or
+        behind what is made, where OUT has lines of the person's own, so that the record's line doesn't tell the move.
+        """
+        for move in (self.to, self.left_at(), *([self.ledger.made] if self.ledger.is_by_hand else [])):
             if self.ledger.on is None and not self.ledger.legs and self.job.uncut.points[move] == self.ledger.steps:
                 self.ledger.on = move
 
@@ -166,6 +169,8 @@ class Person:
         self.leaves = self.leaves or bool(re.search(FAILED, text))
         if self.leaves:
             return "quit"
+        if not self.at_start and "status entries" not in text:
+            self.ledger.home_after = None
         if "homed: X Y Z" in text:
             self.ledger.homed += 1
             if self.ledger.steps != HOME:
@@ -175,13 +180,14 @@ class Person:
         if "status entries" in text:
             status = read_status(text)
             _, _, at, kind, _ = status
+            self.ledger.counts_home(status[0])
             self.entries = max(0, status[0] - self.ledger.homed)
             if self.ledger.is_away and (kind == "mdi" or self.is_left(self.opening)):
                 raise Unjudged("a line of the person's own is half-done")
             self.to = self.ledger.comes_next(*status)
             self.ledger.loses(self.to, self.job.ahead)
             if self.homes:
-                self.homes, self.phase = False, "free"
+                self.homes, self.phase, self.ledger.home_after = False, "free", status[0]
                 self.shop.begins_way()
                 return "home"
             if not self.is_left(self.opening) and not self.trusts and self.is_elsewhere(text):
@@ -212,7 +218,7 @@ class Person:
     @staticmethod
     def is_left(text: str) -> bool:
         """Whether the console says that something is half-done, or left in OUT."""
-        return "power was lost, or" in text or "lines stand in OUT" in text
+        return any(says in text for says in ("power was lost, or", "lines stand in OUT", "and puts them back"))
 
     def is_elsewhere(self, text: str) -> bool:
         """Whether the motors aren't where the player says."""

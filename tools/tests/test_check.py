@@ -29,8 +29,8 @@ Mend these, and check again.
 """
 
 
-class Check(InFolder):
-    """Programs, each with all that is said of it."""
+class Checked(InFolder):
+    """Programs that are checked."""
 
     def check(self, program: str | bytes, *words: str) -> tuple[int, str]:
         """Status and standard output for a program, p.ngc."""
@@ -38,6 +38,10 @@ class Check(InFolder):
         status, said, error = told(check_main, "p.ngc", "--ngc", ngc(), *words)
         self.assertEqual(error, "")
         return status, said
+
+
+class Check(Checked):
+    """Programs, each with all that is said of it."""
 
     def test_nothing(self) -> None:
         """A program of which nothing is to be said."""
@@ -176,7 +180,7 @@ p.ngc: 1 refusal, no warnings
         self.assertEqual(self.check(HEAD + "/Q1\nM2\n", "--block-delete")[0], 0)
 
 
-class Refused(Check):
+class Refused(Checked):
     """What is said of single faults."""
 
     def said(self, program: str | bytes, *words: str) -> list[str]:

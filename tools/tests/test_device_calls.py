@@ -85,7 +85,7 @@ class Readings(DeviceCalls):
 
 
 class Durable(DeviceCalls):
-    """What is written and synced of a device that is made, or grown."""
+    """What is written and synced of a device that is made, grown, or begun with."""
 
     def test_new(self) -> None:
         """A new device is written in full and synced, then its folder is, before its format writes anything; and what
@@ -111,6 +111,38 @@ class Durable(DeviceCalls):
         self.assertEqual(self.run_told("grow", "mill.dev"), (0, ""))
         self.assertEqual(self.calls(), [last, ["sync", "mill.dev"]])
         self.assertEqual(Path("mill.dev").read_bytes(), held)
+
+    def test_run(self) -> None:
+        """A session first writes each sector of its device again, the last one twice, and syncs."""
+        self.device()
+        self.assertEqual(self.run_told("run", "mill.dev", "first.toml", "out")[0], 0)
+        places = *range(0, SIZE, SECTOR), SIZE - SECTOR
+        first = [["write", "mill.dev", str(place), str(SECTOR)] for place in places]
+        self.assertEqual(self.calls()[:SECTORS + 2], [*first, ["sync", "mill.dev"]])
+
+
+class Acknowledged(DeviceCalls):
+    """What a session tells of."""
+
+    def test_synced(self) -> None:
+        """Nothing is answered, and nothing is handed out, while something that was written to the device isn't synced.
+        """
+        self.device()
+        program = "G21\nG0 X0.02\nG1 Y0.02 F600\nM2\n"
+        told = f"mdi G0 X0.01\ntick 100\nload {len(program)}\n{program}start\ntick 1000\n"
+        with open("said", "wb") as said:
+            subprocess.run([ngc(), "run", "mill.dev", "first.toml", "out"], input=told.encode(), stdout=said,
+                           env={**os.environ, "LD_PRELOAD": f"{self.folder}/calls.so"}, timeout=PATIENCE_S, check=True)
+        found, is_synced = {"said": 0, "out": 0, "mill.dev": 0}, True
+        for call, name, *_ in self.calls():
+            found[name] += 1
+            if name == "mill.dev":
+                is_synced = call == "sync"
+            else:
+                self.assertTrue(is_synced, found)
+        self.assertEqual(Path("said").read_text().count("done "), 6)
+        self.assertGreaterEqual(found["out"], Path("out").read_bytes().count(b"\n"))
+        self.assertGreater(found["said"], 6)
 
 
 if __name__ == "__main__":

@@ -114,6 +114,11 @@ class World:
         struct.pack_into("=q", self._bytes, _WORK + 8 * (4 + slot), length)
         struct.pack_into("=q", self._bytes, _WORK + 8 * (8 + slot), radius)
 
+    @property
+    def slot(self) -> int:
+        """The slot of what is in the spindle, as the player told it; 0 before it did."""
+        return int(struct.unpack_from("=q", self._bytes, _WORK + 24)[0])
+
     def touching(self, number: int, bounces: int = 0, is_dumb: bool = False) -> None:
         """Which input is high while that touches a body; within `bounces` steps by chance."""
         struct.pack_into("=3q", self._bytes, _WORK, number, bounces, is_dumb)

@@ -1086,7 +1086,7 @@ class Shown(unittest.TestCase):
                 ("works", True, 4.5, "power"), ("works", True, 5.5, "player")):
             pictured = self.pictured("")
             pictured.session.begins_at = begins_at
-            pictured.report.word, pictured.face = word, SimpleNamespace(reported_at=5.0, view=None)
+            pictured.report.word, pictured.reported_at, pictured.face = word, 5.0, SimpleNamespace(view=None)
             pictured.status = replace(pictured.status, known=is_known)
             pictured.stand.gone = "it is gone"
             pictured.session.ended, pictured.session.opened = "", SimpleNamespace(left_at=4.0)
@@ -1102,7 +1102,7 @@ class Shown(unittest.TestCase):
                           ("reference", ""), ("hold", ""), ("", "")):
             pictured = self.pictured(word)
             pictured.report = pictured.stand.report = SimpleNamespace(behind=0, waits=False, word="works", at="1 0 0")
-            pictured.face = SimpleNamespace(reported_at=time.time(), view=None)
+            pictured.face, pictured.reported_at = SimpleNamespace(view=None), time.time()
             pictured.session = SimpleNamespace(begins_at=None, ended="", opened=SimpleNamespace(left_at=4.0),
                                                settings=SimpleNamespace(step_nm=[1000] * 3))
             self.assertEqual((pictured._stale() or {"why": ""})["why"], why, word)
@@ -1118,11 +1118,11 @@ class Shown(unittest.TestCase):
         old = {"why": "player", "at": now - 1, "by_record": False}
         for shown, at, stale in ((view, now - 1, old), (view, now, None),
                                  (None, now - 1, None), (view, 0.0, None)):
-            pictured.face = SimpleNamespace(reported_at=at, view=shown)
+            pictured.face, pictured.reported_at = SimpleNamespace(view=shown), at
             self.assertEqual(pictured._stale(), stale, (shown, now - at))
         pictured.report.word = "alarm"
         for shown, at in ((view, now - 1), (None, 0)):
-            pictured.face = SimpleNamespace(reported_at=now - 1, view=shown)
+            pictured.face, pictured.reported_at = SimpleNamespace(view=shown), now - 1
             self.assertEqual(pictured._stale(), {"why": "alarm", "at": at})
 
     def test_finished(self) -> None:

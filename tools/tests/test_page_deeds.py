@@ -8,11 +8,11 @@ from pathlib import Path
 sys.path.insert(0, str(Path(__file__).resolve().parent))
 
 from browser_support import Chromium
-from test_moves import MACHINE
+from test_moves import X_LOW, Y_LOW, Z_HIGH
 from test_page_day import SOON
-from test_page_probing import MILL, MM, OverBodies
+from test_page_probing import MM, OverBodies
+from walk_machine import Telling
 
-HOME = [-8 * MM, -7 * MM, 9 * MM]
 PART = """G21 G90 G17 G54 G94 G49
 M3 S800
 G0 X0 Y0 Z5
@@ -31,18 +31,19 @@ GAUGES = "[...document.querySelectorAll('#gauges dd')].slice(1, 3).map(one => on
 
 
 class Deeds(OverBodies):
-    """One after the other, on one machine, which homes at X-8 Y-7 Z9."""
+    """One after the other, on one machine, which homes at X-8 Y-7 Z9: 2, 2 and 1 mm off its switches."""
 
-    MACHINE = MILL + "".join(MACHINE.partition("[home]")[1:])
+    MODEL = Telling
     JOBS = "jobs"
 
     def begin_player(self) -> None:
-        """A folder of programs, and a macro."""
+        """A folder of programs, a macro, and switches."""
         Path("jobs").mkdir()
         Path("jobs/part.ngc").write_text(PART)
         Path("first.macros").write_text('Lift = ["G53 G0 Z3", "G53 G0 X1"]\n')
         super().begin_player()
-        self.axes.home_at = list(HOME)
+        for number, (high, sign, at_mm) in enumerate(((X_LOW, -1, -10), (Y_LOW, -1, -9), (Z_HIGH, 1, 10))):
+            self.world.switch(number, high, number, sign, at_mm * MM)
 
     def test_day(self) -> None:
         """Each of them."""
@@ -54,7 +55,7 @@ class Deeds(OverBodies):
 
     def is_at(self, *at_mm: float, zero: tuple[float, ...] = (0, 0, 0), is_inch: bool = False) -> None:
         """The axes are there, and so the page says."""
-        self.assertEqual(self.axes.at_nm, [round(mm * MM) for mm in at_mm])
+        self.assertEqual(self.world.place, tuple(round(mm * MM) for mm in at_mm))
         self.shows("", zero, is_inch=is_inch)
 
     def homes(self) -> None:
@@ -65,14 +66,14 @@ class Deeds(OverBodies):
 
     def switches(self) -> None:
         """What turns and flows."""
-        for says, on, told in (("Clockwise M3", (1, 1000 * MM, False, False), "\u21bb 1,000/min,off"),
-                               ("Reverse M4", (2, 1000 * MM, False, False), "\u21ba 1,000/min,off"),
-                               ("Flood M8", (2, 1000 * MM, False, True), "\u21ba 1,000/min,flood"),
-                               ("Mist M7", (2, 1000 * MM, True, True), "\u21ba 1,000/min,mist + flood"),
-                               ("Off M5", (0, 1000 * MM, True, True), "offset 1,000,mist + flood"),
-                               ("Off M9", (0, 1000 * MM, False, False), "offset 1,000,off")):
+        for says, on, told in (("Clockwise M3", (1, 1000, False, False), "\u21bb 1,000/min,off"),
+                               ("Reverse M4", (2, 1000, False, False), "\u21ba 1,000/min,off"),
+                               ("Flood M8", (2, 1000, False, True), "\u21ba 1,000/min,flood"),
+                               ("Mist M7", (2, 1000, True, True), "\u21ba 1,000/min,mist + flood"),
+                               ("Off M5", (0, 1000, True, True), "offset 1,000,mist + flood"),
+                               ("Off M9", (0, 1000, False, False), "offset 1,000,off")):
             self.press(says, "#tab-setup button")
-            now = self.mill.outputs
+            now = self.world.outputs
             self.assertEqual((now.spindle, now.speed, now.mist, now.flood), on)
             self.assertEqual(self.browser.js(GAUGES), told)
 
@@ -86,10 +87,10 @@ class Deeds(OverBodies):
         self.press("Flood M8", "#tab-setup button")
         self.press("Above work zero", "#tab-setup button")
         self.is_at(0, 0, 9)
-        self.assertTrue(self.mill.outputs.flood)
+        self.assertTrue(self.world.outputs.flood)
         self.press("Park", "#tab-setup button")
         self.is_at(-8, -7, 9)
-        self.assertFalse(self.mill.outputs.flood)
+        self.assertFalse(self.world.outputs.flood)
 
     def steps(self) -> None:
         """One by a key, which is pressed anew where the page is too late."""
@@ -149,11 +150,11 @@ class Deeds(OverBodies):
         browser.press("Load", "#over .foot button")
         self.rests("s.program.lines === 10 && ngc.job")
         self.do("G0 X0 Y0 Z5")
-        self.axes.forget()
+        self.world.forget_reached()
         browser.press("Run", "#run")
         self.rests("s.finished")
         self.is_at(0, 0, 5)
-        self.assertEqual((self.axes.least, self.axes.greatest), ([0, 0, MM], [3 * MM, 2 * MM, 5 * MM]))
+        self.assertEqual(self.world.reached[1:], ((0, 0, MM), (3 * MM, 2 * MM, 5 * MM)))
         browser.press("Load", "#load")
         browser.wait("document.querySelector('#over .jobs')?.textContent.includes('ended, through')")
         browser.press("Back", "#over button")
@@ -177,13 +178,13 @@ class Deeds(OverBodies):
         browser.wait("document.querySelectorAll('#over .look button').length === 3")
         browser.js("document.querySelectorAll('#over .look button').forEach(one => one.click())")
         self.is_at(-4, -4, 5)
-        self.assertEqual((self.mill.outputs.spindle, self.mill.outputs.speed), (1, 800 * MM))
-        self.axes.forget()
+        self.assertEqual((self.world.outputs.spindle, self.world.outputs.speed), (1, 800))
+        self.world.forget_reached()
         browser.press("Yes: goes there", "#over .go")
         self.rests("s.finished")
         self.is_at(0, 0, 5)
-        self.assertEqual((self.axes.least, self.axes.greatest), ([-4 * MM, -4 * MM, MM], [3 * MM, 2 * MM, 9.5 * MM]))
-        self.assertEqual(self.mill.outputs.spindle, 0)
+        self.assertEqual(self.world.reached[1:], ((-4 * MM, -4 * MM, MM), (3 * MM, 2 * MM, 9.5 * MM)))
+        self.assertEqual(self.world.outputs.spindle, 0)
 
 
 if __name__ == "__main__":

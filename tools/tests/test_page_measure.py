@@ -15,18 +15,13 @@ SETTER = "[setter]\nheight_um = -5000\nat_um = [8000, 6000, 8000]\nfast_mm_min =
 JOB = "G21 G90 G17 G54 G94\nG0 X1\nT2 M6\nG43 H2\nG0 X2 Z1\nM2\n"
 
 
-class AtMachine(Served):
-    """A page, and the player over a simulated machine without switches; its file has `EXTRA` besides."""
+class OverWorld(Served):
+    """The player over a simulated machine without switches; its file has `EXTRA` besides."""
 
     OUT = "out"
     EXTRA = ""
+    MODEL = World
     WORDS = ["--untimed"]  # so that it doesn't matter who else wants the processors
-
-    def setUp(self) -> None:
-        """Opens a page."""
-        super().setUp()
-        self.seen = self.page()
-        self.assertEqual(self.seen.post("loss", {"goes": True})[0], 200)  # also where others want the processors
 
     def device(self) -> None:
         """A fresh device, and a travel of 10 mm."""
@@ -35,7 +30,7 @@ class AtMachine(Served):
 
     def begin_player(self) -> None:
         """Starts the player over the machine."""
-        self.world = World()
+        self.world = self.MODEL()
         self.addCleanup(self.world.close)
         for number in range(3):
             self.world.no_switch(number)
@@ -52,6 +47,16 @@ class AtMachine(Served):
         """Starts both."""
         self.MACHINE = "motion.toml"
         super().begin()
+
+
+class AtMachine(OverWorld):
+    """A page over it."""
+
+    def setUp(self) -> None:
+        """Opens a page."""
+        super().setUp()
+        self.seen = self.page()
+        self.assertEqual(self.seen.post("loss", {"goes": True})[0], 200)  # also where others want the processors
 
 
 class AtChange(AtMachine):

@@ -1,34 +1,32 @@
-"""Probing on the page: its sheets in each size, a corner of the work that a person touches with it, and in a browser
-a probe and a setter that misbehave."""
+"""Probing on the page: its sheets in each size, a corner of the work that a person touches with it, and in a browser a
+probe and a setter that misbehave, over the player and a simulated machine."""
 import json
-import math
-import os
 import re
 import sys
 import unittest
-from dataclasses import replace
-from itertools import cycle
+from contextlib import closing
 from pathlib import Path
 
 sys.path.insert(0, str(Path(__file__).resolve().parent))
 
 import test_page_browser
-from listener import said
-from machine_support import STEP_NM, Axes, SocketMachine
-from test_moves import BOX
-from test_page_measure import JOB, AtMachine
+from bench_support import REST
+from browser_support import Failed
+from session_support import PATIENCE_S
+from test_moves import BOX, PROBE
+from test_page_measure import JOB, SETTER, AtMachine, OverWorld
 
-from ngc_tools.formats.out import Pulse, Switch, read_line
-from ngc_tools.formats.position import Position, millimetres, nanometres
-from ngc_tools.link.progress import MoveReport, Report
+from ngc_tools.formats.position import nanometres
+from ngc_tools.link.progress import Link
 from ngc_tools.operator.routines import ROUTINES
 
-PROBED = "[setter]\nprobe_tool = 1\nprobe_radius_um = 500\nfast_mm_min = 600\nslow_mm_min = 60\n"
-MILL = "[motion]\naccel_mm_s2 = [500, 500, 300]\n[inputs]\nprobe = 6\n" + PROBED
-MILL += "height_um = -5000\nat_um = [8000, 6000, 8000]\n"
-MM = 1_000_000  # nm
-REST_NM = 20_000
-"""How far the axes of `TouchingAxes` go on once something is touched."""
+PROBED = SETTER + "probe_tool = 1\nprobe_radius_um = 500\n"
+MM = 1_000
+"""Steps of the machine."""
+REST_OVER = 630
+"""Steps within which the motors rest behind a touch on the way over the setter, from 1,500 mm a minute."""
+EARLY = 3
+"""The number of the switch that comes on where the probe does before it touches."""
 TITLES = {"edge": "Edge", "outside": "Outside corner", "inside": "Inside corner", "surface": "Surface", "bore": "Bore",
           "boss": "Boss", "pocket": "Pocket", "web": "Web"}
 
@@ -36,7 +34,7 @@ TITLES = {"edge": "Edge", "outside": "Outside corner", "inside": "Inside corner"
 class Sheets(test_page_browser.Moves):
     """The player is in this process."""
 
-    MACHINE = MILL
+    MACHINE = "[motion]\naccel_mm_s2 = [500, 500, 300]\n[inputs]\nprobe = 6\n" + PROBED
     test_setup = test_axis_without_home = test_ended_in_an_alarm = None
 
     def begin_player(self) -> None:
@@ -100,147 +98,18 @@ class Sheets(test_page_browser.Moves):
         self.no_complaints()
 
 
-class TouchingAxes(Axes):
-    """Axes that go step by step, no farther than they are told, and stop where what is in the spindle touches a body.
-    `boxes` are bodies, from where to where in nm; `ends` how far what each slot has hangs down, and the radius of its
-    ball. The probe comes on by so much before it touches, which is another number for each seek, of `early_nm`."""
-
-    def __init__(self, slot: int) -> None:
-        super().__init__()
-        self.slot = slot
-        self.boxes: list[tuple[tuple[int, ...], tuple[int, ...]]] = []
-        self.ends: dict[int, tuple[int, int]] = {}
-        self.is_stuck = self.is_dumb = False
-        self.early_nm = cycle([0])
-        self._early = 0
-        self._touched = ""
-        self.forget()
-
-    def forget(self) -> None:
-        """From now on it is noted anew how far they go."""
-        self.least, self.greatest, self.deepest = list(self.at_nm), list(self.at_nm), -math.inf
-
-    def ask(self) -> MoveReport:
-        """What moves, and whether the probe is on."""
-        report = super().ask()
-        return replace(report, on=(*report.on, *["probe"] * self._is_on()))
-
-    def step(self, by: tuple[int, ...]) -> None:
-        """One step, as a line of OUT has it."""
-        self.at_nm = [at + STEP_NM[axis] * by[axis] for axis, at in enumerate(self.at_nm)]
-        self.least = list(map(min, self.least, self.at_nm))
-        self.greatest = list(map(max, self.greatest, self.at_nm))
-        self.deepest = max(self.deepest, self._depth())
-
-    def _begin(self, words: list[str]) -> str:
-        seeks, self._touched = words[0] == "seek", ""
-        answer = super()._begin(["jog", *words[1:4], "for", words[5]] if seeks else words)
-        if answer == "taken" and words[0] != "home":
-            self._go("XYZ".index(words[2][0]), seeks)
-            self.machine = replace(self.machine, does=f"{words[0]} {words[2]}")
-            if seeks and not self._touched:
-                self.fails = f"the probe isn't touched within {millimetres(nanometres(words[5]))} mm"
-        return answer
-
-    def _go(self, axis: int, seeks: bool) -> None:
-        """Goes to the end, or so far as it takes to rest behind a touch."""
-        to = self._goal[axis]
-        self._early = next(self.early_nm) if seeks else self._early
-        by = [0, 0, 0]
-        by[axis] = 1 if to > self.at_nm[axis] else -1
-        while by[axis] * (to - self.at_nm[axis]) > 0:
-            self.step(tuple(by))
-            if seeks and not self._touched and self._is_on():
-                self._touched = str(Position(STEP_NM, self.at_nm))
-                to = by[axis] * min(by[axis] * to, by[axis] * self.at_nm[axis] + REST_NM)
-        self._goal = list(self.at_nm)
-
-    def _end(self, how: str) -> None:
-        super()._end(how)
-        if self._touched:
-            self.stands = self.machine = replace(self.stands, touched=self._touched)
-
-    def _is_on(self) -> bool:
-        return self.is_stuck or not self.is_dumb and self._depth() >= -self._early
-
-    def _depth(self) -> float:
-        """How far what is in the spindle is in some body, in nm; less than 0: how far from the nearest."""
-        length, radius = self.ends.get(self.slot, (0, 0))
-        at = (*self.at_nm[:2], self.at_nm[2] - length + radius)
-        return max((radius - math.hypot(*(max(low - here, here - high, 0) for low, here, high in zip(lows, at, highs)))
-                    for lows, highs in self.boxes), default=-math.inf)
-
-
-class Mill(SocketMachine):
-    """A player that carries out the lines of a pipe at once, over these axes, and waits for tools."""
-
-    wants = 340
-
-    def __init__(self, out: str, slot: int) -> None:
-        self.pipe = os.open(out, os.O_RDONLY | os.O_NONBLOCK)
-        self.lines, self.rest = [], b""
-        self.carried, self.tool = 0, None
-        self.outputs = Switch(0, 0, False, False, 0, slot)
-        super().__init__(out)
-        self.axes = TouchingAxes(slot)
-
-    def _answer(self, question: bytes, sender: str | bytes | None) -> None:
-        word = question.split()[0]
-        if word == b"progress":
-            self._read()
-            at = str(Position(STEP_NM, self.axes.at_nm))
-            report = Report(self.carried, self.received, self.tool is not None, at, self.out, self.outputs,
-                            self.tool or 0, wants=self.wants, word=self.axes.word)
-            self.listener.answer(b" ".join(question.split()[:2]) + b" " + said(report), sender)
-        elif word == b"go" and self.tool is not None:
-            self.tool = None
-            self._carry_out(self.lines.pop(0))
-        else:
-            super()._answer(question, sender)
-
-    def _read(self) -> None:
-        """Reads what stands in the pipe, and carries out what can be."""
-        try:
-            *lines, self.rest = (self.rest + os.read(self.pipe, 1 << 20)).split(b"\n")
-        except BlockingIOError:
-            lines = []
-        self.lines += lines
-        self.received += len(lines)
-        while self.lines and self.tool is None and self.axes.word == "works":
-            line = read_line(self.lines[0], 1)
-            if isinstance(line, Switch) and line.slot != self.outputs.slot:
-                self.tool = line.slot
-                return
-            self._carry_out(self.lines.pop(0))
-
-    def _carry_out(self, text: bytes) -> None:
-        """Carries out a line."""
-        self.carried += 1
-        line = read_line(text, 1)
-        if isinstance(line, Switch):
-            self.outputs, self.axes.slot = line, line.slot
-        elif isinstance(line, Pulse):
-            self.axes.step((line.x, line.y, line.z))
-
-    def close(self) -> None:
-        """Ends it."""
-        super().close()
-        os.close(self.pipe)
-
-
-def shown(nm: float, is_inch: bool) -> str:
+def shown(steps: float, is_inch: bool) -> str:
     """A length, as the page shows it."""
     of, digits = (25.4 * MM, 4) if is_inch else (MM, 3)
-    return f"{round(nm / of, digits) + 0.0:.{digits}f}".replace("-", "\u2212")
+    return f"{round(steps / of, digits) + 0.0:.{digits}f}".replace("-", "\u2212")
 
 
-class OverBodies(test_page_browser.InBrowser):
-    """A page over these axes, which stand at 0 with tool `SLOT` in, in a travel of 10 mm each way."""
+class OverBodies(OverWorld, test_page_browser.InBrowser):
+    """A page over this machine, which stands at 0 with no tool in, in a travel of 10 mm each way."""
 
-    SLOT = 0
     BEFORE = ""
     """What `ngc` is told before the page begins."""
-    MACHINE = MILL
+    EXTRA = PROBED
     SHOWN = """JSON.stringify([[...document.querySelectorAll('.axis')].map(one => [one.querySelector('output'),
         ...one.querySelectorAll(':scope > div b')].map(one => one.textContent)),
         document.querySelectorAll('#gauges dd')[3].textContent])"""
@@ -249,20 +118,14 @@ class OverBodies(test_page_browser.InBrowser):
     def device(self) -> None:
         """A fresh device."""
         super().device()
-        Path("first.toml").write_text(Path("first.toml").read_text().replace("1000000000", "10000000"))
-        Path("motion.toml").write_text(self.MACHINE)
         if self.BEFORE:
             self.run_ngc(self.BEFORE, "before")
 
-    def begin_player(self) -> None:
-        """The player is in this process."""
-        self.mill = Mill(os.path.abspath(self.OUT), self.SLOT)
-        self.addCleanup(self.mill.close)
-
-    @property
-    def axes(self) -> TouchingAxes:
-        """Those of the machine."""
-        return self.mill.axes
+    def puts_probe(self, is_on: bool) -> None:
+        """The probe is put on, or off, by hand, and the player knows that."""
+        self.world.put(PROBE, is_on)
+        with closing(Link("progress", PATIENCE_S)) as link:
+            self.wait_for("the player knows it", lambda: ("probe" in link.machine().on) == is_on)
 
     def rests(self, holds: str = "true") -> None:
         """Waits until nothing is under way, nothing is asked, and something holds of the state `s`."""
@@ -286,74 +149,121 @@ class OverBodies(test_page_browser.InBrowser):
     def shows(self, has: str, zero: tuple[float, ...] = (0, 0, 0), length: float = 0, is_inch: bool = False) -> None:
         """The page shows where the axes of the machine are, in machine coordinates, and of the work, by this zero and
         this length in force, in mm; and the tool in the spindle, which has that length."""
-        tool = f"T{self.axes.slot}{has} mm" if self.axes.slot else "none"
-        of_work = [nm - origin * MM for nm, origin in zip(self.axes.at_nm, (*zero[:2], zero[2] + length))]
-        axes = [[shown(each, is_inch) for each in (mine, nm, nm)] for mine, nm in zip(of_work, self.axes.at_nm)]
-        wanted = json.dumps([axes, tool], ensure_ascii=False, separators=(",", ":"))
+        slot, place = self.world.slot, self.world.place
+        of_work = [at - origin * MM for at, origin in zip(place, (*zero[:2], zero[2] + length))]
+        axes = [[shown(each, is_inch) for each in (mine, at, at)] for mine, at in zip(of_work, place)]
+        wanted = json.dumps([axes, f"T{slot}{has} mm" if slot else "none"], ensure_ascii=False, separators=(",", ":"))
         self.browser.wait(f"{self.SHOWN} === {json.dumps(wanted)}")
+
+    def toasts(self, why: str) -> None:
+        """The page says why something ended."""
+        toast = "document.getElementById('toast').textContent"
+        try:
+            self.browser.wait(f"{toast}.includes({json.dumps(why)})")
+        except Failed:
+            self.fail(f"it says {self.browser.js(toast)!r}, and not {why!r}")
+
+    def stays_within(self, box: list[tuple[int, int]]) -> None:
+        """No axis left this since the machine's model was to note that."""
+        _, least, greatest = self.world.reached
+        for axis, (low, high) in enumerate(box):
+            self.assertTrue(low <= least[axis] <= greatest[axis] <= high, (axis, box, least, greatest))
 
 
 class Misbehaves(OverBodies):
     """The probe, tool 1, hangs 2 mm below the spindle, its ball 1 mm wide; a block stands at X5."""
 
-    SLOT = 1
-    BEFORE = "tool 1 2\nmdi T1 M6\ntick 9\nmdi G43 H1\ntick 9\n"
+    BEFORE = "tool 1 2\n"
+
+    def begin_player(self) -> None:
+        """The block."""
+        super().begin_player()
+        self.world.tool(1, 2 * MM, MM // 2)
+        self.world.solid(0, BOX, (5 * MM, -9 * MM, -9 * MM), (9 * MM, 9 * MM, 9 * MM))
+
+    def setUp(self) -> None:
+        """The probe is put in, and its length is in force."""
+        super().setUp()
+        self.browser.fill("#line", "T1 M6")
+        self.browser.press("Do", "#do")
+        self.browser.press("Tool 1 is in", "#run")
+        self.rests("s.slot === 1")
+        self.do("G43 H1")
 
     def test_probe(self) -> None:
-        """One that is on at first, one that never comes on and one that bounces: the page says so, nothing goes beyond
-        what it said before, and no zero is set. Once it is well it finds the edge."""
-        axes = self.axes
-        axes.ends = {1: (2 * MM, MM // 2)}
-        axes.boxes = [((5 * MM, -9 * MM, -9 * MM), (9 * MM, 9 * MM, 9 * MM))]
-        axes.is_stuck = True
+        """One that is on at first, one that never comes on, and one whose touches differ: the page says so, nothing
+        goes beyond what it said before, and no zero is set. One that bounces by less than touches may differ finds the
+        edge as exactly, and a no sets no zero; once it is well it finds the edge."""
+        world = self.world
+        self.puts_probe(True)
         self.refused("Edge", 6, "the probe is on before it is sought, and nothing may touch it: nothing moves")
-        self.assertEqual((axes.least, axes.greatest), ([0, 0, 0], [0, 0, 0]))
-        axes.is_stuck, axes.is_dumb = False, True
+        self.assertEqual(world.reached[1:], ((0, 0, 0), (0, 0, 0)))
+        self.puts_probe(False)
+        world.touching(PROBE, is_dumb=True)
         self.refused("Edge", 6, "the probe isn't touched within 6.000000 mm: nothing more moves")
-        self.assertEqual((axes.least, axes.greatest, axes.at_nm), ([0, 0, 0], [6 * MM, 0, 0], [6 * MM, 0, 0]))
+        self.assertEqual((*world.reached[1:], world.place), ((0, 0, 0), (6 * MM, 0, 0), (6 * MM, 0, 0)))
         self.do("G53 G0 X0")
         self.refused("Surface", 7.5, "the probe isn't touched within 7.500000 mm: nothing more moves")
-        self.assertEqual((axes.least, axes.greatest), ([0, 0, -7.5 * MM], [0, 0, 0]))
+        self.assertEqual(world.reached[1:], ((0, 0, -7.5 * MM), (0, 0, 0)))
         self.do("G53 G0 Z0")
-        axes.is_dumb = False
-        for early, why in (([0, 0.3], "two touches differ: X 4.5 by the fast one, and 4.2 by the slow one"),
-                           ([0.3, 0], "the slow touch didn't come where the fast one was, at X 4.2, nor 0.05 mm")):
-            axes.early_nm = cycle([int(mm * MM) for mm in early])
+        world.touching(PROBE)
+        for at, drifts, why in ((4_500, -300, "two touches differ: X 4.5 by the fast one, and 4.2 by the slow one"),
+                                (4_200, 300, "the slow touch didn't come where the fast one was, at X 4.2, nor 0.05")):
+            world.switch(EARLY, PROBE, 0, 1, at, drifts=drifts)
             self.refused("Edge", 6, why)
-            self.assertLessEqual(axes.deepest, REST_NM)
+            self.assertLessEqual(world.reached[0], REST)
             self.do("G53 G0 X0")
-        axes.early_nm = cycle([0])
-        self.begins("Edge", 6)
-        self.assertIn("machine X5", self.asked())
+        world.no_switch(EARLY)
+        self.bounces(40)
+        self.assertEqual(self.finds("Edge", 6), "edge X+: machine X5")
         self.browser.press("Yes: makes it", "#over .go")
         self.rests("Number(s.origin[0]) === 5")
         self.shows("2.000", (5, 0, 0), 2)
         self.no_complaints()
 
+    def bounces(self, steps: int) -> None:
+        """One that bounces by so many steps finds the edge within these."""
+        self.world.touching(PROBE, bounces=steps)
+        found = re.search(r"machine X(\S+)", self.finds("Edge", 6))
+        self.assertAlmostEqual(float(found[1]), 5, delta=steps / MM)
+        self.browser.press("No", "#over .foot button")
+        self.rests()
+        self.shows("2.000", (0, 0, 0), 2)
+        self.world.touching(PROBE)
+
     def refused(self, title: str, within: float, why: str) -> None:
         """A routine ends with that cause, and asks for no zero; nothing went beyond what was said before the yes."""
         box = self.begins(title, within)
         self.rests()
-        for axis, (low, high) in enumerate(box):
-            self.assertTrue(low <= self.axes.least[axis] <= self.axes.greatest[axis] <= high, (title, axis))
-        self.browser.wait(f"document.getElementById('toast').textContent.includes({json.dumps(why)})")
+        self.stays_within(box)
+        self.toasts(why)
         self.shows("2.000", (0, 0, 0), 2)
 
+    def finds(self, title: str, within: float) -> str:
+        """What is asked behind a routine that found the work; nothing went beyond what was said before the yes, and the
+        machine is where it was."""
+        box = self.begins(title, within)
+        asked = self.asked()
+        self.stays_within(box)
+        self.assertEqual(self.world.place, (0, 0, 0))
+        return asked
+
     def begins(self, title: str, within: float) -> list[tuple[int, int]]:
-        """Asks for a routine, and agrees: within which machine coordinates the page said that it moves, in nm."""
+        """Asks for a routine, and agrees: within which machine coordinates the page said that it moves, in steps."""
         browser = self.browser
         browser.press("Setup", "nav button")
         browser.press("Probe the work", "#tab-setup button")
         browser.press(title, "#over .routines button")
         browser.fill("#over input[aria-label^='At most']", str(within))
         browser.press("Probe", "#over .go")
-        named = {axis: (nanometres(low), nanometres(high))
+        named = {axis: (nanometres(low) // MM, nanometres(high) // MM)
                  for axis, low, high in re.findall(r"([XYZ]) from (\S+) to (\S+) \(", self.asked())}
         self.assertTrue(named)
-        self.axes.forget()
+        place = self.world.place
+        self.world.forget_reached()
         browser.press("Yes: begins", "#over .go")
         browser.wait("ngc.state.question === null || !ngc.state.question.text.includes('yes begins')")
-        return [named.get(axis, (at, at)) for axis, at in zip("XYZ", self.axes.least)]
+        return [named.get(axis, (at, at)) for axis, at in zip("XYZ", place)]
 
 
 class Setter(OverBodies):
@@ -370,38 +280,52 @@ class Setter(OverBodies):
         """One that is missed at a tool change, a tool that is much longer than the table says, which touches on the way
         over or down, and one whose setter is on at first: it stops at what was said, or there; the length stays, and
         the job waits. Once all is well it is measured, and the job goes on."""
-        browser, axes = self.browser, self.axes
-        axes.ends, axes.boxes = {2: (4 * MM, 0)}, [beside(2 * MM)]
+        browser, world = self.browser, self.world
+        self.stands(length=4, y=2)
         self.load(JOB, JOB.count("\n"))
         self.do("G0 X0")  # a line of one's own before the program isn't what is asked about behind its change
         browser.press("Run", "#run")
         browser.press("Tool 2 is in", "#run")
         self.refused("the probe isn't touched within 6.000000 mm: nothing more moves")
-        self.assertEqual(axes.at_nm, [8 * MM, 6 * MM, -4 * MM])
+        self.assertEqual(world.place, (8 * MM, 6 * MM, -4 * MM))
         self.goes_on_from_here("X1 Y0 Z0. The machine is at X8 Y6 Z-4")
-        for length, why, stops in ((14, "at Y 5,", [8 * MM, 5 * MM + REST_NM, 8 * MM]),
-                                   (12, "at Z 7,", [8 * MM, 6 * MM, 7 * MM - REST_NM])):
-            self.goes_back()
-            axes.ends, axes.boxes = {2: (length * MM, 0)}, [beside(6 * MM)]
-            self.measures()
-            self.refused(f"the probe was touched on the way, {why} where nothing may be: nothing more moves")
-            self.assertEqual((axes.at_nm, axes.greatest, axes.least[2]), (stops, [*stops[:2], 8 * MM], stops[2]))
+        self.touches(14, "at Y 5,", (5 * MM, 5 * MM + REST_OVER), (8 * MM, 8 * MM))
+        self.touches(12, "at Z 7,", (6 * MM, 6 * MM), (7 * MM - REST, 7 * MM))
         self.goes_back()
         self.do("G53 G0 Z0")
-        axes.ends, axes.is_stuck = {2: (4 * MM, 0)}, True
+        self.stands(length=4, y=6)
+        self.puts_probe(True)
         self.measures()
         self.refused("the probe is on before it moves, and nothing may touch it: nothing moves")
-        self.assertEqual(axes.least, axes.greatest)
-        axes.is_stuck = False
+        self.assertEqual(*world.reached[1:])
+        self.puts_probe(False)
         self.measures()
-        self.agrees()
+        named = self.agrees()
         self.rests("Number(s.tools[1]) === 4")
+        self.stays_within(named)
         self.shows("4.000")
         self.continues()
         self.rests("s.finished")
-        self.assertEqual(axes.at_nm, [2 * MM, 0, 5 * MM])
+        self.assertEqual(world.place, (2 * MM, 0, 5 * MM))
         self.shows("4.000", length=4)
         self.no_complaints()
+
+    def stands(self, length: float, y: float) -> None:
+        """So long tool 2 is, and about that Y the setter stands, both in mm."""
+        self.world.tool(2, round(length * MM))
+        self.world.solid(0, BOX, (7 * MM, round((y - 1) * MM), -10 * MM), (9 * MM, round((y + 1) * MM), -5 * MM))
+
+    def touches(self, length: float, why: str, y: tuple[int, int], z: tuple[int, int]) -> None:
+        """A tool of that length is measured, and touches the setter on the way: it comes to rest over X8, within these,
+        and went no farther."""
+        self.goes_back()
+        self.stands(length, y=6)
+        self.measures()
+        self.refused(f"the probe was touched on the way, {why} where nothing may be: nothing more moves")
+        place = self.world.place
+        self.assertTrue(place[0] == 8 * MM and y[0] <= place[1] <= y[1] and z[0] <= place[2] <= z[1], place)
+        _, least, greatest = self.world.reached
+        self.assertEqual((greatest, least[2]), ((*place[:2], 8 * MM), place[2]))
 
     def continues(self) -> None:
         """Touches Continue, and again where it says from where the tool goes on."""
@@ -410,12 +334,12 @@ class Setter(OverBodies):
 
     def goes_on_from_here(self, why: str) -> None:
         """From the place where it ended the job goes on by a yes alone: nothing moves by a no."""
-        at = list(self.axes.at_nm)
+        self.world.forget_reached()
         self.continues()
         self.browser.wait(f"ngc.state.question && document.getElementById('over').textContent.includes('{why}')")
         self.browser.press("No", "#over .foot button")
         self.rests("s.does === 'stopped'")
-        self.assertEqual(self.axes.at_nm, at)
+        self.assertEqual(*self.world.reached[1:])
 
     def measures(self) -> None:
         """Asks for it by its button."""
@@ -427,32 +351,26 @@ class Setter(OverBodies):
         for line in ("G53 G0 Z8", "G53 G0 Y0", "G53 G0 X1"):
             self.do(line)
 
-    def agrees(self) -> dict[str, list[int]]:
-        """Agrees to what is asked: which places it named of each axis, in nm."""
+    def agrees(self) -> list[tuple[int, int]]:
+        """Agrees to what is asked: between which places it named of each axis, in steps."""
         named: dict[str, list[int]] = {axis: [] for axis in "XYZ"}
         for axis, number in re.findall(r"([XYZ])(-?\d[.\d]*)", self.asked()):
-            named[axis].append(nanometres(number.rstrip(".")))
-        self.axes.forget()
+            named[axis].append(nanometres(number.rstrip(".")) // MM)
+        self.world.forget_reached()
         self.browser.press("Yes: measures", "#over .go")
         self.browser.wait("!ngc.state.question")
-        return named
+        return [(min(places), max(places)) for places in named.values()]
 
     def refused(self, why: str) -> None:
         """It ends with that cause once it is agreed to, within what was said; the length is the table's, and the job
         waits for Continue."""
         named = self.agrees()
         self.rests("s.does === 'stopped'")
-        for axis, least, greatest in zip("XYZ", self.axes.least, self.axes.greatest):
-            self.assertTrue(min(named[axis]) <= least <= greatest <= max(named[axis]), (why, axis, least, greatest))
-        self.browser.wait(f"document.getElementById('toast').textContent.includes({json.dumps(why)})")
+        self.stays_within(named)
+        self.toasts(why)
         self.shows("3.000")
         self.assertEqual(self.browser.js("[ngc.state.line, document.getElementById('run').textContent]"),
                          [4, "Continue"])
-
-
-def beside(y_nm: int) -> tuple[tuple[int, ...], tuple[int, ...]]:
-    """A setter about this Y."""
-    return (7 * MM, y_nm - MM, -10 * MM), (9 * MM, y_nm + MM, -5 * MM)
 
 
 class OverWork(AtMachine):

@@ -12,14 +12,15 @@ from player_support import PlayerTest
 from session_support import PATIENCE_S, TOOLS, InFolder
 
 from ngc_tools.formats.out import OFF
-from ngc_tools.link.progress import Link, NoAnswer
+from ngc_tools.link.progress import Link, NoAnswer, Report
 
 PAGE = (TOOLS.parent / "docs" / "PROTOCOL.md").read_text()
 NUMBER = r"-?\d+(?:\.\d+)?"
+STATES = set(re.findall(r"(?:\| |; )`([a-z ]+T?)`", re.search(r"^\| STATE .*", PAGE, re.MULTILINE)[0]))
 # What stands in a form, as text; any other word in capitals is a number.
 WORDS = {" [": "(?: ", "]": ")?", "S ..": rf"S [012] {NUMBER} [01] [01] \d+ \d+", "X Y Z": " ".join([NUMBER] * 3),
          "AXES": "[XYZ]{1,3}", "WAY": "[XYZ][+-]", "PATH": "/.*",
-         "STATE": r"(?:works|held|moves|moved|alarm|broken|waits spindle|waits tool \d+)"}
+         "STATE": "(?:" + "|".join(sorted(STATES)).replace("tool T", r"tool \d+") + ")"}
 PIECES = re.compile("|".join([*map(re.escape, WORDS), "[A-Z]+"]))
 
 
@@ -79,6 +80,22 @@ class Sent(InFolder):
             self.assertEqual(len(fit), 1, text)
             met.update(fit)
         self.assertEqual(set(known) - met, set())
+
+
+class States(unittest.TestCase):
+    """What the player says of itself."""
+
+    def test_states(self) -> None:
+        """The page has each word that the player says, and no other; a console reads them all."""
+        code = (TOOLS / "player" / "player.c").read_text()
+        doing = code.partition("void player_doing(")[2].partition("\n}\n")[0]
+        said = set(re.findall(r'word = "(.*)";', doing)) | {"waits tool T"}
+        self.assertIn('"waits tool %d"', doing)
+        self.assertEqual(STATES, said)
+        for state in STATES:
+            answer = (f"carried 1 received 2 {state.replace('T', '3')} reference 0.000000 0.000000 0.000000 outputs"
+                      " S 0 0.000000 0 0 0 0 percent 100 spindle 100 wants 0 out /out")
+            self.assertEqual(Report.read(answer.encode()).waits, state == "waits tool T", state)
 
 
 class Answered(PlayerTest):

@@ -1529,16 +1529,35 @@ class EndsWhereItBegan(WithOperator):
             self.player.kill()
             self.player.communicate()
 
-    def test_all_of_an_empty_out(self) -> None:
-        """An OUT that was empty as the session began, and is so again: that isn't put back without a question."""
+    def all_lost(self) -> list[str]:
+        """Power is lost behind a circle, and OUT, which was empty before, has none of its lines, which it returns."""
         self.device()
         operator, _ = self.begun("")
         self.keep_note()
         operator.do("G2 X0 I0.002 F60")
         lines = self.lines()
         self.lost(lines, 0)
+        return lines
+
+    def test_all_of_an_empty_out(self) -> None:
+        """An OUT that was empty as the session began, and is so again: that isn't put back without a question."""
+        lines = self.all_lost()
         operator, face = self.operate("yes", "yes", "yes", "yes")
         self.assertTrue([said for said in face.said if f"has none of the {len(lines)} lines that were handed" in said])
+        operator.do("recover")
+        self.assertEqual(self.pins(), lines)
+
+    def test_told_before_it_is_put_back(self) -> None:
+        """Where the machine is told first, and power is lost once more before `recover`: the lines were put back."""
+        lines = self.all_lost()
+        operator, face = self.operate("yes")
+        operator.do("reference 0 0 0")
+        self.assertTrue(face.asked[0][0].endswith("anything else goes on without them:"), face.asked)
+        operator.console.kill()
+        self.player.kill()
+        self.player.communicate()
+        operator, face = self.operate("yes", "yes", "yes")
+        self.assertTrue([said for said in face.said if said.startswith("lines stand in OUT that no motor")], face.said)
         operator.do("recover")
         self.assertEqual(self.pins(), lines)
 
@@ -1597,7 +1616,8 @@ class Holes(WithOperator):
         said = [said for said in face.said if said.startswith("out: ")]
         self.assertEqual(said, ["out: behind its line 1, at byte 11, 26 bytes of zeros stood in the place of lines,"
                                 " which the disk lost. It\nis cut off there, with 6 lines behind them that no motor"
-                                " carried out", "out: 2 lines that were handed out were lost with the power, and are put back:"
+                                " carried out",
+                                "out: 2 lines that were handed out were lost with the power, and are put back:"
                                 " ngc run hands out the same ones again"])
         operator.do("recover")
         self.assertEqual(self.pins()[:3] + self.pins()[-21:], ["P 1 0 0 50"] * 2 + ["S 0 0.000000 0 0 0 0"]

@@ -15,7 +15,7 @@ from session_support import TOOLS, told
 
 from ngc_tools.cli.run import new_parser, run
 from ngc_tools.failure import BadNumber, Failure, WrongWords, speaking_of
-from ngc_tools.formats.text import shown, shown_line
+from ngc_tools.shown import shown, shown_line
 
 ABOUT = "Try things out, and say in a paragraph of some length what comes of it, as a help does.\n\nAnother paragraph."
 EXAMPLE = """example:

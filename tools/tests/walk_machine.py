@@ -108,8 +108,8 @@ class Pulse:
         return x * STEP_MM, y * STEP_MM, z * STEP_MM
 
 
-class Mill(World):
-    """The simulated machine, in millimetres of the machine's coordinates, and what its motors made."""
+class Telling(World):
+    """The simulated machine, which tells what its outputs are and what its motors made."""
 
     def __init__(self) -> None:
         with open("made", "wb") as file:
@@ -117,14 +117,6 @@ class Mill(World):
         with open("made", "r+b") as file:
             self._made = mmap.mmap(file.fileno(), 0)
         super().__init__()
-        for number, (high, axis, sign, at_mm) in enumerate(((1, 0, -1, -10), (2, 1, -1, -10), (3, 2, 1, 5))):
-            self.switch(number, high, axis, sign, round(at_mm / STEP_MM))
-        for slot in LENGTHS_MM:
-            self.tool(slot, round(LENGTHS_MM[slot] / STEP_MM), round(RADII_MM[slot] / STEP_MM))
-        for number, (kind, low, high) in enumerate(BODIES):
-            self.solid(number, kind, *(tuple(round(mm / STEP_MM) for mm in point) for point in (low, high)))
-        self.touching(PROBE)
-        self.forget_reached()
 
     @property
     def pulses(self) -> int:
@@ -150,6 +142,26 @@ class Mill(World):
     def lose_power(self) -> None:
         """Nothing turns, and nothing flows."""
         _MADE.pack_into(self._made, 0, self.pulses, 0, 0, 0, 0, self.outputs.slot, 0, time.monotonic_ns())
+
+    def close(self) -> None:
+        """Lets go of its files."""
+        super().close()
+        self._made.close()
+
+
+class Mill(Telling):
+    """A mill with a table, a setter, work and a boss on it, in millimetres of the machine's coordinates."""
+
+    def __init__(self) -> None:
+        super().__init__()
+        for number, (high, axis, sign, at_mm) in enumerate(((1, 0, -1, -10), (2, 1, -1, -10), (3, 2, 1, 5))):
+            self.switch(number, high, axis, sign, round(at_mm / STEP_MM))
+        for slot in LENGTHS_MM:
+            self.tool(slot, round(LENGTHS_MM[slot] / STEP_MM), round(RADII_MM[slot] / STEP_MM))
+        for number, (kind, low, high) in enumerate(BODIES):
+            self.solid(number, kind, *(tuple(round(mm / STEP_MM) for mm in point) for point in (low, high)))
+        self.touching(PROBE)
+        self.forget_reached()
 
     @property
     def at_mm(self) -> Point:
@@ -222,11 +234,6 @@ class Mill(World):
                 for axis, way in zip("XYZ", pulse.step):
                     counts[axis] += abs(way)
         return max(counts.values()) * STEP_MM, latest
-
-    def close(self) -> None:
-        """Lets go of its files."""
-        super().close()
-        self._made.close()
 
 
 def player_program() -> str:

@@ -15,6 +15,7 @@ use ng_file::{
     Beginning, FileRig, Hold, NoDevice, NotHeld, RecordedRig, Storage, is_same_file, open_device,
     rewrite,
 };
+use ng_layout::LARGE_SIZE;
 use ng_run::{FAILED, console};
 use ng_settings::Settings;
 use std::alloc::Global;
@@ -161,18 +162,9 @@ fn operate_settled<S: Storage + Drop, O: Write + Drop, I: Read, W: Write, B: Beg
 /// fails. A file that isn't a device isn't written.
 ///
 /// A sync of an earlier session may have failed, and then the system may take what it couldn't write for written: a
-/// read returns it, and the disk has what was there before. A session makes no call after a failed one, so of what its
-/// sync should have kept each part either counts again only once it is written anew, or is lost with a loss of power
-/// without harm, or is written again here:
-///
-/// - a snapshot, a program or a tool area, for which no header stood yet: no header that is read names them, and they
-///   are written anew before one does;
-/// - records: nobody was told of the entry or the segment, so it may be kept or lost; and power on stores all anew,
-///   what it read of them too, and then counts no record;
-/// - a header: power on would write over what the header before it names, which on the disk is in force. What it names
-///   itself was synced before it was written. So both headers are written again;
-/// - the end of a device that was grown: a header may name its last areas only where the disk has its length. So its
-///   last sector is written again.
+/// read returns it, and the disk has what was there before. Power on would go by what is read, and a loss of power
+/// could bring back what was there. So each sector that a device may have is written again, whichever sessions came
+/// before, and the last one, since a file that was lengthened has its length on the disk only where that is there.
 fn settle<S: Storage>(device: &mut S) -> io::Result<()>
     ensures same { IfSome (S.content device.old) (λ held. S.content device.new ≡ Some held) }
     ensures lasts { OnOk result (IfSome (S.lasting device.new) (λ held. S.content device.new ≡ Some held)) }
@@ -184,6 +176,6 @@ fn settle<S: Storage>(device: &mut S) -> io::Result<()>
     if !is_device(device)? {
         return device.sync();
     }
-    rewrite(device)?;
+    rewrite(device, LARGE_SIZE)?;
     device.sync()
 }

@@ -41,3 +41,14 @@ stays-again r place bytes None between new whole is same put part = tt
 stays-again r place bytes (Some held) between new whole is same put part =
     put-again r place bytes held new whole is (subst (λ (b : Option (List ℕ)). OnOk r (Put place bytes b new)) same put)
     (subst (λ (b : Option (List ℕ)). OnErr r (PutInPart place bytes b new)) same part)
+
+-- bytes that a call leaves
+pub same-first : (first now : Option (List ℕ)) → now ≡ first → IfSome first (λ held. now ≡ Some held)
+same-first None now is = tt
+same-first (Some held) now is = is
+
+-- and then another
+pub same-then : (first mid now : Option (List ℕ)) → IfSome first (λ held. mid ≡ Some held) → IfSome mid (λ held. now ≡ Some held)
+    → IfSome first (λ held. now ≡ Some held)
+same-then None mid now one other = tt
+same-then (Some held) mid now one other = subst (λ (o : Option (List ℕ)). IfSome o (λ held. now ≡ Some held)) one other

@@ -1,8 +1,8 @@
 -- Sectors that are written again, one after another.
-use Rattle.std.proofs.Common.{◌≡◌, ◌⊎◌, inl, inr, ℕ, ◌+◌, ◌*◌, List, Option, None, Some, Result, Ok, Err, OnOk, IfSome, IsErr, IsOkAnd}
-use Rattle.std.proofs.Common.{sym, ◌∙◌, ap, subst}
-use Rattle.std.specs.Prelude.{slice_range}
-use Rattle.ng_file.specs.WeakPromise.{HoldsNothingMore, IfWeaklyPromised, PutsAnew, Rewrote, WeakPromise}
+use Rattle.std.proofs.Common.{◌≡◌, ◌⊎◌, inl, inr, ℕ, ◌+◌, ◌-◌, ◌*◌, ◌<◌, List, Option, None, Some, Result, Ok, Err, OnOk, IfSome, IsErr, IsOkAnd}
+use Rattle.std.proofs.Common.{sym, ◌∙◌, ap, subst, length, arith}
+use Rattle.std.specs.Prelude.{◌/◌, min, slice_range}
+use Rattle.ng_file.specs.WeakPromise.{HoldsNothingMore, IfWeaklyPromised, IsFirstOrLast, PutsAnew, Rewrote, WeakPromise}
 
 -- one call after another, where what is known of the second is so if the first was honest
 both : {old between new : WeakPromise} {first second fact : Type 0} → IfWeaklyPromised old between first → IfWeaklyPromised between new second
@@ -86,3 +86,55 @@ fewer {old} {new} content these few are call = record { keeps = call.keeps; back
         → IfSome content (λ held. Rewrote held old new (few held))
     each None are all = tt
     each (Some held) are all = record { holds = all.holds; forgets = all.forgets; anew = λ n is. all.anew n (are n is) }
+
+-- ---- the first sectors, one after another, and the last
+
+each-of : (content : Option (List ℕ)) (P : List ℕ → Type 0) → ((held : List ℕ) → P held) → IfSome content P
+each-of None P is = tt
+each-of (Some held) P is = is held
+
+-- one more
+pub first-more : {old between new : WeakPromise} (content now : Option (List ℕ)) (sector : ℕ) → IfSome content (λ held. now ≡ Some held)
+    → IfWeaklyPromised old between (IfSome content (λ held. Rewrote held old between (λ n. n < sector)))
+    → IfWeaklyPromised between new (IfSome now (λ held. Rewrote held between new (λ n. n ≡ sector)))
+    → IfWeaklyPromised old new (IfSome content (λ held. Rewrote held old new (λ n. n < sector + 1)))
+first-more content now sector same first second =
+    fewer content (λ held n. (n < sector) ⊎ (n ≡ sector)) (λ held n. n < sector + 1)
+    (each-of content (λ held. (n : ℕ) → n < sector + 1 → (n < sector) ⊎ (n ≡ sector)) (λ held n lt. below n lt))
+    (then-others content now (λ held n. n < sector) (λ held n. n ≡ sector) same first second)
+  where
+    below : (n : ℕ) → n < sector + 1 → (n < sector) ⊎ (n ≡ sector)
+    below n lt = grind arith
+
+-- one that fails
+pub first-failed : {T E F : Type 0} (r : Result T E) (failed : Result T F) {old between new : WeakPromise} (content now : Option (List ℕ)) (sector : ℕ)
+    (these : List ℕ → ℕ → Type 0) → IsErr failed → IfSome content (λ held. now ≡ Some held)
+    → IfWeaklyPromised old between (IfSome content (λ held. Rewrote held old between (λ n. n < sector)))
+    → IfWeaklyPromised between new (IfSome now (λ held. Rewrote held between new (λ n. IsOkAnd r (λ _. n ≡ sector))))
+    → IfWeaklyPromised old new (IfSome content (λ held. Rewrote held old new (λ n. IsOkAnd failed (λ _. these held n))))
+first-failed r failed content now sector these bad same first second =
+    let either : List ℕ → ℕ → Type 0 = λ held n. (n < sector) ⊎ IsOkAnd r (λ _. n ≡ sector) in
+    fewer content either (λ held n. IsOkAnd failed (λ _. these held n))
+    (each-of content (λ held. (n : ℕ) → IsOkAnd failed (λ _. these held n) → either held n)
+    (λ held n done. absurd (undone failed (λ _. these held n) bad done)))
+    (then-others content now (λ held n. n < sector) (λ held n. IsOkAnd r (λ _. n ≡ sector)) same first second)
+
+-- the last after them
+pub first-and-last : {T E : Type 0} (r : Result T E) {old between new : WeakPromise} (content now : Option (List ℕ)) (bytes most end last : ℕ)
+    → IfSome content (λ held. bytes ≡ length held) → end ≡ min (bytes / 512) most → last ≡ bytes / 512 - 1 → IfSome content (λ held. now ≡ Some held)
+    → IfWeaklyPromised old between (IfSome content (λ held. Rewrote held old between (λ n. n < end)))
+    → IfWeaklyPromised between new (IfSome now (λ held. Rewrote held between new (λ n. IsOkAnd r (λ _. n ≡ last))))
+    → IfWeaklyPromised old new (IfSome content (λ held. Rewrote held old new (λ n. IsOkAnd r (λ _. IsFirstOrLast most held n))))
+first-and-last {T} {E} r content now bytes most end last size ends lasts same first second =
+    fewer content (λ held n. (n < end) ⊎ IsOkAnd r (λ _. n ≡ last)) (λ held n. IsOkAnd r (λ _. IsFirstOrLast most held n))
+    (are r content size) (then-others content now (λ held n. n < end) (λ held n. IsOkAnd r (λ _. n ≡ last)) same first second)
+  where
+    which : (held : List ℕ) (n : ℕ) → bytes ≡ length held → IsFirstOrLast most held n → (n < end) ⊎ (n ≡ last)
+    which held n size (inl early) = inl (omega (arith, ends, size, early.0, early.1))
+    which held n size (inr late) = inr (late ∙ ap (λ (k : ℕ). k / 512 - 1) (sym size) ∙ sym lasts)
+
+    are : (r : Result T E) (content : Option (List ℕ)) → IfSome content (λ held. bytes ≡ length held)
+        → IfSome content (λ held. (n : ℕ) → IsOkAnd r (λ _. IsFirstOrLast most held n) → (n < end) ⊎ IsOkAnd r (λ _. n ≡ last))
+    are r None size = tt
+    are (Ok _) (Some held) size = λ n is. which held n size is
+    are (Err _) (Some held) size = λ n is. absurd is

@@ -1,6 +1,6 @@
 -- What a storage promises whose failed sync forgets what it couldn't write, as that of Linux does: a read returns it, no
 -- later sync writes it, and the disk has it not (own).
-use Rattle.std.specs.Prelude.{◌≡◌, ◌⊎◌, ◌-◌, ◌*◌, ◌/◌, ℕ, List, Option, Result, IfSome, IsOkAnd, OnOk, length}
+use Rattle.std.specs.Prelude.{◌≡◌, ◌⊎◌, ◌-◌, ◌*◌, ◌/◌, ◌<◌, ℕ, List, Option, Result, IfSome, IsOkAnd, OnOk, length}
 use Rattle.ng_file.specs.Bytes.{sector_of}
 
 pub record WeakPromise : Type 1 where
@@ -47,6 +47,6 @@ pub record Rewrote (held : List ℕ) (old new : WeakPromise) (these : ℕ → Ty
 abbrev pub Rewrites : {T E : Type 0} → Result T E → Option (List ℕ) → WeakPromise → WeakPromise → (List ℕ → ℕ → Type 0) → Type 0
 Rewrites result content old new these = IfSome content (λ held. Rewrote held old new (λ n. IsOkAnd result (λ _. these held n)))
 
--- the first two sectors and the last
-abbrev pub IsOuter : List ℕ → ℕ → Type 0
-IsOuter held n = (n ≡ 0) ⊎ ((n ≡ 1) ⊎ (n ≡ length held / 512 - 1))
+-- one of the first sectors of these bytes, at most so many, or the last
+abbrev pub IsFirstOrLast : ℕ → List ℕ → ℕ → Type 0
+IsFirstOrLast most held n = ((n < most) × (n < length held / 512)) ⊎ (n ≡ length held / 512 - 1)

@@ -8,21 +8,15 @@ use std::io::ErrorKind;
 /// of what was lost written again by chance.
 const BLOCK: usize = 512;
 
-/// A block that the disk has otherwise than a read returns it.
-#[derive(Drop)]
-struct Block {
-    number: usize,
-    on_disk: Vec<u8>,
-    /// Whether the next sync writes it.
-    is_dirty: bool,
-}
-
 /// A file: what a read returns, and where the disk has something else.
 #[derive(Drop)]
 pub struct Disk {
     alloc: Global,
     held: Vec<u8>,
-    blocks: Vec<Block>,
+    /// What the disk has of each block, where a read returns something else.
+    on_disk: Vec<Option<Vec<u8>>>,
+    /// The blocks that the next sync writes.
+    dirty: Vec<usize>,
     /// How many bytes the disk has.
     length: usize,
     /// How many syncs succeed before one fails. After that one all succeed.
@@ -38,7 +32,8 @@ impl Disk {
         Disk {
             alloc,
             held: bytes,
-            blocks: Vec::new(alloc),
+            on_disk: Vec::new(alloc),
+            dirty: Vec::new(alloc),
             length,
             syncs_left: usize::MAX,
             calls_left: usize::MAX,
@@ -51,13 +46,13 @@ impl Disk {
             self.alloc,
             Vec::from_slice(self.alloc, self.held.as_slice())?,
         );
-        for block in &self.blocks {
-            copy.blocks.push(Block {
-                number: block.number,
-                on_disk: Vec::from_slice(self.alloc, block.on_disk.as_slice())?,
-                is_dirty: block.is_dirty,
+        for block in &self.on_disk {
+            copy.on_disk.push(match block {
+                Some(bytes) => Some(Vec::from_slice(self.alloc, bytes.as_slice())?),
+                None => None,
             })?;
         }
+        copy.dirty = Vec::from_slice(self.alloc, self.dirty.as_slice())?;
         copy.length = self.length;
         Ok(copy)
     }
@@ -66,9 +61,10 @@ impl Disk {
     pub fn left(mut self) -> Result<Vec<u8>, AllocError> {
         self.write_back();
         let mut held = self.held;
-        for block in &self.blocks {
-            let begins = block.number.saturating_mul(BLOCK);
-            put(&mut held, begins, block.on_disk.as_slice())?;
+        for (number, block) in self.on_disk.iter().enumerate() {
+            if let Some(bytes) = block {
+                put(&mut held, number.saturating_mul(BLOCK), bytes.as_slice())?;
+            }
         }
         held.truncate(self.length);
         Ok(held)
@@ -76,13 +72,14 @@ impl Disk {
 
     /// Writes blocks to the disk. The file gets as long there as the last of them asks.
     fn write_back(&mut self) {
-        for block in &self.blocks {
-            if block.is_dirty {
-                let end = block.number.saturating_add(1).saturating_mul(BLOCK);
-                self.length = self.length.max(end.min(self.held.len()));
+        for number in &self.dirty {
+            let end = number.saturating_add(1).saturating_mul(BLOCK);
+            self.length = self.length.max(end.min(self.held.len()));
+            if let Some(block) = self.on_disk.as_mut_slice().get_mut(*number) {
+                *block = None;
             }
         }
-        self.blocks.retain(|block| !block.is_dirty);
+        self.dirty.clear();
     }
 
     /// Writes bytes, which are within a block, and lengthens the file if that is needed.
@@ -94,16 +91,17 @@ impl Disk {
 
     /// Marks a block to be written by the next sync.
     fn mark(&mut self, number: usize) -> Result<(), AllocError> {
-        if let Some(block) = self.blocks.iter_mut().find(|block| block.number == number) {
-            block.is_dirty = true;
+        self.dirty.push(number)?;
+        if matches!(self.on_disk.get(number), Some(Some(_))) {
             return Ok(());
         }
         let on_disk = Vec::from_slice(self.alloc, block_of(self.held.as_slice(), number))?;
-        self.blocks.push(Block {
-            number,
-            on_disk,
-            is_dirty: true,
-        })?;
+        for _ in self.on_disk.len()..number.saturating_add(1) {
+            self.on_disk.push(None)?;
+        }
+        if let Some(block) = self.on_disk.as_mut_slice().get_mut(number) {
+            *block = Some(on_disk);
+        }
         Ok(())
     }
 
@@ -176,9 +174,7 @@ impl Storage for Lent<'_> {
             }
             None => {
                 self.disk.syncs_left = usize::MAX;
-                for block in self.disk.blocks.iter_mut() {
-                    block.is_dirty = false;
-                }
+                self.disk.dirty.clear();
                 Err(io::Error::from(ErrorKind::Other))
             }
         }

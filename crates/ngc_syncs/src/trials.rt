@@ -120,9 +120,8 @@ pub fn tried(alloc: Global, kind: &Kind) -> Result<Trials> {
     Ok(trials)
 }
 
-/// Starts another session over a device, cuts power before each of its calls and after the last, and counts what is
-/// found. What wasn't synced is kept; where all of it is lost, the same is found as by a cut right after the sync
-/// before.
+/// Starts another session over a device, cuts power before its calls and after the last, and counts what is found. What
+/// wasn't synced is kept; where all of it is lost, the same is found as by a cut right after the sync before.
 fn try_cuts(
     alloc: Global,
     disk: &Disk,
@@ -130,7 +129,11 @@ fn try_cuts(
     entries: usize,
     trials: &mut Trials,
 ) -> Result<()> {
-    for calls in 0..999 {
+    let to_sync = calls_to_sync(alloc, disk, asked)?;
+    for calls in 0..9_999 {
+        if !is_tried(calls, to_sync) {
+            continue;
+        }
         let mut cut = disk.copy()?;
         cut.calls_left = calls;
         let text = answers(alloc, &mut cut, asked)?;
@@ -145,6 +148,21 @@ fn try_cuts(
         }
     }
     Ok(())
+}
+
+/// How many writes and syncs a session makes up to its first sync, with that. Before it the device is written again as
+/// it is read.
+fn calls_to_sync(alloc: Global, disk: &Disk, asked: &str) -> Result<usize> {
+    let mut ended = disk.copy()?;
+    ended.syncs_left = 0;
+    answers(alloc, &mut ended, asked)?;
+    Ok(usize::MAX.saturating_sub(ended.calls_left))
+}
+
+/// Whether power is cut before this call: of those up to the first sync, which are so many, before the first and the
+/// last four and each 100th, and before each other one.
+fn is_tried(call: usize, to_sync: usize) -> bool {
+    call < 4 || call % 100 == 0 || call.saturating_add(4) >= to_sync
 }
 
 /// Whether a device stands for what these entries leave, or one more.

@@ -11,7 +11,6 @@ from ngc_tools.failure import BadNumber, Failure, WrongWords, speaking_of
 from ngc_tools.formats.device import SLOTS
 from ngc_tools.formats.position import nanometres
 from ngc_tools.formats.program_text import NotText, ProgramText
-from ngc_tools.formats.text import shown
 from ngc_tools.job.adapted import NO_PROGRAM, Change, Rewritten, adapted, is_none, rewritten_of
 from ngc_tools.job.cam_homes import HomeAnswers, Missing
 from ngc_tools.job.cam_line import CamLine
@@ -20,6 +19,7 @@ from ngc_tools.job.refused import Ask, Lines, find_all
 from ngc_tools.ngc import cures
 from ngc_tools.ngc.run import Refusal, TooLong, find_ngc, refusal
 from ngc_tools.ngc.usable_settings import look_at_settings
+from ngc_tools.shown import shown
 
 ABOUT = """Write a CAM system's text as `ngc` accepts it, and list each line that is changed.
 

@@ -12,7 +12,6 @@ from ngc_tools.formats.device import MOST_LARGE_PROGRAM
 from ngc_tools.formats.out import BadLine
 from ngc_tools.formats.program_text import NotText, ProgramText
 from ngc_tools.formats.settings import DEFAULT, Settings
-from ngc_tools.formats.text import shown
 from ngc_tools.job.adapted import NO_PROGRAM, is_none
 from ngc_tools.job.danger import Danger
 from ngc_tools.job.dangers import Conditions, dangers
@@ -27,6 +26,7 @@ from ngc_tools.ngc.run import Refusal, TooLong, find_ngc, refusal
 from ngc_tools.job.timing import with_ramps
 from ngc_tools.ngc.usable_settings import look_at_settings
 from ngc_tools.scratch import scratch_file
+from ngc_tools.shown import shown
 
 ABOUT = """Say of each line of PROGRAM that `ngc` refuses what is wrong with it, and warn of what is valid and
 dangerous.

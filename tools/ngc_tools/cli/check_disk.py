@@ -8,7 +8,7 @@ from ngc_tools.cli.run import new_parser, run, whole_number
 from ngc_tools.disk.mounted import Mounted, mounted
 from ngc_tools.disk.records import NAME, Records, look
 from ngc_tools.failure import Failure, WrongWords
-from ngc_tools.formats.text import shown
+from ngc_tools.shown import shown
 
 ABOUT = """Say how quickly the disk of FOLDER syncs, what that means for a program of short lines, and, with a plug that
 is pulled by hand, whether the disk keeps what it synced.

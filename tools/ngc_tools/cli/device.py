@@ -5,7 +5,7 @@ import sys
 from ngc_tools.cli.run import MOST_MEMORY, new_parser, run
 from ngc_tools.failure import Failure
 from ngc_tools.formats.device import LOG_END, STATE, Device, NoDevice
-from ngc_tools.formats.text import shown, shown_line
+from ngc_tools.shown import shown, shown_line
 
 ABOUT = """Print what a device of format 1 or 2 stands for, and where its log ends. docs/DEVICE.md says where each
 number is.

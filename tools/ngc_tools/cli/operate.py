@@ -28,7 +28,7 @@ from ngc_tools.ngc.usable_settings import look_at_settings
 from ngc_tools.cli.terminal import AskedToEnd, Screen
 from ngc_tools.formats.device import Device, NoDevice
 from ngc_tools.formats.settings import Settings, read_table
-from ngc_tools.formats.text import shown
+from ngc_tools.shown import shown
 
 ABOUT = """A console for people over `ngc run`: programs by name, G-code as typed, Enter or Ctrl-C holds.
 

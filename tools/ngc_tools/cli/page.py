@@ -12,7 +12,6 @@ from ngc_tools.cli.operate import add_session, as_found, bound, check_ahead, met
 from ngc_tools.cli.run import add_ngc, new_parser, run
 from ngc_tools.failure import Failure, WrongWords
 from ngc_tools.formats.device import Device
-from ngc_tools.formats.text import shown
 from ngc_tools.ngc.before_start import CannotBegin, look
 from ngc_tools.ngc.console import Console
 from ngc_tools.ngc.machine_report import Motion
@@ -29,6 +28,7 @@ from ngc_tools.page.session import Opened, PageSession
 from ngc_tools.page.start_player import PlayerStarter
 from ngc_tools.link.machine import read_limits
 from ngc_tools.link.progress import Link, NoAnswer
+from ngc_tools.shown import shown
 
 ABOUT = """A page in the browser over `ngc run`: the machine's state, the program, its path, and what an operator does.
 

@@ -14,7 +14,6 @@ from ngc_tools.formats.canonical import BadText, Command, read_commands
 from ngc_tools.formats.out import BadLine
 from ngc_tools.formats.position import nanometres
 from ngc_tools.formats.settings import DEFAULT, Settings
-from ngc_tools.formats.text import shown
 from ngc_tools.job import figures, moves
 from ngc_tools.formats.in_force import InForce
 from ngc_tools.job.picture import picture
@@ -24,6 +23,7 @@ from ngc_tools.ngc.pacing import Pacing
 from ngc_tools.ngc.run import TooLong, find_ngc, refusal
 from ngc_tools.job.timing import timed, with_ramps
 from ngc_tools.ngc.usable_settings import look_at_settings
+from ngc_tools.shown import shown
 
 ABOUT = """Draw a job as SVG: from above, from the front, from the right and aslant, traverses dashed, cuts the darker
 the deeper, with the zeros, the start and the end.

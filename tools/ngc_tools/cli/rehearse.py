@@ -11,7 +11,6 @@ from ngc_tools.ngc.copies import CommandRefused
 from ngc_tools.formats.lines import Program
 from ngc_tools.formats.out_note import NoteFile
 from ngc_tools.formats.settings import Settings
-from ngc_tools.formats.text import shown, shown_line
 from ngc_tools.operator.causes import rehearsed
 from ngc_tools.operator.rehearsal import Rehearsal, point
 from ngc_tools.formats.position import millimetres
@@ -21,6 +20,7 @@ from ngc_tools.operator.recovery import Looking, Recovery
 from ngc_tools.link.out_file import OutFile, check_record
 from ngc_tools.ngc.run import find_ngc
 from ngc_tools.ngc.usable_settings import look_at_settings
+from ngc_tools.shown import shown, shown_line
 
 ABOUT = """What `resume` would do, before anything moves: `ngc run` does it over a copy of the device. It says which
 block is half-done, where its segment begins, what comes on, how the approach goes and whether it goes down, and then

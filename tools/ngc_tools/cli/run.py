@@ -16,8 +16,8 @@ from typing import NoReturn
 
 from ngc_tools.failure import Failure, WrongWords
 from ngc_tools.files import cause
-from ngc_tools.formats.text import shown
 from ngc_tools.scratch import nothing_left
+from ngc_tools.shown import shown
 from ngc_tools.version import version_text
 
 Work = Callable[[argparse.Namespace], int]

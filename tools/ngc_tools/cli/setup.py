@@ -13,7 +13,6 @@ from ngc_tools.cli.run import add_ngc, new_parser, run
 from ngc_tools.failure import Failure
 from ngc_tools.formats.device import Device
 from ngc_tools.formats.settings import Settings
-from ngc_tools.formats.text import shown
 from ngc_tools.ngc import machine_report, settings_report
 from ngc_tools.ngc.before_start import CannotBegin, look
 from ngc_tools.ngc.machine_report import Motion
@@ -22,6 +21,7 @@ from ngc_tools.ngc.usable_settings import look_at_settings
 from ngc_tools.scratch import Scratch
 from ngc_tools.setup.asking import ask_accel, ask_axes, ask_line, ask_settings, ask_yes
 from ngc_tools.setup.texts import machine_text, settings_text
+from ngc_tools.shown import shown
 
 ABOUT = """Make the files of a machine: ask once for its axes, steps, travel and step sink, write its settings and its
 machine's file with a comment on each key, make its device, and check all of it.

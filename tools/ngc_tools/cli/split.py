@@ -8,13 +8,13 @@ from ngc_tools.files import look_before_write, read, write_new
 from ngc_tools.formats.device import MOST_LARGE_PROGRAM, MOST_PROGRAM, Device, NoDevice, copied
 from ngc_tools.formats.position import millimetres, nanometres
 from ngc_tools.formats.settings import DEFAULT, Settings
-from ngc_tools.formats.text import shown
 from ngc_tools.job.parts_compared import compare_dry, compare_run
 from ngc_tools.job.split import CannotPart, LongProgram, Part, parted
 from ngc_tools.ngc import cures
 from ngc_tools.ngc.run import TooLong, find_ngc
 from ngc_tools.ngc.usable_settings import look_at_settings
 from ngc_tools.ngc.worlds import LineRefused, two_worlds
+from ngc_tools.shown import shown
 
 ABOUT = f"""Part a program that is longer than a device takes ({MOST_PROGRAM:,} bytes; {MOST_LARGE_PROGRAM:,} where it
 is large) into programs that are run one after the other. It is parted after traverses (G0) that end above the work:

@@ -10,13 +10,13 @@ from contextlib import AbstractContextManager
 from dataclasses import replace
 from types import FrameType
 
-from ngc_tools.formats.text import shown
 from ngc_tools.cli.keys import TerminalKeys, terminal_keys
 from ngc_tools.cli.typed_lines import TypedLines
 from ngc_tools.language import Language
 from ngc_tools.operator.commands import help_text
 from ngc_tools.operator.face import MESSAGE, SAID, WARNING, UnderWay, is_aside, is_override
 from ngc_tools.link.progress import Report
+from ngc_tools.shown import shown
 
 _ENDING = (signal.SIGTERM, signal.SIGHUP)
 

@@ -3,7 +3,7 @@ import re
 from dataclasses import dataclass
 
 from ngc_tools.failure import Failure
-from ngc_tools.formats.text import shown
+from ngc_tools.shown import shown
 
 _NUMBER = r"-?[0-9]+\.[0-9]{6}"
 _POINT = rf"{_NUMBER}, {_NUMBER}, {_NUMBER}"

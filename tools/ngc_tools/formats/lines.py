@@ -2,7 +2,7 @@
 import re
 from dataclasses import dataclass
 
-from ngc_tools.formats.text import shown, shown_line
+from ngc_tools.shown import shown, shown_line
 
 _COMMENT = re.compile(rb"\(([^()]*)\)")
 _CHANGE = re.compile(rb"M[ \t]*0*[ \t]*6(?![ \t]*[0-9.])", re.IGNORECASE)

@@ -6,7 +6,7 @@ from typing import Any
 
 from ngc_tools.failure import Failure
 from ngc_tools.formats.settings import read_table
-from ngc_tools.formats.text import shown
+from ngc_tools.shown import shown
 
 MOST_PERCENTS = range(100, 201)
 """What `most_percent` may be."""

@@ -4,7 +4,7 @@ import re
 from dataclasses import dataclass
 
 from ngc_tools.failure import Failure
-from ngc_tools.formats.text import shown
+from ngc_tools.shown import shown
 
 GREATEST_US = 2**64 - 1
 LONGEST_LINE = 200  # bytes; no line of OUT is as long

@@ -9,7 +9,7 @@ from typing import Any
 from ngc_tools.failure import Failure
 from ngc_tools.files import read_settings
 from ngc_tools.formats.device import LENGTHS, SLOTS
-from ngc_tools.formats.text import shown
+from ngc_tools.shown import shown
 
 KEYS = ("step_nm", "low_nm", "high_nm", "traverse_nm_per_min", "period_us", "tools_nm")
 AXES = "XYZ"

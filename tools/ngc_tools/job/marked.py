@@ -1,6 +1,6 @@
 """A refused line as people see it: carets below its words, and how a check goes on after it."""
-from ngc_tools.formats.text import shown
 from ngc_tools.job.refused import Finding, Span
+from ngc_tools.shown import shown
 
 
 def carets(text: bytes, marks: tuple[Span, ...]) -> str:

@@ -4,7 +4,7 @@ from dataclasses import dataclass
 from math import isqrt
 from xml.sax.saxutils import escape
 
-from ngc_tools.formats.text import shown
+from ngc_tools.shown import shown
 
 Pair = tuple[int, int]
 

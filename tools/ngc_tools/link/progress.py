@@ -326,7 +326,7 @@ class Link:
         return self._moves, "" if answer == "taken" else answer.removeprefix("refused ")
 
     def override(self, percent: int) -> None:
-        """Tells a player to go at so many percent of OUT's rates, 1 to 100. Raises NoAnswer."""
+        """Tells a player to go at so many percent of OUT's rates, 1 to its `most_percent`. Raises NoAnswer."""
         self._send(b"percent %d" % percent)
 
     def override_spindle(self, percent: int) -> None:

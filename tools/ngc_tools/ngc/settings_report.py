@@ -6,10 +6,10 @@ from typing import Any
 
 from ngc_tools.formats.settings import (AXES, DEFAULT, KEYS, LIMITS, BadSettings, Settings, read_table, toml_key,
                                         toml_line)
-from ngc_tools.formats.text import shown
 from ngc_tools.ngc import faults
 from ngc_tools.ngc.run import Refusal, settings_refusal
 from ngc_tools.scratch import scratch_file
+from ngc_tools.shown import shown
 
 GOOD: dict[str, Any] = asdict(DEFAULT)
 

@@ -6,7 +6,6 @@ from typing import Any
 from ngc_tools.failure import Failure
 from ngc_tools.formats.device import Device
 from ngc_tools.formats.settings import read_table
-from ngc_tools.formats.text import shown
 from ngc_tools.ngc.beginning import Beginning
 from ngc_tools.ngc.run import refusal
 from ngc_tools.operator.causes import busy
@@ -15,6 +14,7 @@ from ngc_tools.operator.left import Left
 from ngc_tools.operator.look import Look
 from ngc_tools.operator.sentences import explained
 from ngc_tools.operator.session import Session
+from ngc_tools.shown import shown
 
 SUFFIX = ".macros"
 MOST, MOST_LINES = 24, 50

@@ -242,6 +242,7 @@ class Moves:
             return
         if status.half == "none":
             self.left.keep()
+            self.recover.keep_lost()
         command = f"reference {report.at}"
         session.face.say(command)
         if taken(session, session.console.ask(command)[0], command):

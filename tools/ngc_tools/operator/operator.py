@@ -357,6 +357,7 @@ class Operator:
             return
         if self.console.status().half == "none":
             self.left.keep()
+            self.recover.keep_lost()
         is_still = self.recover.is_still()
         self.places.reference(typed.rest.lower().split(), typed.anyway)
         if is_still:

@@ -34,6 +34,10 @@ DROPS = """\
 LOST = """\
 {out} has none of the {count} lines that were handed out last, and no motor carried them out if it is the OUT of that
 session: recover asks, and puts them back. run goes on without them"""
+HIDES = """\
+{out} has none of the {count} lines that were handed out last, and after what is stored next nothing tells them any
+more. Were they lost with the power, and is it the OUT of that session? yes puts them back, and recover carries them
+out; anything else goes on without them: """
 THERE = "the motors are where what was handed out leads: run goes on"
 NOT_THERE = "what was handed out and not carried out is cut off; reference player tells ngc where the motors are"
 ON_WAY = """\
@@ -97,6 +101,17 @@ class Recover:
             self.session.face.say(LOST.format(out=self.found.link.out, count=beginning.missing.count(b"\n")), WARNING)
         elif status.half != "none":
             self.session.face.say(HALF, WARNING)
+
+    def keep_lost(self) -> None:
+        """Before something is stored: asks whether lines that OUT lost with the power are put back, which power that is
+        lost once more would hide. Raises NoAnswer, OSError."""
+        beginning = self.found.recovery.beginning if self.found else None
+        if beginning is None or not beginning.is_new or not beginning.missing or not self.is_still():
+            return
+        count = beginning.missing.count(b"\n")
+        if self.session.agrees(HIDES.format(out=self.found.link.out, count=count)):
+            self.found.put_back()
+            self.session.face.say(LEFT.format(line=self.found.recovery.lines), WARNING)
 
     def is_still(self) -> bool:
         """Whether nothing was done since the session began but what left all as it was."""

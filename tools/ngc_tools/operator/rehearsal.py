@@ -10,8 +10,8 @@ from ngc_tools.job.figures import millimetres as rounded
 from ngc_tools.formats.lines import Program
 from ngc_tools.formats.out import Switch
 from ngc_tools.formats.position import distance, nanometres
-from ngc_tools.formats.text import shown_line
 from ngc_tools.operator.display import outputs_words
+from ngc_tools.shown import shown_line
 
 
 def point(at: tuple[str, ...] | list[str]) -> str:

@@ -12,11 +12,11 @@ from pathlib import Path
 
 from ngc_tools.files import naming, opened
 from ngc_tools.formats.lines import Program
-from ngc_tools.formats.text import shown
 from ngc_tools.ngc.console import Status
 from ngc_tools.operator.face import WARNING
 from ngc_tools.operator.session import Session
 from ngc_tools.operator.work import CHANGE, SINGLE, clock
+from ngc_tools.shown import shown
 
 SUFFIX = ".runs"
 TORN = " (torn)"

@@ -5,13 +5,13 @@ from collections import deque
 from collections.abc import Callable, Container
 from dataclasses import dataclass
 
-from ngc_tools.formats.text import shown_lines
 from ngc_tools.hold_level import HoldLevel
 from ngc_tools.operator.face import MESSAGE, REFUSED, SAID, WARNING, WHERE, UnderWay
 from ngc_tools.operator.sentences import GO_ON, LOOK, LOOK_AGAIN, LOOK_SWITCHED, SWITCHED, SWITCHED_THERE
 from ngc_tools.operator.way_back import TYPE_GO
 from ngc_tools.page.words import page_words
 from ngc_tools.link.progress import Report
+from ngc_tools.shown import shown_lines
 
 UNCUT = "uncut"
 """The kind of a warning of what was never cut: pages show that by themselves, too."""
@@ -63,8 +63,7 @@ class PageFace:
         self.log: deque[Entry] = deque(maxlen=ENTRIES)
         self.view: UnderWay | None = None
         self.last: UnderWay | None = None  # what was under way last, since the command began
-        self.report: Report | None = None
-        self.reported_at = 0.0  # when that came, in seconds since 1970
+        self.told: tuple[Report | None, float] = None, 0.0  # the player's report, and when it came, since 1970, in one
         self.message = ""  # of the program, since it was started or went on
         self.refusal = ""  # since the last command
         self.question: Question | None = None
@@ -103,6 +102,11 @@ class PageFace:
             self._said.add(text)
             self.say(text, kind)
 
+    @property
+    def report(self) -> Report | None:
+        """What the player said last."""
+        return self.told[0]
+
     def live(self, view: UnderWay | None) -> None:
         """Takes what is under way."""
         before, self.view = self.view, view
@@ -111,7 +115,7 @@ class PageFace:
 
     def moved(self, report: Report) -> None:
         """Takes a report of the player."""
-        before, self.report, self.reported_at = self.report, report, time.time()
+        before, self.told = self.report, (report, time.time())
         self._publish_sometimes(before is None or _state(before) != _state(report))
 
     def ask(self, question: str) -> str:

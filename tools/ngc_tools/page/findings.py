@@ -6,7 +6,6 @@ from dataclasses import asdict, dataclass
 from ngc_tools.formats.device import Device
 from ngc_tools.formats.program_text import NotText, ProgramText
 from ngc_tools.formats.settings import Settings
-from ngc_tools.formats.text import shown
 from ngc_tools.job.adapted import NO_PROGRAM, Adapted, adapted, rewritten_of
 from ngc_tools.job.cam_homes import HomeAnswers, Missing
 from ngc_tools.job.cam_program import SharedSlot
@@ -18,6 +17,7 @@ from ngc_tools.ngc import cures, faults
 from ngc_tools.ngc.beginning import Beginning, CannotSetUp
 from ngc_tools.ngc.run import Refusal, refusal
 from ngc_tools.page import aside
+from ngc_tools.shown import shown
 
 MOST = 20
 """So many refusals are looked for."""

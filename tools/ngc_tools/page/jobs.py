@@ -13,7 +13,6 @@ from ngc_tools.failure import Failure
 from ngc_tools.files import naming, opened
 from ngc_tools.formats.device import MOST_LARGE_PROGRAM
 from ngc_tools.formats.settings import Settings
-from ngc_tools.formats.text import shown
 from ngc_tools.job.figures import by_length
 from ngc_tools.job.moves import Move, Step
 from ngc_tools.job.thumbnail import thumbnail
@@ -21,6 +20,7 @@ from ngc_tools.job.timing import with_ramps
 from ngc_tools.operator.runs import last_runs, of_device, read_lines
 from ngc_tools.page.aside import Aside, NotDone
 from ngc_tools.page.drawing import DrawingRequest, job_of
+from ngc_tools.shown import shown
 
 KINDS = {".ngc", ".nc", ".cnc", ".tap", ".gcode", ".gc", ".txt"}
 """The endings of programs, in any case; other files aren't shown."""

@@ -6,7 +6,6 @@ from ngc_tools.formats.device import Device
 from ngc_tools.formats.lines import Program
 from ngc_tools.formats.position import distance, millimetres, nanometres
 from ngc_tools.formats.settings import Settings
-from ngc_tools.formats.text import shown_lines
 from ngc_tools.job.figures import duration, micrometres
 from ngc_tools.job.figures import millimetres as rounded
 from ngc_tools.job.moves import CUT, Move, Point, of_out
@@ -19,6 +18,7 @@ from ngc_tools.page.aside import Wanted
 from ngc_tools.page.differs import differences
 from ngc_tools.page.drawing import Drawing, job_of
 from ngc_tools.page.session import Busy, PageSession
+from ngc_tools.shown import shown_lines
 
 _NEAR_NM = 100_000  # so near a finished cut the way counts as within it
 _ON_NM = 20_000  # the motors are on a step if they are as near

@@ -19,7 +19,6 @@ from http import HTTPStatus
 from pathlib import Path
 from typing import Any
 
-from ngc_tools.formats.text import shown, shown_lines
 from ngc_tools.operator.macros import BadMacros
 from ngc_tools.page.aside import Wanted
 from ngc_tools.page.connection import Connection, packed
@@ -29,6 +28,7 @@ from ngc_tools.page.pages import LOOK_S, LOST_S, MOST, Pages, Stamp
 from ngc_tools.page.session import PageSession, Unwanted
 from ngc_tools.page.state import state_of
 from ngc_tools.page.texts import Texts
+from ngc_tools.shown import shown, shown_lines
 
 STATIC = Path(__file__).resolve().parent / "static"
 MOST_CONNECTIONS = 64

@@ -7,9 +7,9 @@ import time
 from collections import deque
 
 from ngc_tools.failure import WrongWords
-from ngc_tools.formats.text import shown_line
 from ngc_tools.ngc.before_start import CannotBegin
 from ngc_tools.link.progress import Link, NoAnswer
+from ngc_tools.shown import shown_line
 
 _PATIENCE_S = 15.0  # a step sink may take some seconds to answer
 _LOOKS_S = 0.02

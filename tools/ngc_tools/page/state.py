@@ -7,7 +7,6 @@ from ngc_tools.formats.device import Device, State
 from ngc_tools.formats.lines import Program
 from ngc_tools.formats.out import SLOTS
 from ngc_tools.formats.position import Position, millimetres, nanometres
-from ngc_tools.formats.text import shown_line
 from ngc_tools.formats.in_force import in_force_on
 from ngc_tools.ngc.console import Status
 from ngc_tools.operator.alarm import left_of
@@ -22,6 +21,7 @@ from ngc_tools.page.face import LOOKS
 from ngc_tools.page.offsets import offsets_of
 from ngc_tools.page.session import MOVES, WITHOUT_LINES, PageSession
 from ngc_tools.link.progress import UNSURE, MoveReport, Report
+from ngc_tools.shown import shown_line
 
 LOOKED_AT = 3
 """So many things are looked at before anything moves."""
@@ -45,7 +45,7 @@ class Pictured:
         if view is None and session.face.question is None:
             view = session.face.last  # until the command is over; then `stand` has what came of it
         self.status: Status = view.status if view and self.command else self.stand.status
-        self.report: Report | None = self.face.report
+        self.report, self.reported_at = self.face.told
         self.device: Device = session.kept.at(self.status, self.command is not None)
         self.program: Program = self.operator.session.program
 
@@ -265,20 +265,20 @@ class Pictured:
         """Why the place isn't known any more that is shown, and when it was, in seconds since 1970, if that is known;
         None where it is the machine's. `by_record`: the player had it by its record, and nobody has told it since."""
         if self.report and self.report.word == ALARM:
-            return {"why": "alarm", "at": self.face.reported_at if self._is_old else 0}
+            return {"why": "alarm", "at": self.reported_at if self._is_old else 0}
         begins_at = self.session.begins_at  # what a player says since is by its record
-        if self._is_lost or begins_at is not None and self.face.reported_at >= begins_at:
+        if self._is_lost or begins_at is not None and self.reported_at >= begins_at:
             return {"why": "power", "at": self.session.opened.left_at}
         # what wasn't known before isn't "known last" by that
         is_gone = self.stand.gone or self.session.ended or begins_at is not None
         if not is_gone and not self._is_old:
             return None
-        return {"why": "player", "at": self.face.reported_at, "by_record": bool(self._past()["past_mm"])}
+        return {"why": "player", "at": self.reported_at, "by_record": bool(self._past()["past_mm"])}
 
     @property
     def _is_old(self) -> bool:
         """Whether something is under way, and the player was heard last so long ago that the motors are elsewhere."""
-        return self.face.view is not None and 0 < self.face.reported_at < time.time() - _OLD_S
+        return self.face.view is not None and 0 < self.reported_at < time.time() - _OLD_S
 
     @property
     def _is_lost(self) -> bool:

@@ -7,8 +7,8 @@ from typing import TypeVar
 from ngc_tools.failure import BadNumber, Failure
 from ngc_tools.formats.position import nanometres
 from ngc_tools.formats.settings import AXES, Settings
-from ngc_tools.formats.text import shown
 from ngc_tools.setup.axes import Axis, settings_of, step_of, travel
+from ngc_tools.shown import shown
 
 LINES = ("/dev/serial/by-id/*", "/dev/ttyACM*", "/dev/ttyUSB*")
 """Where lines of microcontrollers are, the most lasting names first."""

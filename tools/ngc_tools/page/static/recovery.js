@@ -115,7 +115,7 @@ export class Recovery {
     this.step = step;
     this.steps.replaceChildren(...NAMES.map((name, i) => el('li', { class: i === step ? 'now' : i < step ? 'was' : '' },
       el('b', {}, String(i + 1)), el('span', {}, name))));
-    [this.first, this.second, this.third, this.fourth][step].call(this);
+    [this.showStored, this.showPlace, this.showRehearsal, this.showSteps][step].call(this);
     this.key = this.shownOf(this.app.state);
     this.mark();
   }
@@ -179,7 +179,7 @@ export class Recovery {
 
   // ---- 1: what was stored
 
-  first() {
+  showStored() {
     const isYours = this.app.state.yours;
     this.again.disabled = !isYours;
     this.put([], [sheet.button('Later', () => this.later()), sheet.gap('Nothing moves, and nothing is switched.'),
@@ -234,7 +234,7 @@ export class Recovery {
 
   // ---- 2: where the machine stands
 
-  second() {
+  showPlace() {
     const { state } = this.app, isHomeFirst = Boolean(state.machine) && state.homes !== '' && !state.homed;
     const next = (isHomeFirst ? sheet.button : sheet.go)('Next: rehearsal', () => this.rehearsal(), state.yours);
     const enable = () => { next.disabled = !(state.yours && this.sure.every(Boolean)); };
@@ -286,7 +286,7 @@ export class Recovery {
     this.picture.fit();
   }
 
-  third() {
+  showRehearsal() {
     if (this.plan) {
       this.put(this.rehearsedWords(), [this.back(1), sheet.gap('Nothing has moved.'),
         this.next('Next: step by step', () => this.go(3))]);
@@ -303,7 +303,7 @@ export class Recovery {
 
   // ---- 4: step by step
 
-  fourth() {
+  showSteps() {
     const { state } = this.app;
     if (state.question) this.questioned(state);
     else if (state.busy) this.onWay(state);
