@@ -326,6 +326,35 @@ class Moments(InFolder):
             self.assertTrue(pulses_of("out") == self.pulses, f"lost at {lost_at}")
         self.assertGreater(halves, count // 2)
 
+    def test_loaded_first(self) -> None:
+        """Where OUT lost all that was handed out, another program isn't loaded before that is put back, and the four
+        steps lead to its end."""
+        self.begin_anew()
+        session = self.session()
+        self.assertTrue(session.load("job", b"G21 G90 G94\nM0\nG3 X0 Y0 I0.2 F900\nM2\n"))
+        session.run("run")
+        self.agrees(session)
+        noted = Path("mill.dev.out").read_bytes()
+        session.run("run")
+        self.agrees(session)
+        self.assertTrue(session.is_finished)
+        pulses = pulses_of("out")
+        session.operator.console.kill()
+        session.leave()
+        self.end_player()
+        Path("mill.dev.out").write_bytes(noted)
+        Path("position").unlink()
+        Path("out").write_bytes(b"")
+        session = self.session()
+        with patch.object(type(session.operator.session), "agrees", return_value=True) as agrees:
+            self.assertFalse(session.load("other", JOB.encode()))
+        self.assertIn("has none of the", agrees.call_args[0][0])
+        self.assertTrue(session.face.refusal.startswith("nothing is done: lines stand in OUT"))
+        session.recover(session.face.report.at.split())
+        self.agrees(session)
+        self.assertTrue(pulses_of("out") == pulses)
+        self.assertTrue(session.load("other", JOB.encode()))
+
     def begin_anew(self) -> None:
         """The device as the job was loaded, and nothing carried out."""
         Path("mill.dev").write_bytes(self.image)

@@ -1552,7 +1552,7 @@ class EndsWhereItBegan(WithOperator):
         lines = self.all_lost()
         operator, face = self.operate("yes")
         operator.do("reference 0 0 0")
-        self.assertTrue(face.asked[0][0].endswith("anything else goes on without them:"), face.asked)
+        self.assertTrue(face.asked[0][0].endswith("goes on without them:"), face.asked)
         operator.console.kill()
         self.player.kill()
         self.player.communicate()
@@ -1560,6 +1560,54 @@ class EndsWhereItBegan(WithOperator):
         self.assertTrue([said for said in face.said if said.startswith("lines stand in OUT that no motor")], face.said)
         operator.do("recover")
         self.assertEqual(self.pins(), lines)
+
+    def asks_first(self, typed: str) -> None:
+        """What is typed asks, and isn't done then: nothing is stored, and `recover` carries the lines out."""
+        lines = self.all_lost()
+        operator, face = self.operate("yes", "yes", "yes")
+        entries = operator.console.status().entries
+        operator.do(typed)
+        self.assertTrue(face.asked[0][0].endswith("goes on without them:"), face.asked)
+        self.assertTrue(face.said[-1].startswith("nothing is done: lines stand in OUT that no motor"), face.said)
+        self.assertEqual(operator.console.status().entries, entries)
+        operator.do("recover")
+        self.assertEqual(self.pins(), lines)
+
+    def test_tool_first(self) -> None:
+        """A tool's length, before `recover`."""
+        self.asks_first("tool 1 0.5")
+
+    def test_program_first(self) -> None:
+        """Another program."""
+        Path("a.ngc").write_text("G0 X0.001\nM2\n")
+        self.asks_first("load a.ngc")
+
+    def test_run_first(self) -> None:
+        """The program's next line."""
+        self.asks_first("run")
+
+    def test_line_first(self) -> None:
+        """A line of one's own."""
+        self.asks_first("G0 X0.001")
+
+    def test_without_them(self) -> None:
+        """Who says no goes on without them, and isn't asked again."""
+        self.all_lost()
+        operator, face = self.operate("no")
+        operator.do("tool 1 0.5")
+        operator.do("tool 2 0.5")
+        self.assertEqual((len(face.asked), operator.stored().tools_nm[:2]), (1, [500_000] * 2))
+
+    def test_no_room_to_put_back(self) -> None:
+        """Where the disk is full nothing is stored, whatever is typed, and it is asked again."""
+        self.all_lost()
+        operator, face = self.operate("yes", "yes", "yes")
+        entries = operator.console.status().entries
+        with patch.object(SyncedLink, "append", side_effect=OSError(errno.ENOSPC, "No space left on device", "out")):
+            for typed in ("tool 1 0.5", "reference 0 0 0", "run"):
+                operator.do(typed)
+                self.assertIn("they aren't put back, and nothing is stored: ", face.said[-1])
+        self.assertEqual((len(face.asked), operator.console.status().entries, self.lines()), (3, entries, []))
 
     def test_not_noted(self) -> None:
         """Where it can't be noted that is said once, and the work goes on; what isn't a note isn't written over."""
@@ -1740,8 +1788,8 @@ class Unsynced(WithOperator):
         self.operator.do("G0 X0.5")
         why = self.operator.session.meter.link.failed
         self.assertEqual(why, "out: it can't be synced: Input/output error. What was handed out last may be lost,"
-                         " though it can be read, and no motor makes it before it is on the disk. Once the disk is well,"
-                         " quit, and start this again: it writes OUT again")
+                         " though it can be read, and no motor makes it before it is on the disk. Once the disk is"
+                         " well, quit, and start this again: it writes OUT again")
         self.assertIn(f"{why}; nothing more is handed out", self.face.said)
         handed_out = Path("out").read_bytes()
         self.assertGreater(len(handed_out), 33)

@@ -38,6 +38,9 @@ class Brings(Flag):
     """The player moves it without lines."""
     HANDS_OUT = auto()
     """Lines come behind those that stand in OUT: not before these are carried out, or dropped."""
+    ENTRY = auto()
+    """Something is stored without a line of OUT: not before those that stand there either, since `recover` is for what
+    the last session left."""
     PROGRAM = auto()
     """The program runs, to its end or the next stop."""
     TAKES_UP = auto()
@@ -138,7 +141,8 @@ _TAKES_UP = Brings.LINES | Brings.PROGRAM | Brings.TAKES_UP | Brings.FROM_TOLD
 
 COMMANDS = (
     OperatorCommand("load", lambda operator, typed: operator.load_file(typed.rest),
-                    (("load FILE", "try a program by a dry run, and store it"),), asked=Asked.AWAITED, needs=_SETTING),
+                    (("load FILE", "try a program by a dry run, and store it"),), brings=Brings.ENTRY,
+                    asked=Asked.AWAITED, needs=_SETTING),
     OperatorCommand("run", lambda operator, typed: operator.run(typed),
                     (("run, start", "start it; run goes on with it too"),), brings=_GOES_ON, asked=Asked.GIVEN,
                     needs=_THERE | Needs.NOT_BUSY | Needs.NOTHING_BUT_HELD),
@@ -173,7 +177,7 @@ COMMANDS = (
                     (("touch tool N", "slot N has the length of the tool on the setter"),
                      ("probe", "behind zero and touch: where it was touched")),
                     usage="touch tool N: which slot's tool stands on the setter? touch tool 3, or touch tool 3 HEIGHT",
-                    asked=Asked.GIVEN, needs=_FROM_PLACE),
+                    brings=Brings.ENTRY, asked=Asked.GIVEN, needs=_FROM_PLACE),
     OperatorCommand("probe", lambda operator, typed: operator.probing.do(typed.rest),
                     (("probe edge X+", "until the probe touches an edge; also outside,\n"
                       "inside, surface, bore, boss, pocket, web"),),
@@ -182,8 +186,8 @@ COMMANDS = (
     OperatorCommand("measure", lambda operator, typed: operator.measuring.do(typed.rest),
                     (("measure", "the tool in the spindle, on the setter"),),
                     usage="measure: the tool in the spindle; measure from Z within MM: it goes down to that machine Z,"
-                    " and seeks the setter from there by at most so many mm", brings=Brings.MOVES, asked=Asked.GIVEN,
-                    needs=_ROUTINE),
+                    " and seeks the setter from there by at most so many mm", brings=Brings.MOVES | Brings.ENTRY,
+                    asked=Asked.GIVEN, needs=_ROUTINE),
     OperatorCommand("measures", lambda operator, typed: operator.measuring.switch(typed.rest),
                     (("measures on, off", "whether each tool change asks for that"),),
                     usage="measures on, or measures off: whether each tool change asks whether its tool is measured",
@@ -219,8 +223,8 @@ COMMANDS = (
                     (("off", "spindle and coolant off, while the motors stand"),), taken=Taken.AMID | Taken.BROKEN_OFF,
                     asked=Asked.AWAITED, needs=_SOUND | Needs.SOMETHING_ON | Needs.MOTORS_STAND),
     OperatorCommand("rewind", lambda operator, _: operator.rewind(),
-                    (("rewind", "the stored program from its first line"),), asked=Asked.AWAITED,
-                    needs=_SOUND | Needs.NOT_BUSY | Needs.NOTHING_HALF | Needs.IDLE | Needs.BEGUN),
+                    (("rewind", "the stored program from its first line"),), brings=Brings.ENTRY, asked=Asked.AWAITED,
+                    needs=_SOUND | Needs.NOT_BUSY | Needs.NOTHING_HALF | Needs.NOTHING_LEFT | Needs.IDLE | Needs.BEGUN),
     OperatorCommand("release", lambda operator, _: operator.release(),
                     (("release", "lets held motors carry out what is in hand"),), taken=Taken.AMID,
                     brings=Brings.LINES | Brings.FROM_TOLD, asked=Asked.GIVEN, needs=Needs.SESSION),
@@ -243,7 +247,8 @@ COMMANDS = (
                      ("reference player", "the machine stands where the player says")),
                     taken=Taken.IN_ALARM | Taken.BROKEN_OFF, asked=Asked.AWAITED, needs=_THERE | Needs.NOT_BUSY),
     OperatorCommand("tool", lambda operator, typed: operator.tool(typed),
-                    (("tool N LENGTH", "a tool's length, in mm"),), asked=Asked.AWAITED, needs=_SETTING),
+                    (("tool N LENGTH", "a tool's length, in mm"),), brings=Brings.ENTRY, asked=Asked.AWAITED,
+                    needs=_SETTING),
     OperatorCommand("runs", lambda operator, _: operator.runs.show(),
                     (("runs", "the record of runs: when each began, how it ended"),)),
     OperatorCommand("rehearse", lambda operator, typed: operator.rehearse(typed.rest),

@@ -240,9 +240,11 @@ class Moves:
             session.face.say(_UNSURE, WARNING)
             Look(session).after_work()
             return
+        if not self.recover.keeps_lost():
+            Look(session).after_work()
+            return
         if status.half == "none":
             self.left.keep()
-            self.recover.keep_lost()
         command = f"reference {report.at}"
         session.face.say(command)
         if taken(session, session.console.ask(command)[0], command):

@@ -355,9 +355,10 @@ class Operator:
             if self.alarm.place(typed.rest.lower().split()):
                 self.moves.tell()
             return
+        if not self.recover.keeps_lost():
+            return
         if self.console.status().half == "none":
             self.left.keep()
-            self.recover.keep_lost()
         is_still = self.recover.is_still()
         self.places.reference(typed.rest.lower().split(), typed.anyway)
         if is_still:

@@ -22,10 +22,11 @@ from ngc_tools.operator.recovery import OutFound, Recovery
 from ngc_tools.operator.rehearsing import segment_begins
 from ngc_tools.operator.session import Session
 from ngc_tools.operator.way_back import WayBack
-from ngc_tools.link.progress import Report
+from ngc_tools.link.progress import NoAnswer, Report
 from ngc_tools.link.way import count_lines
 
-_HANDS_OUT = words_that_bring(Brings.HANDS_OUT)
+_STORES = words_that_bring(Brings.HANDS_OUT | Brings.ENTRY)
+_TAKE_UP = words_that_bring(Brings.TAKES_UP)
 LEFT = """\
 lines stand in OUT that no motor carried out, behind line {line}: recover goes on along them, or back; drop cuts them
 off, and then nothing makes them any more"""
@@ -33,11 +34,11 @@ DROPS = """\
 {count} lines are cut off OUT, behind its line {line}, and nothing makes them any more. yes cuts them off: """
 LOST = """\
 {out} has none of the {count} lines that were handed out last, and no motor carried them out if it is the OUT of that
-session: recover asks, and puts them back. run goes on without them"""
+session: before anything is stored it is asked whether they are put back"""
 HIDES = """\
 {out} has none of the {count} lines that were handed out last, and after what is stored next nothing tells them any
-more. Were they lost with the power, and is it the OUT of that session? yes puts them back, and recover carries them
-out; anything else goes on without them: """
+more. Were they lost with the power, and is it the OUT of that session? yes puts them back for recover; anything else
+goes on without them: """
 THERE = "the motors are where what was handed out leads: run goes on"
 NOT_THERE = "what was handed out and not carried out is cut off; reference player tells ngc where the motors are"
 ON_WAY = """\
@@ -74,8 +75,13 @@ class Recover:
         self._entries: int | None = None  # as the session began
 
     def forbids(self, word: str, is_line: bool) -> bool:
-        """Whether a command would hand out lines behind some that no motor carried out; says it."""
-        if self.found is None or not (is_line or word in _HANDS_OUT) or not self.found.is_left():
+        """Whether a command would store or hand out something behind lines that no motor carried out; says it. Before
+        that it asks whether those that OUT lost are put back. Raises OSError."""
+        if self.found is None or not (is_line or word in _STORES):
+            return False
+        if word not in _TAKE_UP and not self.keeps_lost():
+            return True
+        if not self.found.is_left():
             return False
         left = ON_WAY if self.found.is_sent else LEFT.format(line=self.found.recovery.lines)
         self.session.face.say("nothing is done: " + left, REFUSED)
@@ -102,16 +108,23 @@ class Recover:
         elif status.half != "none":
             self.session.face.say(HALF, WARNING)
 
-    def keep_lost(self) -> None:
-        """Before something is stored: asks whether lines that OUT lost with the power are put back, which power that is
-        lost once more would hide. Raises NoAnswer, OSError."""
+    def keeps_lost(self) -> bool:
+        """Before something is stored, where no block is half-done: asks whether lines that OUT lost with the power are
+        put back, of which nothing tells any more after it. Whether that can be stored now: False where they couldn't
+        be put back, which is said."""
         beginning = self.found.recovery.beginning if self.found else None
         if beginning is None or not beginning.is_new or not beginning.missing or not self.is_still():
-            return
-        count = beginning.missing.count(b"\n")
-        if self.session.agrees(HIDES.format(out=self.found.link.out, count=count)):
+            return True
+        status, count = self.session.console.status(), beginning.missing.count(b"\n")
+        if status.half != "none" or not self.session.agrees(HIDES.format(out=self.found.link.out, count=count)):
+            return True
+        try:
             self.found.put_back()
-            self.session.face.say(LEFT.format(line=self.found.recovery.lines), WARNING)
+        except (NoAnswer, OSError) as error:
+            self.session.face.say(f"they aren't put back, and nothing is stored: {error}", REFUSED)
+            return False
+        self.session.face.say(LEFT.format(line=self.found.recovery.lines), WARNING)
+        return True
 
     def is_still(self) -> bool:
         """Whether nothing was done since the session began but what left all as it was."""

@@ -385,7 +385,7 @@ class PageSession:
         """Stores a program that people call `name`; whether it was taken. Raises Busy."""
         def does() -> bool:
             """Whether it is stored; then it is drawn."""
-            if not self.operator.load(name, text):
+            if self.operator.recover.forbids("load", False) or not self.operator.load(name, text):
                 return False
             self.never_cut.forget()
             self.face.message = ""

@@ -38,6 +38,7 @@ _WORDS = tuple((re.compile(pattern), said) for pattern, said in (
     (r"recover goes on along them, or back; drop cuts", "Recover goes on along them, or back; Drop cuts"),
     (r"recover goes on with it; drop cuts off OUT what no motor carried out, once they stand with nothing in hand",
      "Recover goes on with it"),
+    (r"puts them back for recover\b", "puts them back for Recover"),
     (r"restore puts it back", "Restore puts it back"),
     (r"run goes on", "Continue goes on"),
     (r"\bngc isn't told\b", "it isn't stored"),
