@@ -29,6 +29,8 @@ QUESTIONS = (
 FAILED = (r"the player is gone|doesn't let go of its lines|can't be (synced|written|read)|\bJ1\b|\bK5\b"
           r"|Input/output error|No space left")
 """After these words a person ends the session, and starts both anew."""
+LOST = "lines that were handed out last"
+"""Of OUT, which has none of them."""
 
 
 class Person:
@@ -209,8 +211,9 @@ class Person:
             self.entries += 1
             return ("tool 1 50", "load part.ngc")[self.entries - 1]
         if self.is_left(self.opening):
+            stores_first = LOST in self.opening and self.chance.random() < 0.5
             self.opening = ""
-            return "recover"
+            return "tool 1 50" if stores_first else "recover"
         if self.ledger.is_through():
             return "status"
         return self.runs(text)
@@ -218,7 +221,7 @@ class Person:
     @staticmethod
     def is_left(text: str) -> bool:
         """Whether the console says that something is half-done, or left in OUT."""
-        return any(says in text for says in ("power was lost, or", "lines stand in OUT", "and puts them back"))
+        return any(says in text for says in ("power was lost, or", "lines stand in OUT", LOST))
 
     def is_elsewhere(self, text: str) -> bool:
         """Whether the motors aren't where the player says."""
