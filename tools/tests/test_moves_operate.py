@@ -242,12 +242,17 @@ class Moves(Core):
                          ["the player has carried nothing out for 10 s, as in a dwell. Enter or Ctrl-C holds"])
 
     def test_half_done(self) -> None:
-        """Over a half-done block too; `recover` is still for what the last session left."""
+        """Over a half-done block too, but not from where the record of a player before has the motors: that is known
+        only once somebody has told it, or all axes are homed. `recover` is still for what the last session left."""
         self.run_ngc("mdi G0 X0.005\ntick 4\nquit\n", "before")
         self.begin(self.link)
-        self.do("jog X+ 600 for 2")
+        self.assertIn("ngc isn't told where the machine is", " ".join(self.do("jog X+ 600 for 2")))
+        self.axes.fails = "stopped"
+        self.assertIn("ngc isn't told where the machine is", " ".join(self.do("home")))
+        self.assertFalse(self.status().known)
+        self.do("reference player", "jog X+ 600 for 2")
         self.assertTrue(self.status().known)
-        self.assertEqual(self.status().at[0], "2.000000")
+        self.assertEqual(self.status().at[0], "4.000000")
         said = self.do("recover")
         self.assertNotIn("recover is for what the last session left, before anything else is done", said)
 
@@ -490,6 +495,19 @@ class ByKeys(InFolder):
             "X+ 300 for 0.100000", "X- 300 for 0.100000", "Y+ 300 for 0.100000", "Y- 300 for 0.100000",
             "Z+ 300 for 0.100000", "Z- 300 for 0.100000", "X+ 300 for 0.100000", "X+ 600 for 1.000000",
             "Y+ 120 for 0.010000"])
+
+    def test_unsure(self) -> None:
+        """Where the player has the machine elsewhere than `ngc` before, that isn't told."""
+        self.player.axes.at_nm[0] = 7_000_000
+        self.terminal.send(b"jog\n")
+        self.terminal.read_to(b"taps 0.1 mm  X 7.000000 Y 0.000000 Z 0.000000")
+        self.terminal.send(b"\x1b[C")
+        self.wait_for("it jogs", lambda: len(self.jogs()) > 0)
+        self.wait_for("it is over", lambda: self.player.axes.machine.does == "stands")
+        self.terminal.send(b"\n")
+        shown = self.terminal.read_to(PROMPT).decode()
+        self.assertIn("ngc isn't told where the machine is", shown)
+        self.assertNotIn("done 1", shown)
 
     def test_held(self) -> None:
         """A key that is held goes on, and as it is let go the motors are told to stop. Three at once are a held key."""

@@ -693,13 +693,16 @@ class PowerOfFile(Served):
 
     def test_before_the_player(self) -> None:
         """`ngc` is begun again before the player is back: it says why that can't be, at each try, and once the player
-        is back it begins."""
+        is back it begins. Before that no place is told, since the player isn't there to be told too."""
         page = self.page()
         state = page.next()
         self.player.kill()
         self.player.wait()
         os.unlink("progress")
         page.until("it is seen", lambda state: state["player_gone"])
+        self.assertEqual(page.post("reference", {"at": ["1", "0", "0"], "anyway": True}), (409, {
+            "why": "the player is gone. Start it, then Start ngc again"}))
+        self.assertEqual(page.next()["at"], state["at"])
         for _ in range(3):
             status, said = page.post("restart")
             self.assertEqual((status, said["why"].partition(": ")[2]), (422, "no player listens there: No such file or"

@@ -148,6 +148,7 @@ def jog_by_keys(moves: Moves, keys: AbstractContextManager[Keys]) -> None:
     """Jogs by keys, if a move may begin, and tells `ngc` where it ended."""
     if not moves.begins("jog"):
         return
+    is_sure = moves.is_sure()
     try:
         with keys as source:
             JogKeys(moves, source).go()
@@ -156,4 +157,4 @@ def jog_by_keys(moves: Moves, keys: AbstractContextManager[Keys]) -> None:
         return
     finally:
         moves.session.face.live(None)
-    moves.tell()
+    moves.tell(is_sure)

@@ -210,6 +210,15 @@ class Moves:
             self.touched = None
         return self.touched
 
+    def _was_told(self) -> bool:
+        """Whether somebody told the player where the motors are since it began, or all axes are homed; False, which is
+        said, where it doesn't answer."""
+        try:
+            return self.session.meter.link.is_sure()
+        except NoAnswer as error:
+            self.say_silent(error)
+            return False
+
     def _begin_anew(self, why: str) -> bool:
         """Where the machine is is known again, and in this session nothing goes on; whether another one has begun."""
         self.session.face.say(why, WARNING)
@@ -221,7 +230,8 @@ class Moves:
         return True
 
     def tell(self, is_sure: bool = True) -> None:
-        """Tells `ngc` where the machine is now; where no half-done block asks for that, only if it is sure."""
+        """Tells `ngc` where the machine is now, if it is sure; over a half-done block a player is too that was told
+        since it began, and the record of the one before isn't."""
         session = self.session
         report, status = session.report(), session.console.status()
         if report is None:
@@ -236,7 +246,7 @@ class Moves:
             if not self._begin_anew(_HELD.format(half=session.half(status))) or status.half != "none":
                 return
             status = session.console.status()
-        if status.half == "none" and not is_sure:
+        if not is_sure and not (status.half != "none" and self._was_told()):
             session.face.say(_UNSURE, WARNING)
             Look(session).after_work()
             return

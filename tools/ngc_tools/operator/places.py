@@ -106,11 +106,11 @@ class Places:
         """Says why nothing is done, and what to do, where the player doesn't come to that."""
         session = self.session
         if session.is_in(ALARM, BROKEN):
-            session.face.say("nothing is done", WARNING)
+            session.face.say("nothing is done", REFUSED)
         elif session.seen and session.seen.is_held and not session.gone:
             self.work.motors.say_held(session.seen)
         else:
-            session.face.say(f"nothing is done. {PLAYER_SILENT}", WARNING)
+            session.face.say(f"nothing is done. {PLAYER_SILENT}", REFUSED)
 
     def _say_apart(self, motors: list[str], other: list[str] | tuple[str, ...], who: str, then: str) -> None:
         a, b = (tuple(nanometres_of(number) or 0 for number in at) for at in (motors, other))

@@ -152,8 +152,11 @@ def _mdi(given: Given) -> None:
 
 
 def _reference(given: Given) -> dict:
-    """Says why it isn't taken, nothing where it is."""
+    """Says why it isn't taken, nothing where it is. Raises RequestRefused where the player is gone, which is told too.
+    """
     at = "player" if given.words.get("at") == "player" else " ".join(given.point("at"))
+    if given.session.stand.gone:
+        raise RequestRefused(HTTPStatus.CONFLICT, "the player is gone. Start it, then Start ngc again")
     given.session.tell(f"reference {at}{given.anyway()}")
     return {"refused": given.session.face.refusal}
 

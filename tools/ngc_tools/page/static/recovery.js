@@ -331,7 +331,8 @@ export class Recovery {
   }
 
   choice() {
-    const { recover, player } = this.app.state, canResume = Boolean(this.plan?.approach) && !recover?.left;
+    const { recover, player, can, yours, player_gone: isGone } = this.app.state;
+    const canResume = Boolean(this.plan?.approach) && !recover?.left;
     const isAlong = this.along && (this.along.way || this.along.there);
     const offered = isAlong ? ['along'] : this.along || player ? ['legs'] : [];
     if (canResume) offered.push(player ? 'straight' : 'own');
@@ -339,11 +340,12 @@ export class Recovery {
     const does = { along: recovers, legs: recovers, straight: () => this.resume(),
       own: () => this.resume() };
     const buttons = offered.map((name, i) => (i === (this.along ? 0 : offered.length - 1) ? sheet.go : sheet.button)(
-      CHOICES[name][0], does[name], this.app.state.yours));
+      CHOICES[name][0], does[name], yours && can.recover));
     this.put([sheet.title('Take the line up, or give it up'),
       ...[...offered, 'giveUp'].map(name => sheet.said(el('b', {}, CHOICES[name][0]), ` ${CHOICES[name][1]}`)),
       sheet.said('Before anything moves, spindle and coolant are switched on as they were, and you look.'),
-      sheet.warning('Keep a hand at Hold, and the other at the emergency stop.')],
+      isGone ? sheet.warning('The player is gone. Start it, then Start ngc again.', 'bad')
+        : sheet.warning('Keep a hand at Hold, and the other at the emergency stop.')],
     [this.back(2), sheet.gap(), this.giveUp(), ...buttons]);
   }
 
@@ -353,7 +355,7 @@ export class Recovery {
       button.onclick = () => this.abandon();
       text(button, 'Yes, give it up');
       button.className = 'danger';
-    }, this.app.state.yours);
+    }, this.app.state.yours && this.app.state.can.abandon);
     return button;
   }
 
@@ -362,9 +364,10 @@ export class Recovery {
     if (answer && !answer.refused) await this.asks('resume');
   }
 
-  // Where a place isn't taken, as outside of the travel, the line is given up all the same: then none is known.
+  // A place outside of the travel isn't taken, and the line is given up all the same: then none is known.
   async abandon() {
-    if (await this.tells() && await this.asks('abandon')) this.close();
+    const answer = await this.tells();
+    if (answer && (!answer.refused || /\bX2\b/.test(answer.refused)) && await this.asks('abandon')) this.close();
   }
 
   // Tells where each axis was confirmed to stand, also where the record has it elsewhere.
