@@ -1100,12 +1100,29 @@ class Motors(Core):
         self.do("reference player", "abandon")
         self.load("G0 X1\nM2\n")
         self.cut()
-        self.begin(link)
+        self.begin(RampLink())
         self.assertEqual((self.operator.session.delete, Path("mill.dev.choices").exists()), (False, False))
         for text in ("mine", "{}x", '{"percent": 500}', '{"delete": 1}', "[]"):
             Path("mill.dev.choices").write_text(text)
             self.assertIn("mill.dev.choices: it isn't what is kept there", "".join(self.do("delete on", "delete off")))
             self.assertEqual(Path("mill.dev.choices").read_text(), text)
+
+    def test_given_back_by_another(self) -> None:
+        """What a player has in force that goes on, before a job begins, is given back to that job too."""
+        link = self.begin_ramps()
+        self.load("G21 G90\nG1 X1 F600\nM2\n")
+        self.do("percent 110", "delete on")
+        self.cut()
+        self.begin(link)
+        self.assertEqual((link.percent, self.operator.session.delete), (110, False))
+        self.hold_after(20)
+        self.do("run")
+        self.cut()
+        Path("out").write_text("")
+        link = RampLink()
+        self.begin(link)
+        self.assertIn("given back, as it was before the session ended: feed 110 %", self.begun)
+        self.assertEqual(link.percent, 110)
 
     def test_override(self) -> None:
         """By tens, to one percent at least, back to 100; typed, and while something runs. What isn't taken is refused

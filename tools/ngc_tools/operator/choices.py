@@ -58,13 +58,13 @@ class Choices:
             self.session.face.once(f"after a loss of power overrides and switches aren't given back: {error}")
 
     def give_back(self, status: Status) -> None:
-        """Gives back what was chosen for a job that goes on, and says it; for one that begins nothing is chosen."""
+        """Gives back what was chosen for a job that goes on, and says it; for one that begins nothing is chosen, but
+        what a player that goes on has in force."""
+        if status.half == "none" and not status.place:
+            self._begin()
+            return
         kept = self._read()
         if kept is None:
-            return
-        if status.half == "none" and not status.place:
-            with suppress(OSError):
-                self.path.unlink()
             return
         for name in ("delete", "optional"):
             if getattr(kept, name) and not self.session.console.ask(f"{name} on")[0].startswith("refused"):
@@ -78,6 +78,15 @@ class Choices:
         if self.lost:
             self.session.face.say(f"it isn't given back, since the player doesn't take it: {', '.join(self.lost)}",
                                   WARNING)
+
+    def _begin(self) -> None:
+        """Forgets what was chosen for a job before, and keeps what is in force."""
+        self.session.report()
+        if self._now() != Choice():
+            self.keep()
+        elif self._read() is not None:
+            with suppress(OSError):
+                self.path.unlink()
 
     def _override(self, kept: Choice) -> None:
         """Tells the player the overrides, where it has others."""
