@@ -611,6 +611,7 @@ class Walk:
             self._start_server()
             self._until(lambda s: not s.isLost and s.session != self.chosen_in, PATIENCE_S)
             self._chosen_again()
+            self.chosen = {}  # of the next session nothing of it is asked
 
     def _start_server(self) -> None:
         """Starts the page's server, and the player again, where that was alone for so long that it has ended."""
