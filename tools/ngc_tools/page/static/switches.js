@@ -26,7 +26,7 @@ export class Switches {
       el('div', { class: 'three' }, ...this.turns), el('div', { class: 'three' }, ...this.coolant),
       this.above, this.park];
     this.macros = [this.names, this.why, this.read];
-    this.shown = null;
+    Object.assign(this, { shown: null, fetches: 0, isAsked: false });
   }
 
   turn(name) { this.asks('turn', { name, speed: Math.round(Number(typedNumber(this.speed.value) ?? 0)) }); }
@@ -44,14 +44,18 @@ export class Switches {
     for (const one of this.names.children) one.disabled = !may(s, 'macro');
   }
 
-  // The macros of the file, as it is now. What somebody asked for is said, as it may be what was there before.
+  // The macros of the file, as it is now. What somebody asked for is said, as it may be what was there before; where
+  // they are asked for once more meanwhile, the later answer says it.
   async fetch(isAsked = false) {
-    const found = await get('macros').catch(() => null);
+    this.isAsked ||= isAsked;
+    const number = this.fetches += 1, found = await get('macros').catch(() => null);
+    if (number !== this.fetches) return;
     if (found) this.list(found);
     const none = `No macros: ${found?.path}, beside the settings, has lines as Lift = ["M5", "G53 G0 Z0"]`;
     const says = found ? found.failed || (found.macros.length ? '' : none)
       : 'The server doesn\u2019t answer: no macro was read';
-    text(this.why, says || (isAsked ? `Read at ${clock(new Date())}: ${found.macros.length} in all` : ''));
+    text(this.why, says || (this.isAsked ? `Read at ${clock(new Date())}: ${found.macros.length} in all` : ''));
+    this.isAsked = false;
     this.why.hidden = !this.why.textContent;
     this.show(this.shown);
   }
