@@ -186,6 +186,7 @@ def tried(tools: Tools, options: Options, seed: int, seconds: float, chains: int
     while found.chains < chains and time.monotonic() < until:
         said = try_chain(tools, seed + found.chains, options, found)
         if said and keep:
+            keep.mkdir(parents=True, exist_ok=True)
             (keep / f"seed-{seed + found.chains - 1}.txt").write_text("\n".join(said))
         if said or found.chains % 10 == 0:
             print(found.wrong[-1] if said else f"{found.losses} losses, {found.states} states in {found.chains} chains,"

@@ -214,6 +214,8 @@ class Person:
             stores_first = LOST in self.opening and self.chance.random() < 0.5
             self.opening = ""
             return "tool 1 50" if stores_first else "recover"
+        if self.is_left(text):
+            return "recover"
         if self.ledger.is_through():
             return "status"
         return self.runs(text)
@@ -230,8 +232,6 @@ class Person:
 
     def runs(self, text: str) -> str:
         """The program begins, or goes on."""
-        if self.is_left(text):
-            return "recover"
         if "reference player takes the player's point" in text:
             self.has_typed.discard(self.ledger.on)  # a line that was typed was refused
             return "reference player"
