@@ -227,7 +227,9 @@ class Power(InSheet):
         self.opened()
 
     def said(self, *at_mm: float) -> list[str]:
-        """What is told along the cut."""
+        """What is told along the cut. What is told goes where it is drawn anew meanwhile: then it is touched again."""
+        for x in at_mm:
+            self.wait_for("a touch is told of", lambda x=x: "its height there" not in self.touch(x, 0))
         return [self.touch(x, 0).partition(": ")[2] for x in at_mm]
 
     def test_amid(self) -> None:
@@ -262,7 +264,7 @@ class PowerOverPipe(Power):
         browser = self.browser
         browser.wait("ngc.neverCut && ngc.picture.lost.length")
         browser.press("Draw anew", "#over .foot button")
-        browser.wait(f"{VERDICT}.includes('were handed out and never cut')")
+        self.drawn(f"{VERDICT}.includes('were handed out and never cut')")
         middle = browser.js("(points => points.reduce((sum, [x]) => sum + x, 0) / points.length / 1000)"
                             "(ngc.picture.lost.flat())")
         self.assertEqual(self.said(0.1, middle, 1.1), ["cut", "not cut", "still to be cut"])
