@@ -191,6 +191,7 @@ static void obey(const char *line) {
         inputs = (unsigned)one;
     } else if (got == 2 && strcmp(word, "boot") == 0) {
         device_boot((uint16_t)one);
+        line_drop_part();
     } else if (got == 2 && strcmp(word, "stray") == 0) {
         device_stray();
     } else if (got == 3 && strcmp(word, "faults") == 0) {

@@ -19,6 +19,7 @@ struct way {
 };
 
 static int terminal;
+static struct way sending;
 static unsigned long received;
 static unsigned long sent;
 static uint64_t gave_at;
@@ -107,14 +108,17 @@ static void keep(const uint8_t *bytes, size_t size) {
 }
 
 void bench_send(const uint8_t *bytes, size_t size) {
-    static struct way way;
     for (size_t at = 0; at < size; at++) {
         int times = 1;
-        size_t passed = follow(&way, bytes[at], &times);
-        write_all(way.bytes, passed);
-        write_all(way.bytes, times == 2 ? passed : 0);
-        keep(way.bytes, passed);
+        size_t passed = follow(&sending, bytes[at], &times);
+        write_all(sending.bytes, passed);
+        write_all(sending.bytes, times == 2 ? passed : 0);
+        keep(sending.bytes, passed);
     }
+}
+
+void line_drop_part(void) {
+    sending.size = 0;
 }
 
 void line_say_again(void) {

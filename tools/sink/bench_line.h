@@ -23,6 +23,9 @@ void line_receive(unsigned long bytes);
 /* Gives the device the frames that have come, but for what befalls them. */
 void line_take_frames(void);
 
+/* Drops what the device has sent of a frame that isn't whole. */
+void line_drop_part(void);
+
 /* Sends the newest whole frame of the device once more, if it came through in the last 20 ms. */
 void line_say_again(void);
 

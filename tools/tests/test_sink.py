@@ -342,6 +342,14 @@ class Bytes(SinkTest):
         self.assertEqual(answer, (session, 0, 0, STANDS, NOTHING, low, 0, TOKEN, 0, 0, MARK, 0))
         return session
 
+    def test_boot_amid_an_answer(self) -> None:
+        """A chip starts again amid an answer: the bench drops that part of it, and the next answer is whole."""
+        for ticks in range(0, 5 * MS, MS // 8):
+            session = self.boot()
+            self.sink.last(6, begin_frame(session))
+            self.sink.ask(f"run {ticks} {self.sink.wrote}")
+        self.began()
+
     def test_worked_frame(self) -> None:
         """The frame of docs/SINK.md, byte by byte."""
         text = (TOOLS.parent / "docs" / "SINK.md").read_text()
