@@ -15,11 +15,16 @@
 
 #include "wire.h"
 
+/* The clock of a player is the real one: over an emulated chip, which is slow, a test makes it more patient. */
+#ifndef SENDER_PATIENCE
+#define SENDER_PATIENCE 1
+#endif
+
 enum {
     SENDER_ROOM = WIRE_FIFO, /* words given and not known to be made */
     SENDER_BEGINS_MS = 20,   /* a session's beginning is asked for again after so long */
     SENDER_SPEAKS_MS = 5,    /* with no words to send it says after so long how many it sent */
-    SENDER_DEAF_MS = 2000,   /* without an answer it says that it is deaf after so long */
+    SENDER_DEAF_MS = 2000 * SENDER_PATIENCE, /* without an answer it says that it is deaf after so long */
     SENDER_NEW_ANSWERS = 20  /* so many in a row are of a chip that started again: 100 ms */
 };
 

@@ -12,7 +12,7 @@ from pathlib import Path
 sys.path.insert(0, str(Path(__file__).resolve().parent))
 
 from pace_support import excess, straight
-from player_support import PlayerTest, Sanitized, played, record
+from player_support import PlayerTest, Sanitized, built, played, record
 from session_support import FIRST, PATIENCE_S, TOOLS
 from sink_support import IS_CHIP, LATE_TICKS, TICK_NS, Made, ServedSink, changes, lasting, seen
 
@@ -45,6 +45,10 @@ class OverSink(PlayerTest):
         self.addCleanup(sink.child.kill)
         Path("motion.toml").write_text(f'{MOTION}[sink]\nline = "{sink.path}"\nbaud = 2000000\n')
         return sink
+
+    def command(self) -> list[str]:
+        """The player; an emulated chip, which is slower than the player's clock, has ten times as long to answer."""
+        return [built("-O2", "-DSENDER_PATIENCE=10")] if IS_CHIP else super().command()
 
     def words(self, *words: str) -> list[str]:
         """The words of a player over it."""

@@ -11,8 +11,8 @@
 #include "sink_thread.h"
 
 enum {
-    BEGINS_MS = 5000, /* as long as a sink may take to answer, and to end what another player gave */
-    STOPS_MS = 3000,
+    BEGINS_MS = 5000 * SENDER_PATIENCE, /* a sink may take so long to answer, and to end what another player gave */
+    STOPS_MS = 3000 * SENDER_PATIENCE,
     LOOKS_MS = 5,
     ASKS_MS = 50,   /* a stop is asked for again after so long */
     MARK_BYTES = 40 /* bits of a mark that count OUT's bytes */
