@@ -1034,6 +1034,26 @@ class Given(unittest.TestCase):
         session._work()
         self.assertEqual(done, ["tool", "single on", "run"])
 
+    def test_looks_at_rest(self) -> None:
+        """Once at each place where the motors rest it is looked at what recover would do, also where that fails; not
+        while something is under way, held or in hand."""
+        session, looks = PageSession.__new__(PageSession), []
+        session.face, session.under, session._rests_at = PageFace(), None, None
+        session._look_at_way = lambda: looks.append(1)
+        idle = Status(5, 0, ("0", "0", "0"), True, "program", 0, "idle")
+        at, on = (SimpleNamespace(carried=carried, at=f"{carried} 0 0", behind=0) for carried in (3, 5))
+        for under, status, report, count in (
+                (None, idle, at, 1), (None, idle, at, 1), (SimpleNamespace(word="jog"), idle, on, 1),
+                (None, replace(idle, does="held"), on, 1), (None, idle, SimpleNamespace(**vars(on) | {"behind": 2}), 1),
+                (None, idle, on, 2), (None, idle, on, 2), (None, idle, at, 3)):
+            session.under = under
+            session._look_at_rest(status, report)
+            self.assertEqual(len(looks), count)
+        session._look_at_way = MagicMock(side_effect=NoAnswer("no record"))
+        for _ in range(2):
+            session._look_at_rest(idle, on)
+        self.assertEqual((session._look_at_way.call_count, session.face.log[-1].text), (1, "no record"))
+
     def test_finished(self) -> None:
         """A program that ran to its end isn't finished any more once another run, a move or a load is given, though
         that isn't begun yet; other commands leave it finished."""
