@@ -868,13 +868,19 @@ class Bands(unittest.TestCase):
 
     def band(self, word: str, own: str, has_begun: bool = True, behind: int = 0) -> tuple[str, str, str]:
         """That of a command under way, with a line of one's own, in a program at its line 1."""
-        operator = SimpleNamespace(session=SimpleNamespace(own=own, is_door_open=False))
-        session = SimpleNamespace(ended="", stand=SimpleNamespace(gone=""), face=PageFace(), operator=operator,
-                                  under=SimpleNamespace(word=word))
         status = Status(3, 0, ("0", "0", "0"), True, "none", 0, "idle")
+        session = self.session(own, status)
+        session.under = SimpleNamespace(word=word)
         session.face.last = UnderWay("line 1", status, "") if has_begun else None
         report = SimpleNamespace(word="works", waits=False, behind=behind, is_held=False)
         return Standing(session, status, report, "line 1 of 4", "", "", "", False, PAGE).band()
+
+    @staticmethod
+    def session(own: str, status: Status) -> SimpleNamespace:
+        """A session with a line of one's own, that stood so before what is under way."""
+        operator = SimpleNamespace(session=SimpleNamespace(own=own, is_door_open=False))
+        stand = SimpleNamespace(gone="", status=status, recovery=None)
+        return SimpleNamespace(ended="", stand=stand, face=PageFace(), operator=operator, under=None, held_from="")
 
     def test_starting(self) -> None:
         """While `ngc` looks at a program nothing is told to run; what is in hand does."""
@@ -912,6 +918,27 @@ class Bands(unittest.TestCase):
         self.assertEqual(self.band("mdi", "G0 X1"), ("Running", "run", "G0 X1"))
         for word in ("mdi", "restore"):
             self.assertEqual(self.band(word, ""), ("Running", "run", ""))
+
+    def test_typed_held(self) -> None:
+        """Before the rest of a line of one's own no line of the program is named; of one that another session began
+        the text isn't known."""
+        report = SimpleNamespace(word="works", waits=False, behind=0, is_held=False)
+        for half, own, says in (("program", "", "Before the rest of line 1 of 4"), ("mdi", "", "Continue goes on"),
+                                ("mdi", "G1 X50 F300", "Before the rest of G1 X50 F300")):
+            status = Status(3, 0, ("0", "0", "0"), False, half, 0, "held")
+            session = self.session(own, status)
+            standing = Standing(session, status, report, "line 1 of 4", "", "", "here", False, PAGE)
+            self.assertEqual(standing.band(), ("Held", "hold", says))
+
+    def test_typed_taken_up(self) -> None:
+        """Nor as it is taken up after a loss of power, also once all of it is handed out."""
+        report = SimpleNamespace(word="works", waits=False, behind=9, is_held=False)
+        begun = Status(3, 0, ("0", "0", "0"), False, "mdi", 0, "idle")
+        for now in (replace(begun, does="running"), replace(begun, half="none", known=True)):
+            session = self.session("", begun)
+            session.under, session.face.has_looked = SimpleNamespace(word="recover"), True
+            standing = Standing(session, now, report, "line 1 of 4", "", "", "", False, PAGE)
+            self.assertEqual(standing.band(), ("Running", "run", ""))
 
 
 class Faces(unittest.TestCase):
@@ -1006,6 +1033,26 @@ class Given(unittest.TestCase):
         session.give("tool", lambda: done.append("tool"))
         session._work()
         self.assertEqual(done, ["tool", "single on", "run"])
+
+    def test_looks_at_rest(self) -> None:
+        """Once at each place where the motors rest it is looked at what recover would do, also where that fails; not
+        while something is under way, held or in hand."""
+        session, looks = PageSession.__new__(PageSession), []
+        session.face, session.under, session._rests_at = PageFace(), None, None
+        session._look_at_way = lambda: looks.append(1)
+        idle = Status(5, 0, ("0", "0", "0"), True, "program", 0, "idle")
+        at, on = (SimpleNamespace(carried=carried, at=f"{carried} 0 0", behind=0) for carried in (3, 5))
+        for under, status, report, count in (
+                (None, idle, at, 1), (None, idle, at, 1), (SimpleNamespace(word="jog"), idle, on, 1),
+                (None, replace(idle, does="held"), on, 1), (None, idle, SimpleNamespace(**vars(on) | {"behind": 2}), 1),
+                (None, idle, on, 2), (None, idle, on, 2), (None, idle, at, 3)):
+            session.under = under
+            session._look_at_rest(status, report)
+            self.assertEqual(len(looks), count)
+        session._look_at_way = MagicMock(side_effect=NoAnswer("no record"))
+        for _ in range(2):
+            session._look_at_rest(idle, on)
+        self.assertEqual((session._look_at_way.call_count, session.face.log[-1].text), (1, "no record"))
 
     def test_finished(self) -> None:
         """A program that ran to its end isn't finished any more once another run, a move or a load is given, though

@@ -347,6 +347,50 @@ class Known(Served):
         self.assertEqual((float(state["work"][2]), state["tool_length"]), (float(was[2]) - 5, "5.000000"))
         self.assertGreater(state["stale"]["at"], 0)
 
+    def wants_tool(self, rest: str, does: str) -> tuple[Page, dict]:
+        """A page, and its state, once `ngc` and the server were killed and begun again while the player waits for a
+        tool, with the lines of a rest of the program in hand."""
+        page = self.page()
+        self.assertEqual(page.post("tool", {"slot": 2, "length": "2"}), (200, {}))
+        self.load(page, "G17 G21 G90 G94\nG0 X0.5\nT2 M6\nG43 H2\n" + rest)
+        self.assertEqual(page.post("run"), (200, {}))
+        page.until("it is handed out", lambda state: state["waits_tool"] == 2 and state["does"] == does
+                   and state["behind"] > 400)
+        for pid in (*self.children(), self.server.pid):
+            os.kill(pid, signal.SIGKILL)
+        self.server.wait()
+        self.serve()
+        page = self.page(OTHER)
+        state = page.until("it is looked at", lambda state: state["waits_tool"] == 2 and state["recover"])
+        self.assertEqual(state["recover"]["stands"], state["motors"])
+        return page, state
+
+    def test_carried_out_at_rest(self) -> None:
+        """Lines in hand that are carried out while nothing is under way, as once a tool is in: where that leaves none
+        the program goes on."""
+        page, state = self.wants_tool("G1 X1 F600\nM0\nG1 X1.5\nM2\n", "stopped")
+        self.assertEqual((state["half"], state["recover"]["left"]), ("none", True))
+        page.post("go")
+        state = page.until("nothing is left", lambda state: not state["behind"] and not state["recover"]["left"])
+        self.assertEqual((state["motors"][0], state["recover"]["stands"]), ("1.000000", state["motors"]))
+        self.assertEqual(page.post("run"), (200, {}))
+        page.until("it is through", lambda state: state["finished"] and state["motors"][0] == "1.500000")
+
+    def test_half_carried_out_at_rest(self) -> None:
+        """What recover would do is told from where the motors rest then, and done from there."""
+        page, state = self.wants_tool("G1 X9 F60\nM2\n", "running")
+        before = state["recover"]
+        self.assertEqual((state["half"], before["left"]), ("program", True))
+        page.post("go")
+        state = page.until("it is told", lambda state: not state["behind"] and state["recover"]["lines"] > 501)
+        self.assertEqual((state["recover"]["stands"], state["recover"]["way"]["back"]), (state["motors"], True))
+        self.assertEqual(page.post("recover", {"at": state["motors"]}), (200, {}))
+        page.agree(page.asked())
+        state = page.until("it is there", lambda state: "with the cut" in (state["question"] or {"text": ""})["text"])
+        self.assertEqual(state["motors"], before["at"])
+        page.agree(state)
+        page.until("it cuts on", lambda now: float(now["motors"][0]) > float(state["motors"][0]) + 0.1)
+
     def test_home_from_two_places(self) -> None:
         """Power is lost in a jog: until home is through the place isn't told as known, and one that is held amid it
         leaves two places, and how far each axis that isn't homed may be off."""

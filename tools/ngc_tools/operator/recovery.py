@@ -245,10 +245,13 @@ class OutFound:
         return not found.is_new or self.looking.finder.may_have_lost(self.link.file, size)
 
     def look_again(self, report: Report) -> None:
-        """Looks again if the motors aren't where they were. Raises NoAnswer, OSError."""
+        """Looks again if the motors aren't where they were; the player goes on where no line is left. Raises NoAnswer,
+        OSError."""
         at_nm = tuple(map(nanometres, report.at.split()))
         if (report.carried, at_nm) != (self.recovery.lines, self._at_nm):
             self.look()
+            if not self.is_left():
+                self.link.follow()
 
     def put_back(self) -> None:
         """Puts the lines that OUT lost behind it; they aren't carried out yet. Raises NoAnswer, OSError."""

@@ -116,8 +116,14 @@ class Standing:
         if session.under and session.under.word in _TAKE_UP and not session.face.has_looked:
             return "On the way", "run", "To where the line was cut off. Hold stops it"
         waits = ": the spindle isn't at its speed yet" if self.report and self.report.word == WAITS_SPINDLE else ""
-        line = session.operator.session.own or ("" if command.word in OWN_LINES else self.here)
-        return "Running", "run", line + waits
+        is_own = command.word in OWN_LINES and not session.operator.session.own
+        return "Running", "run", ("" if is_own else self._line()) + waits
+
+    def _line(self) -> str:
+        """The line that is under way or held: one's own as it was typed, nothing for one of a session before."""
+        session = self.session
+        is_own = "mdi" in (self.status.half, session.stand.status.half)  # or was, until all of it was handed out
+        return session.operator.session.own or ("" if is_own else self.here)
 
     def _is_in_hand(self) -> bool:
         """Whether the motors have lines to carry out."""
@@ -163,8 +169,8 @@ class Standing:
             if self._has_lines_left():
                 return self._left_in_hand()
             return self._held_by() if self.held_by != "here" else "Go on carries out what was handed out"
-        who = self._who()
-        return (f"{who}. " if who else "") + (f"Before the rest of {self.here}" if self.here else "Continue goes on")
+        who, line = self._who(), self._line()
+        return (f"{who}. " if who else "") + (f"Before the rest of {line}" if line else "Continue goes on")
 
     def _left_in_hand(self) -> str:
         """What leads on where motors are held that have lines of the last session in hand, or a way."""

@@ -38,7 +38,7 @@ from ngc_tools.page.jog import HeldJog, Wish
 from ngc_tools.page.losses import Losses
 from ngc_tools.page.stand import Kept, Stand, recovery_of
 from ngc_tools.link.machine import read_machine
-from ngc_tools.link.progress import Link, NoAnswer
+from ngc_tools.link.progress import Link, NoAnswer, Report
 from ngc_tools.version import shown_version
 
 WITHOUT_LINES = words_that_bring(Brings.MOVES)
@@ -129,6 +129,7 @@ class PageSession:
         self.is_finished = False  # it ran to its end, and nothing was begun since
         self.begins_at: float | None = None  # since when another session begins, in seconds since 1970, while it does
         self._word = ""  # of the player's report at rest
+        self._rests_at: tuple[int, str] | None = None  # behind that line, there, it was looked at what recover would do
         self.held_from = ""  # the page that held last, or LOST, since something was begun
         self._next: SessionCommand | None = None
         self._stops = False  # `stop` is done next
@@ -559,6 +560,18 @@ class PageSession:
             if is_half or found.is_left():
                 found.look_again(report)
 
+    def _look_at_rest(self, status: Status, report: Report) -> None:
+        """The same where nothing is under way, once at each place where the motors rest: they carry out there what they
+        had in hand as the session began, as once a tool is in."""
+        rests_at = report.carried, report.at
+        if self.under is not None or report.behind or status.does != "idle" or rests_at == self._rests_at:
+            return
+        self._rests_at = rests_at
+        try:
+            self._look_at_way()
+        except (NoAnswer, OSError) as error:
+            self.face.once(str(error))
+
     def _tell_bug(self, command: SessionCommand, error: Exception) -> None:
         """An error of this program itself."""
         if os.environ.get("NGC_DEBUG"):
@@ -621,6 +634,7 @@ class PageSession:
                     self.face.refusal = ""  # it was before that
                 self._word = report.word
                 operator.session.take(report)
+                self._look_at_rest(status, report)
         except NoAnswer as error:
             status, report, gone = operator.console.status(), self.face.report, str(error)
         gone = gone or (operator.session.meter.link.failed if operator.session.meter else "")
