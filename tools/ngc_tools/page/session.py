@@ -18,7 +18,7 @@ from ngc_tools.formats.device import Device
 from ngc_tools.formats.position import nanometres
 from ngc_tools.formats.settings import Settings, read_table
 from ngc_tools.job.cam_homes import HomeAnswers
-from ngc_tools.ngc.console import Ended, Status
+from ngc_tools.ngc.console import Ended
 from ngc_tools.operator.commands import Brings, Taken, words_taken, words_that_bring
 from ngc_tools.operator.face import REFUSED, WARNING
 from ngc_tools.operator.motors import SPINDLE_PERCENTS, WHOLE
@@ -524,7 +524,7 @@ class PageSession:
         if command.word in MOVES | {"load"}:
             self.held_from = "" if self.face.holds == command.holds else self.held_from
         self.face.publish()
-        before, ends = self.stand.status, self.operator.runs.ends
+        ends = self.operator.runs.ends
         try:
             command.result = command.does()
             for line in self.face.asides():  # that came too late for it
@@ -540,7 +540,7 @@ class PageSession:
             self._quit()
             return
         if command.word in MOVES | {"load"}:
-            self._see_end(command, before, ends)
+            self._see_end(command, ends)
         if command.word in MOVES | {"reference"}:
             self._see_place(command.word)
 
@@ -566,16 +566,12 @@ class PageSession:
         command.failed = Failure(f"internal error: {type(error).__name__}: {error}")
         self.face.say(str(command.failed), REFUSED)
 
-    def _see_end(self, command: SessionCommand, before: Status, ends: int) -> None:
-        """Sees whether the program ran to its end, of which so many were before. One that begins with a way may not
-        have been begun."""
+    def _see_end(self, command: SessionCommand, ends: int) -> None:
+        """Sees whether the program ran to its end, of which so many were before. Lines of one's own have none."""
         status = self.operator.console.status()
-        ran = command.word in _PROGRAM and (before.place or before.half == "program"
-                                                                or before.entries != status.entries)
+        ran = command.word in _PROGRAM and self.operator.runs.ends > ends
         at_start = status.does == "idle" and status.half == "none" and not status.place
         seen = self.operator.session.seen
-        if command.word == "from" or self.operator.session.program.way[0]:
-            ran = ran and self.operator.runs.ends > ends
         is_through = seen is None or not seen.behind  # nor were the motors held before its end
         self.is_finished = bool(ran and at_start and is_through and not self.face.refusal)
 
