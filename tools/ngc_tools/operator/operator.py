@@ -102,7 +102,7 @@ class Operator:
         self.face.say(bound)
         self._open(found)
         self.runs.begin(self.console.status())
-        self.choices.give_back(self.console.status())
+        self.choices.give_back(self.console.status(), self.recover.is_left())
 
     def know(self, setter: Setter) -> None:
         """Takes what the machine's file says of touching off, and of home."""
