@@ -1108,6 +1108,23 @@ class Motors(Core):
             self.assertIn("mill.dev.choices: it isn't what is kept there", "".join(self.do("delete on", "delete off")))
             self.assertEqual(Path("mill.dev.choices").read_text(), text)
 
+    def test_given_back_once(self) -> None:
+        """What was given back is told in that session alone, and not in the next one, as after stop or an alarm: it may
+        have been changed since."""
+        self.begin_ramps()
+        self.load("G21 G90\nG1 X1 F600\nM2\n")
+        self.do("percent 30", "spindle percent 90")
+        self.hold_after(20)
+        self.do("run")
+        self.cut()
+        link = RampLink()
+        link.override_spindle, link.anew = lambda _: None, lambda: None
+        choices = self.begin(link).choices
+        self.assertEqual((choices.given, choices.lost), (["feed 30 %"], ["spindle 90 %"]))
+        self.do("percent 100")
+        self.operator.following.begin()
+        self.assertEqual((self.status().half, choices.given, choices.lost), ("program", [], []))
+
     def test_given_back_to_lines(self) -> None:
         """Where lines are left of a job that was handed out to its end, they have its overrides again; the switches
         aren't given back to them, nor to the job that begins next."""

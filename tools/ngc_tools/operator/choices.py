@@ -85,6 +85,10 @@ class Choices:
             self.session.face.say(f"it isn't given back, since the player doesn't take it: {', '.join(self.lost)}",
                                   WARNING)
 
+    def forget_given(self) -> None:
+        """A session begins, to which nothing is given back yet."""
+        self.given, self.lost = [], []
+
     def _begin(self) -> None:
         """Forgets what was chosen for a job before, and keeps what is in force."""
         self.session.report()

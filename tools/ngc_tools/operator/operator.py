@@ -115,6 +115,7 @@ class Operator:
         say_opening(self.session, self.places, self.left, found)
         status = self.console.status()
         self.taken_up = None
+        self.choices.forget_given()
         self.recover.begin(status, self.left.is_as_left() and status.half != "mdi")
         self.session.noted = status.entries
         self.session.told = status.place
