@@ -990,7 +990,7 @@ class Given(unittest.TestCase):
         """What is given once a command is through, while the session looks how all stands, is done then, before the
         next one."""
         session, done = PageSession.__new__(PageSession), []
-        session.face, session.stand = PageFace(), SimpleNamespace(status=None)
+        session.face, session.stand = PageFace(), SimpleNamespace(status=None, report=None)
         session.operator = SimpleNamespace(do=done.append, over=False, runs=SimpleNamespace(ends=0))
         session.ended, session.over, session._wake = "", threading.Event(), threading.Condition()
         session.under, session._next, session._stops = None, None, False

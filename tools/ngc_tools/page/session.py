@@ -220,7 +220,12 @@ class PageSession:
         asked = None
         if meter and report and found and self.operator.recover.found is None:
             asked = LossRequest(console.ngc, console.settings, found.image, report.at.split(), meter.most_ahead(report))
-        self.never_cut.begin(Losses(console.device), self.kept.device.program, asked)
+        self.never_cut.begin(Losses(console.device), self.kept.device.program, asked, report)
+
+    def _look_for_loss(self) -> None:
+        """Finds it once the player has carried out, or let go of, what it had in hand."""
+        if self.stand.report:
+            self.never_cut.look(self.stand.report)
 
     # what pages ask for
 
@@ -498,6 +503,7 @@ class PageSession:
                     self._do(self.under)
                 if not self.ended and not self.face.is_stuck:
                     self._look()
+                    self._look_for_loss()
             except Ended as ended:
                 self._tell_end(ended)
             except (Failure, OSError) as error:
@@ -600,6 +606,7 @@ class PageSession:
         for line in chosen:
             self.operator.do(line)
         self._look()
+        self._look_for_loss()
         if chosen:
             self.face.publish()
 
