@@ -187,6 +187,23 @@ class FromLine(Core):
         self.do("single off", "run")
         self.assertEqual(self.path()[-1], (1000, 5000, 6000))
 
+    def test_single_amid(self) -> None:
+        """Single block that is touched while what is on there is switched on counts from then on, and is never another
+        than it was touched."""
+        begins, seen = self.operator.from_line.begins, []
+
+        def begun() -> str | None:
+            """What it is meanwhile."""
+            seen.append(self.operator.session.single)
+            return begins()
+
+        for touched, before, ends in (("off", True, (1000, 5000, 6000)), ("on", False, (1000, 5000, 20000))):
+            self.operator.session.single, self.face.given = before, [f"single {touched}"]
+            with mock.patch.object(self.operator.from_line, "begins", begun):
+                self.goes(10, "20", "", "yes", "yes")
+            self.assertEqual((seen.pop(), self.operator.session.single, self.face.given), (before, not before, []))
+            self.assertEqual(self.path()[-1], ends)
+
     def test_stands(self) -> None:
         """A spindle that the motors' side doesn't switch on: nobody is asked to look, and nothing moves."""
         said = self.link.ask

@@ -1,4 +1,5 @@
 """The operator's core, without a terminal: what it compares, asks and says before something moves."""
+import json
 import sys
 import unittest
 from dataclasses import replace
@@ -1106,6 +1107,46 @@ class Motors(Core):
             Path("mill.dev.choices").write_text(text)
             self.assertIn("mill.dev.choices: it isn't what is kept there", "".join(self.do("delete on", "delete off")))
             self.assertEqual(Path("mill.dev.choices").read_text(), text)
+
+    def test_given_back_once(self) -> None:
+        """What was given back is told in that session alone, and not in the next one, as after stop or an alarm: it may
+        have been changed since."""
+        self.begin_ramps()
+        self.load("G21 G90\nG1 X1 F600\nM2\n")
+        self.do("percent 30", "spindle percent 90")
+        self.hold_after(20)
+        self.do("run")
+        self.cut()
+        link = RampLink()
+        link.override_spindle, link.anew = lambda _: None, lambda: None
+        choices = self.begin(link).choices
+        self.assertEqual((choices.given, choices.lost), (["feed 30 %"], ["spindle 90 %"]))
+        self.do("percent 100")
+        self.operator.following.begin()
+        self.assertEqual((self.status().half, choices.given, choices.lost), ("program", [], []))
+
+    def test_given_back_to_lines(self) -> None:
+        """Where lines are left of a job that was handed out to its end, they have its overrides again; the switches
+        aren't given back to them, nor to the job that begins next."""
+        self.begin_ramps()
+        for wants, heeds, said in (("20", True, "given back, as it was before the session ended"),
+                                   ("30", False, "it isn't given back, since the player doesn't take it")):
+            self.do(f"percent {wants}", "spindle percent 100", "delete on", "single on")
+            self.cut()
+            link = RampLink()
+            link.override = link.override if heeds else lambda _: None
+            with mock.patch.object(type(self.operator.recover), "is_left", return_value=True):
+                self.begin(link)
+            session = self.operator.session
+            self.assertIn(f"{said}: feed {wants} %", self.begun)
+            self.assertEqual((link.percent, session.delete, session.single), (20 if heeds else 100, False, False))
+            kept = json.loads(Path("mill.dev.choices").read_text())
+            self.assertEqual((kept["percent"], kept["delete"], kept["single"]), (int(wants), False, False))
+        self.do("percent 100", "delete on")
+        self.cut()
+        with mock.patch.object(type(self.operator.recover), "is_left", return_value=True):
+            self.begin(RampLink())
+        self.assertFalse(Path("mill.dev.choices").exists())
 
     def test_given_back_by_another(self) -> None:
         """What a player has in force that goes on, before a job begins, is given back to that job too."""

@@ -13,6 +13,7 @@ import time
 import unittest
 from collections.abc import Callable
 from dataclasses import replace
+from functools import partial
 from pathlib import Path
 from types import SimpleNamespace
 from unittest.mock import MagicMock, patch
@@ -1016,7 +1017,7 @@ class Given(unittest.TestCase):
         """What is given once a command is through, while the session looks how all stands, is done then, before the
         next one."""
         session, done = PageSession.__new__(PageSession), []
-        session.face, session.stand = PageFace(), SimpleNamespace(status=None)
+        session.face, session.stand = PageFace(), SimpleNamespace(status=None, report=None)
         session.operator = SimpleNamespace(do=done.append, over=False, runs=SimpleNamespace(ends=0))
         session.ended, session.over, session._wake = "", threading.Event(), threading.Condition()
         session.under, session._next, session._stops = None, None, False
@@ -1067,15 +1068,20 @@ class Given(unittest.TestCase):
 
 
     def test_through(self) -> None:
-        """It isn't finished as long as lines of it are in hand, as where the motors are held before its end."""
+        """It isn't finished as long as lines of it are in hand, as where the motors are held before its end; nor by a
+        line of one's own that goes on, or is taken up, while the program stands at its beginning."""
         at_start = Status(5, 0, ("0", "0", "0"), True, "none", 0, "idle")
-        for behind, is_finished in ((2, False), (0, True)):
+        for word, ends, behind, is_finished in (("run", 1, 2, False), ("run", 1, 0, True), ("run", 0, 0, False),
+                                                ("recover", 0, 0, False), ("resume", 0, 0, False)):
             session = PageSession.__new__(PageSession)
             session.face = PageFace()
-            seen = SimpleNamespace(seen=SimpleNamespace(behind=behind), program=SimpleNamespace(way=(0, 1)))
-            session.operator = SimpleNamespace(console=SimpleNamespace(status=lambda: at_start), session=seen)
-            session._see_end(SessionCommand("run", lambda: None, 0, 0), replace(at_start, entries=3, place=9), 0)
-            self.assertEqual(session.is_finished, is_finished)
+            session.operator = SimpleNamespace(console=SimpleNamespace(status=lambda: at_start), over=False,
+                                               runs=SimpleNamespace(ends=0), session=MagicMock())
+            session.operator.session.seen.behind, session.operator.session.program.way = behind, (0, 1)
+            session._see_place = lambda _: None
+            does = partial(setattr, session.operator.runs, "ends", ends)
+            session._do(SessionCommand(word, does, 0, 0))
+            self.assertEqual(session.is_finished, is_finished, (word, ends, behind))
 
 
 class Shown(unittest.TestCase):

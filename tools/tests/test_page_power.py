@@ -1,6 +1,7 @@
 """The page after a loss of power: what was never cut, and the steps back to the job, at many moments of it."""
 import json
 import os
+import signal
 import subprocess
 import sys
 import unittest
@@ -24,13 +25,15 @@ from ngc_tools.ngc.handed_out import Finder
 from ngc_tools.page.aside import Aside, NotDone
 from ngc_tools.page.face import LOOKS, PageFace
 from ngc_tools.page.losses import Loss, Losses
-from ngc_tools.page.never_cut import LossRequest, found
+from ngc_tools.page.never_cut import LossRequest, NeverCutSearch, found
 from ngc_tools.page.rehearse import finished, rehearse
 from ngc_tools.page.session import PageSession
 from ngc_tools.link.progress import Report
 
 BACK = "G21 G90 G94\nG1 X0.01 F60\nX0\nX0.02\nM2\n"
 """Ten pulses on, ten back, and twenty on."""
+CHANGE = "G17 G21 G90 G94\nG1 X0.02 F60\nT2 M6\n" + "G1 X0.04 F3\nG1 X0.02\n" * 20 + "M2\n"
+"""Behind a tool change twenty pulses on and twenty back, again and again, 0.4 s each."""
 JOB = "G17 G21 G90 G94\nM3 S100\nG0 X0.4\nG1 Z-0.4 F600\nX1.2\nG2 X0.4 Y0.8 I-0.8 F900\nG1 X0 Y0\nM2\n"
 """7,200 pulses: a traverse, a plunge, lines, an arc."""
 
@@ -81,6 +84,18 @@ class Found(InFolder):
             self.assertEqual((told["lines"], told["points"][:1] + told["points"][-1:]), (lines, ends))
             self.assertIn(words, told["words"])
 
+    def test_in_hand(self) -> None:
+        """What the player has in hand isn't lost as long as it has it, and then as much as it let go of."""
+        self.lose_power(BACK, "X0.02")
+        at = ["0.004000", "0.000000", "0.000000"]
+        for carried, lines in ((24, 0), (16, 4)):
+            search = NeverCutSearch(Here(), PageFace())
+            asked = LossRequest(ngc(), "first.toml", self.image, ["0.008000", *at[1:]], 100)
+            search.begin(Losses("mill.dev"), BACK.encode(), asked, Report(12, 24, True, "0.008 0 0", "axis"))
+            search.look(Report(13, 24, False, "0.007 0 0", "axis"))
+            self.assertIsNone(search.awaited())
+            search.look(Report(carried, carried, False, " ".join(at), "axis"))
+            self.assertEqual((search.awaited()["lines"], Path("mill.dev.never-cut").exists()), (lines, lines > 0))
 
     def test_block_delete(self) -> None:
         """Lines with a slash that were left out aren't on the path."""
@@ -251,6 +266,46 @@ class OverPipe(Served):
         self.load(page, "M2\n")
         self.assertIsNone(self.never_cut(page))
         self.assertFalse(Path("mill.dev.never-cut").exists())
+
+    def test_in_hand(self) -> None:
+        """`ngc` ends alone while the player waits for a tool: what it has in hand then, and carries out, isn't lost,
+        though its path comes to the same places again."""
+        page = self.ends_at_change()
+        self.assertEqual(page.post("go")[0], 200)
+        page.until("it is told", lambda _: "left nothing uncut" in page.said() or "NEVER CUT" in page.said())
+        self.assertNotIn("NEVER CUT", page.said())
+        self.assertEqual((self.never_cut(page)["lines"], Path("mill.dev.never-cut").exists()), (0, False))
+
+    def test_let_go(self) -> None:
+        """What it lets go of then is lost, also where `ngc` was started twice meanwhile."""
+        page = self.ends_at_change()
+        self.ends(page)
+        self.assertEqual(page.post("stop"), (200, {}))
+        asked = {"question": page.asked()["question"]["id"], "yes": False}
+        self.assertEqual(page.post("answer", asked), (200, {"taken": True}))
+        page.until("it is told", lambda _: "NEVER CUT: 82 lines" in page.said())
+        self.assertEqual([loss.lines for loss in Losses("mill.dev").of(CHANGE.encode())], [82])
+
+    def ends_at_change(self) -> Page:
+        """A page whose program runs to its tool change; `ngc` ends while the player waits for the tool."""
+        page = self.page()
+        page.post("tool", {"slot": 2, "length": "0"})
+        self.load(page, CHANGE)
+        self.assertEqual(page.post("run"), (200, {}))
+        page.until("it waits", lambda state: state["waits"] and state["behind"] > 90)
+        self.ends(page)
+        return page
+
+    def ends(self, page: Page) -> None:
+        """`ngc` ends, and is started again."""
+        for pid in self.children():
+            os.kill(pid, signal.SIGKILL)
+        page.post("hold")  # `ngc` isn't asked anything while it waits for the tool
+        page.until("it ended", lambda state: state["ended"])
+        self.assertEqual(page.post("restart"), (200, {}))
+        state = page.until("it goes on", lambda state: not state["ended"] and not state["busy"])
+        self.assertGreater(state["behind"], 90)
+        self.assertIsNone(self.never_cut(page))
 
     def gives_up(self, page: Page, state: dict) -> None:
         """The half-done line counts as not begun."""

@@ -60,6 +60,16 @@ class Recorded(Core):
         self.do("rewind")
         self.assertEqual(self.lines(), lines)
 
+    def test_single(self) -> None:
+        """With single block it is one run, which ends with the program's last line."""
+        self.begin(FileLink())
+        for text, runs in (("G21 G90\nG1 X1 F600\nM2\n", 2), ("M3 S100\nG1 X0 F600\nM30\n", 3)):
+            self.load(text)
+            self.do("single on", *["run"] * runs)
+            self.assertEqual((self.status().does, self.status().place), ("idle", 0))
+            self.assertEqual(self.lines()[-2:], ["began part.ngc", "ended, through, after 0:NN"])
+        self.assertEqual(self.operator.runs.ends, 2)
+
     def test_given_up(self) -> None:
         """A program that is loaded amid another one gives that up; it is left as the session ends."""
         self.begin_with_tools()

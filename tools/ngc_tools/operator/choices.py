@@ -1,6 +1,6 @@
 """What a person chose for a job: the overrides, block delete, optional stop, single block. The player and `ngc` begin
 without any of it after a loss of power, so it is kept in a file beside the device, and given back to a job that goes
-on."""
+on; the overrides also to lines that are left of one."""
 import json
 from contextlib import suppress
 from dataclasses import asdict, dataclass
@@ -45,7 +45,9 @@ class Choices:
 
     def keep(self) -> None:
         """Keeps what is chosen now."""
-        choice = self._now()
+        self._keep(self._now())
+
+    def _keep(self, choice: Choice) -> None:
         if choice == (self._read() or Choice()):
             return
         try:
@@ -57,13 +59,17 @@ class Choices:
         except (NotWritten, OSError) as error:
             self.session.face.once(f"after a loss of power overrides and switches aren't given back: {error}")
 
-    def give_back(self, status: Status) -> None:
-        """Gives back what was chosen for a job that goes on, and says it; for one that begins nothing is chosen, but
-        what a player that goes on has in force."""
-        if status.half == "none" and not status.place:
-            self._begin()
-            return
+    def give_back(self, status: Status, has_left: bool) -> None:
+        """Gives back what was chosen for a job that goes on, and says it. For one that begins nothing is chosen, but
+        what a player that goes on has in force; where lines are left, which no motor carried out, they have their
+        overrides."""
         kept = self._read()
+        if status.half == "none" and not status.place:
+            kept = Choice(kept.percent, kept.spindle) if kept and has_left else Choice()
+            if kept == Choice():
+                self._begin()
+                return
+            self._keep(kept)
         if kept is None:
             return
         for name in ("delete", "optional"):
@@ -78,6 +84,10 @@ class Choices:
         if self.lost:
             self.session.face.say(f"it isn't given back, since the player doesn't take it: {', '.join(self.lost)}",
                                   WARNING)
+
+    def forget_given(self) -> None:
+        """A session begins, to which nothing is given back yet."""
+        self.given, self.lost = [], []
 
     def _begin(self) -> None:
         """Forgets what was chosen for a job before, and keeps what is in force."""

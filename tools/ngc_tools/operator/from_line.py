@@ -105,11 +105,11 @@ class FromLine:
 
     def _begun(self) -> str | None:
         """Begins the way, up to its stop: what ended that. It moves nothing, so it isn't held after each line."""
-        is_single, self.session.single = self.session.single, False
+        self.session.goes_through = True
         try:
             return self.begins()
         finally:
-            self.session.single = is_single
+            self.session.goes_through = False
 
     def _is_switched(self, on: str) -> bool:
         """Whether that is on at the machine, as far as a player tells it."""

@@ -102,7 +102,7 @@ class Operator:
         self.face.say(bound)
         self._open(found)
         self.runs.begin(self.console.status())
-        self.choices.give_back(self.console.status())
+        self.choices.give_back(self.console.status(), self.recover.is_left())
 
     def know(self, setter: Setter) -> None:
         """Takes what the machine's file says of touching off, and of home."""
@@ -115,6 +115,7 @@ class Operator:
         say_opening(self.session, self.places, self.left, found)
         status = self.console.status()
         self.taken_up = None
+        self.choices.forget_given()
         self.recover.begin(status, self.left.is_as_left() and status.half != "mdi")
         self.session.noted = status.entries
         self.session.told = status.place

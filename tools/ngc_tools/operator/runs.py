@@ -176,10 +176,11 @@ class Runs:
 
     def rests(self, ended: str | None) -> None:
         """The program rests: what ended its work, None for a hold."""
-        if ended in (SINGLE, CHANGE) or not self.run.runs:
-            return
         status = self.session.console.status()
-        if ended == "idle" and not status.place:
+        is_through = ended in ("idle", SINGLE) and not status.place and status.half == "none"
+        if not self.run.runs or ended in (SINGLE, CHANGE) and not is_through:
+            return
+        if is_through:
             self.ends += 1
             self._add(f"ended, through, {self.run.figures(time.time())}")
         elif ended == "stopped":

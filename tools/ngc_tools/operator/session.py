@@ -69,6 +69,7 @@ class Session:
     delete: bool = False
     optional: bool = False
     single: bool = False  # it holds after each line that hands something out
+    goes_through: bool = False  # what runs isn't held so, though `single` is on
     own: str = ""
     seen: Report | None = None
     gone: bool = False

@@ -106,7 +106,7 @@ class Work:
         session = self.session
         while count := self.room():
             begun = time.monotonic()
-            is_single = session.single and not session.own
+            is_single = session.single and not session.own and not session.goes_through
             ahead = self._lines_to_change()
             replies = session.console.ask(f"tick {1 if is_single else min(count, max(1, ahead))}")
             self.chunk.lasted(time.monotonic() - begun)

@@ -3,7 +3,7 @@ from the device's log and the place that the player's record has, both as they s
 import threading
 import time
 from contextlib import suppress
-from dataclasses import dataclass
+from dataclasses import dataclass, replace
 
 from ngc_tools.files import NotWritten, cause
 from ngc_tools.formats.device import Device
@@ -17,6 +17,7 @@ from ngc_tools.operator.face import SAID, WARNING
 from ngc_tools.page.aside import Aside, NotDone
 from ngc_tools.page.face import UNCUT, PageFace
 from ngc_tools.page.losses import Loss, Losses
+from ngc_tools.link.progress import Report
 
 _UNKNOWN = "What was handed out before the half-done segment and never cut can't be told: {why}"
 _KEPT = """\
@@ -74,17 +75,35 @@ class NeverCutSearch:
         self.count = 0
         self._aside, self._face = aside, face
         self._asked: LossRequest | None = None
+        self._received: int | None = None  # so many lines the player had got as it was asked, while it has some in hand
         self._thread = threading.Thread()
 
-    def begin(self, losses: Losses, program: bytes, asked: LossRequest | None) -> None:
+    def begin(self, losses: Losses, program: bytes, asked: LossRequest | None, report: Report | None) -> None:
         """Takes up what was kept of a device, which has this program, and finds what the last session left, if a block
-        is half-done; that isn't to be found where nothing is asked."""
+        is half-done; that isn't to be found where nothing is asked. What the player has in hand by its report isn't
+        lost yet: then it is found once `look` sees that nothing is in hand any more."""
         self._losses, self._program, self._earlier = losses, program, losses.of(program)
-        self._asked = asked if asked is not None and Device(asked.image).state.half else None
+        if asked is None or self._received is None:
+            self._asked = asked if asked is not None and Device(asked.image).state.half else None
+            self._received = report.received if self._asked and report and report.behind else None
+        # else the session before that has lines in hand still, and its log tells them
         self._take(dict(_NONE, earlier=_plain(self._earlier)) if self._earlier else None)
         if self._asked is None:
             self._tell(self._earlier)
+        elif self._received is None:
+            self._search(self._asked)
+        elif report is not None:
+            self.look(report)
+
+    def look(self, report: Report) -> None:
+        """Finds what the player let go of, once it has nothing in hand any more: it carried out the other lines."""
+        if self._asked is None or self._received is None or report.behind:
             return
+        ahead = max(1, min(self._asked.ahead, self._received - report.carried))
+        self._asked, self._received = replace(self._asked, at=report.at.split(), ahead=ahead), None
+        self._search(self._asked)
+
+    def _search(self, asked: LossRequest) -> None:
         self._thread = threading.Thread(target=self._find, args=[asked], daemon=True)
         self._thread.start()
 
@@ -100,7 +119,7 @@ class NeverCutSearch:
 
     def forget(self) -> None:
         """Another program is loaded, or this one begins anew."""
-        self._asked, self._earlier = None, []
+        self._asked, self._received, self._earlier = None, None, []
         with suppress(OSError):  # it is of another program then, or is found again and shown
             self._losses.forget()
         self._take(None)

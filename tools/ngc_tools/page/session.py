@@ -18,7 +18,7 @@ from ngc_tools.formats.device import Device
 from ngc_tools.formats.position import nanometres
 from ngc_tools.formats.settings import Settings, read_table
 from ngc_tools.job.cam_homes import HomeAnswers
-from ngc_tools.ngc.console import Ended, Status
+from ngc_tools.ngc.console import Ended
 from ngc_tools.operator.commands import Brings, Taken, words_taken, words_that_bring
 from ngc_tools.operator.face import REFUSED, WARNING
 from ngc_tools.operator.motors import SPINDLE_PERCENTS, WHOLE
@@ -221,7 +221,12 @@ class PageSession:
         asked = None
         if meter and report and found and self.operator.recover.found is None:
             asked = LossRequest(console.ngc, console.settings, found.image, report.at.split(), meter.most_ahead(report))
-        self.never_cut.begin(Losses(console.device), self.kept.device.program, asked)
+        self.never_cut.begin(Losses(console.device), self.kept.device.program, asked, report)
+
+    def _look_for_loss(self) -> None:
+        """Finds it once the player has carried out, or let go of, what it had in hand."""
+        if self.stand.report:
+            self.never_cut.look(self.stand.report)
 
     # what pages ask for
 
@@ -499,6 +504,7 @@ class PageSession:
                     self._do(self.under)
                 if not self.ended and not self.face.is_stuck:
                     self._look()
+                    self._look_for_loss()
             except Ended as ended:
                 self._tell_end(ended)
             except (Failure, OSError) as error:
@@ -525,7 +531,7 @@ class PageSession:
         if command.word in MOVES | {"load"}:
             self.held_from = "" if self.face.holds == command.holds else self.held_from
         self.face.publish()
-        before, ends = self.stand.status, self.operator.runs.ends
+        ends = self.operator.runs.ends
         try:
             command.result = command.does()
             for line in self.face.asides():  # that came too late for it
@@ -541,7 +547,7 @@ class PageSession:
             self._quit()
             return
         if command.word in MOVES | {"load"}:
-            self._see_end(command, before, ends)
+            self._see_end(command, ends)
         if command.word in MOVES | {"reference"}:
             self._see_place(command.word)
 
@@ -579,16 +585,12 @@ class PageSession:
         command.failed = Failure(f"internal error: {type(error).__name__}: {error}")
         self.face.say(str(command.failed), REFUSED)
 
-    def _see_end(self, command: SessionCommand, before: Status, ends: int) -> None:
-        """Sees whether the program ran to its end, of which so many were before. One that begins with a way may not
-        have been begun."""
+    def _see_end(self, command: SessionCommand, ends: int) -> None:
+        """Sees whether the program ran to its end, of which so many were before. Lines of one's own have none."""
         status = self.operator.console.status()
-        ran = command.word in _PROGRAM and (before.place or before.half == "program"
-                                                                or before.entries != status.entries)
+        ran = command.word in _PROGRAM and self.operator.runs.ends > ends
         at_start = status.does == "idle" and status.half == "none" and not status.place
         seen = self.operator.session.seen
-        if command.word == "from" or self.operator.session.program.way[0]:
-            ran = ran and self.operator.runs.ends > ends
         is_through = seen is None or not seen.behind  # nor were the motors held before its end
         self.is_finished = bool(ran and at_start and is_through and not self.face.refusal)
 
@@ -617,6 +619,7 @@ class PageSession:
         for line in chosen:
             self.operator.do(line)
         self._look()
+        self._look_for_loss()
         if chosen:
             self.face.publish()
 
