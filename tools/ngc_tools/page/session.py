@@ -18,7 +18,7 @@ from ngc_tools.formats.device import Device
 from ngc_tools.formats.position import nanometres
 from ngc_tools.formats.settings import Settings, read_table
 from ngc_tools.job.cam_homes import HomeAnswers
-from ngc_tools.ngc.console import Ended
+from ngc_tools.ngc.console import Ended, Status
 from ngc_tools.operator.commands import Brings, Taken, words_taken, words_that_bring
 from ngc_tools.operator.face import REFUSED, WARNING
 from ngc_tools.operator.motors import SPINDLE_PERCENTS, WHOLE
