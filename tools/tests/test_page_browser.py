@@ -225,6 +225,30 @@ class InBrowser(Served):
             self.browser.js("document.getElementById('theme').click()")
         self.browser.size(*SIZES[0])
 
+    def agree_to_look(self) -> None:
+        """Answers each question by a yes, up to the one before which one has to look, and ticks what is seen."""
+        browser, last = self.browser, 0
+        while True:
+            question = browser.wait(f"ngc.state.question?.id > {last} && ngc.state.question")
+            last = question["id"]
+            if question["purpose"] == "look":
+                break
+            self.assertNotIn("Do they stand there?", question["text"])  # each axis is confirmed
+            browser.press("Yes", "#over .go")
+        browser.wait("document.querySelectorAll('#over .look button').length === 3")
+        self.assertTrue(browser.js("document.querySelector('#over .foot .go').disabled"))
+        self.look("switched on")
+        self.tick_all()
+
+    def tick_all(self) -> None:
+        """Ticks what is seen: the ticks stay while news come."""
+        browser = self.browser
+        browser.js("document.querySelectorAll('#over .look button').forEach(one => one.click())")
+        seen = browser.js("ngc.state.now")
+        browser.wait(f"ngc.state.now > {seen} + 1")
+        self.assertEqual(browser.js("document.querySelectorAll('#over .look [aria-pressed=true]').length"), 3)
+        self.assertFalse(browser.js("document.querySelector('#over .foot .go').disabled"))
+
     def begin_again(self) -> None:
         """Power comes back: the page is served at the same address."""
         port, key = re.fullmatch(r"http://127\.0\.0\.1:(\d+)/(.*)/", self.address).groups()
@@ -809,30 +833,6 @@ class Power(InBrowser):
         self.browser.wait("ngc.job")
         self.browser.up(x, y)
 
-    def agree_to_look(self) -> None:
-        """Answers each question by a yes, up to the one before which one has to look, and ticks what is seen."""
-        browser, last = self.browser, 0
-        while True:
-            question = browser.wait(f"ngc.state.question?.id > {last} && ngc.state.question")
-            last = question["id"]
-            if question["purpose"] == "look":
-                break
-            self.assertNotIn("Do they stand there?", question["text"])  # each axis is confirmed
-            browser.press("Yes", "#over .go")
-        browser.wait("document.querySelectorAll('#over .look button').length === 3")
-        self.assertTrue(browser.js("document.querySelector('#over .foot .go').disabled"))
-        self.look("switched on")
-        self.tick_all()
-
-    def tick_all(self) -> None:
-        """Ticks what is seen: the ticks stay while news come."""
-        browser = self.browser
-        browser.js("document.querySelectorAll('#over .look button').forEach(one => one.click())")
-        seen = browser.js("ngc.state.now")
-        browser.wait(f"ngc.state.now > {seen} + 1")
-        self.assertEqual(browser.js("document.querySelectorAll('#over .look [aria-pressed=true]').length"), 3)
-        self.assertFalse(browser.js("document.querySelector('#over .foot .go').disabled"))
-
 
 class Held(InBrowser):
     """The page's server is lost while the motors are held in a cut, and comes back."""
@@ -865,6 +865,68 @@ class Held(InBrowser):
         browser.wait("document.querySelector('#over h1')?.textContent === 'A question'")
         browser.press("Yes", "#over .foot button")
         browser.wait("!ngc.state.question")
+
+
+class OnTheWay(InBrowser):
+    """The way back after a loss of power is stopped, with motors that have ramps."""
+
+    OUT = "out"
+    MACHINE = Held.MACHINE
+
+    def goes(self) -> str:
+        """Rehearses, goes along the path, and stops on the way, with the line half-done; X as it stood before."""
+        browser = self.browser
+        browser.press("Next", "#over button")
+        browser.wait("document.querySelector('#over details')")
+        browser.press("Next", "#over button")
+        before = browser.js("ngc.state.motors[0]")
+        browser.press("Go along the path", "#over button")
+        self.agree_to_look()
+        browser.press("Yes", "#over .go")
+        browser.wait(f"ngc.state.motors[0] < {before} - 0.05")
+        browser.press("Stop", "#stop")
+        browser.wait("ngc.state.question && document.querySelector('#over .asked')")
+        browser.press("No", "#over .foot button")
+        browser.wait("!ngc.state.busy && ngc.state.does === 'idle' && ngc.state.half === 'program'"
+                     " && !ngc.state.held_motors")
+        return before
+
+    def test_stopped(self) -> None:
+        """No place is taken from before the way: the steps lead back to where the machine stands, and the axis that
+        moved is confirmed anew. So it goes on from there, and the cut is where it was."""
+        browser = self.browser
+        self.load("G17 G21 G90 G94\nG0 X0 Y0 Z0\nG1 X2 F12\nM2\n", 4)
+        browser.press("Run", "#run")
+        browser.wait("ngc.state.motors[0] > 0.6")
+        self.wait_for("the record has it", lambda: self.recorded().at_nm[0] > 500_000)
+        before = browser.js("ngc.state.session")
+        self.pull()
+        self.begin_again()
+        browser.wait(f"ngc.state?.session && ngc.state.session !== '{before}'")
+        browser.goes_on()
+        browser.press("Next", "#over button")
+        for _ in range(3):
+            browser.press("Confirm", "#over button")
+        stood = self.goes()
+        browser.wait("document.querySelector('#over .steps .now b').textContent === '2'")
+        shown = browser.js("[...document.querySelectorAll('#over .confirm')].map(one =>"
+                           " [one.querySelector('input').value,"
+                           " one.querySelector('button').getAttribute('aria-pressed')])")
+        x = browser.js("ngc.state.motors[0]")
+        self.assertLess(float(x), float(stood))
+        self.assertEqual((float(shown[0][0]), [pressed for _, pressed in shown]), (float(x), ["false", "true", "true"]))
+        browser.press("Confirm", "#over button")
+        self.goes()
+        browser.wait("document.querySelector('#over .steps .now b').textContent === '2'")
+        browser.press("Confirm", "#over button")
+        browser.press("Next", "#over button")
+        browser.wait("document.querySelector('#over details')")
+        browser.press("Next", "#over button")
+        browser.press("Give up", "#over button")
+        browser.press("Yes, give it up", "#over button")
+        browser.wait("ngc.state.half === 'none' && !ngc.state.busy")
+        self.assertEqual(browser.js("ngc.state.at.join()"), browser.js("ngc.state.motors.join()"))
+        self.no_complaints()
 
 
 class PowerOverPipe(InBrowser):

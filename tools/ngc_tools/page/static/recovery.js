@@ -41,7 +41,7 @@ export class Recovery {
   begin() {
     const { state } = this.app;
     Object.assign(this, { isOpen: true, isLater: false, step: 0, stored: null, plan: null, key: '' });
-    Object.assign(this, { isRehearsing: false, refusal: '' });
+    Object.assign(this, { isRehearsing: false, refusal: '', isTelling: false });
     this.at = standing(state);
     this.told = standing(state);
     this.sure = [false, false, false];
@@ -94,12 +94,14 @@ export class Recovery {
     this.key = this.shownOf(s);
   }
 
-  // Motors that were still coming to rest as these steps began stand elsewhere by now: an axis that nobody wrote goes
-  // with them, and each that moved is confirmed anew. Whether one did.
+  // Motors that rest elsewhere than they did, since they came to rest only now, or went on a way that was held, or as
+  // somebody moved them: each axis that moved is confirmed anew. One that nobody wrote goes with them; at the last step
+  // each does, since what was written is of before the way. Whether one moved.
   follows(s) {
     const now = standing(s), moved = now.map((number, i) => number !== this.told[i]);
-    if (this.step > 2 || s.busy || !moved.includes(true)) return false;
-    this.at = this.at.map((number, i) => (number === this.told[i] ? now[i] : number));
+    if (s.busy || s.question || s.does !== 'idle' || this.isTelling || !moved.includes(true)) return false;
+    const goes = i => this.at[i] === this.told[i] || moved[i] && this.step > 2;
+    this.at = this.at.map((number, i) => (goes(i) ? now[i] : number));
     this.sure = this.sure.map((isSure, i) => isSure && !moved[i]);
     this.told = now;
     return true;
@@ -359,17 +361,23 @@ export class Recovery {
     return button;
   }
 
-  async resume() {
-    const answer = await this.tells();
-    if (answer && !answer.refused) await this.asks('resume');
+  resume() {
+    return this.tells(async answer => { if (answer && !answer.refused) await this.asks('resume'); });
   }
 
   // A place outside of the travel isn't taken, and the line is given up all the same: then none is known.
-  async abandon() {
-    const answer = await this.tells();
-    if (answer && (!answer.refused || /\bX2\b/.test(answer.refused)) && await this.asks('abandon')) this.close();
+  abandon() {
+    return this.tells(async answer => {
+      const isTold = answer && (!answer.refused || /\bX2\b/.test(answer.refused));
+      if (isTold && await this.asks('abandon')) this.close();
+    });
   }
 
-  // Tells where each axis was confirmed to stand, also where the record has it elsewhere.
-  tells() { return this.asks('reference', { at: this.at, anyway: true }); }
+  // Tells where each axis was confirmed to stand, also where the record has it elsewhere, and does what comes then.
+  // Until that is over, motors that are told to be elsewhere didn't move.
+  async tells(does) {
+    this.isTelling = true;
+    await does(await this.asks('reference', { at: this.at, anyway: true }));
+    this.isTelling = false;
+  }
 }
