@@ -15,7 +15,7 @@ sys.path.insert(0, str(Path(__file__).resolve().parent))
 import power
 from power_axes import HOME, Screws
 from power_chain import Chain, Plan
-from power_disk import CUT, SYNC, WRITE, Call, left_of, mark_lasting
+from power_disk import CUT, ENTRY, HEAD, SYNC, WRITE, Call, left_of, mark_lasting, read_log
 from power_path import Ledger, Legs, Uncut, Wrong, memory, run_uncut
 from power_person import Person
 from power_shop import Lost
@@ -120,6 +120,20 @@ class Judge(unittest.TestCase):
         self.assertEqual(left["first"], first)
         self.assertLess(first | {b"aab\0\0\0cccc", b"aabbbbccd"}, left["torn"])
         self.assertEqual(left["hole"], {head + tail for head in (b"aabbbb", b"aa\0\0\0\0") for tail in (b"ccdddd",)})
+
+    def test_log(self) -> None:
+        """A process that was killed as it had room in the log, and had told nothing yet: what others tell behind that
+        counts, and the rest of the map doesn't."""
+        def entry(data: bytes) -> bytes:
+            """A write to OUT, as `power_disk.c` tells it."""
+            size = (ENTRY.size + len(data) + 7) // 8 * 8
+            return (ENTRY.pack(size, 2, 1, WRITE, 0, len(data), 1, 2) + data).ljust(size, b"\0")
+
+        told = entry(b"one") + bytes(len(entry(b"never"))) + entry(b"two") + bytes(ENTRY.size)
+        with tempfile.TemporaryDirectory(dir=memory()) as name:
+            log = Path(name, "log")
+            log.write_bytes(HEAD.pack(HEAD.size + len(told), *[0] * 70) + told + entry(b"behind the end"))
+            self.assertEqual([[call.data for call in calls] for calls in read_log(log)], [[], [b"one", b"two"], []])
 
 
 class Power(unittest.TestCase):
