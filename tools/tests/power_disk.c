@@ -157,6 +157,7 @@ static int file_of(int file) {
     return found;
 }
 
+/* Who is killed before an entry has its size leaves zeros in all of its room; who reads the log passes over them. */
 static struct entry *tell(int file, int op, int64_t at, const void *bytes, size_t length) {
     size_t data = op == WRITE ? length : 0;
     size_t size = (sizeof(struct entry) + data + 7) / 8 * 8;
@@ -166,6 +167,7 @@ static struct entry *tell(int file, int op, int64_t at, const void *bytes, size_
     }
     struct entry *entry = (struct entry *)((char *)head + place);
     entry->size = (uint32_t)size;
+    atomic_signal_fence(memory_order_seq_cst); /* before all else of it */
     entry->file = (uint32_t)file;
     entry->op = (uint32_t)op;
     entry->at = at;

@@ -8,6 +8,7 @@ FILES = ("mill.dev", "out", "position")
 SECTOR = 512
 
 ENTRY, HEAD = struct.Struct("=IIIIqqQQ"), struct.Struct("=QQQIIII64i")
+ALIGNED = 8  # bytes: at a multiple of them each entry begins
 WRITE, SYNC, CUT, PUNCH = range(4)
 LOG_BYTES = 1 << 26
 SPARED = 2**64 - 1
@@ -29,7 +30,7 @@ class Call:
 
 
 def read_log(path: Path) -> list[list[Call]]:
-    """The calls for each file, in order."""
+    """The calls for each file, in order. Of a process that was killed as it began an entry all of that is zeros."""
     calls: list[list[Call]] = [[] for _ in FILES]
     with path.open("rb") as file:
         end, = struct.unpack("=Q", file.read(8))
@@ -39,7 +40,8 @@ def read_log(path: Path) -> list[list[Call]]:
     while place + ENTRY.size <= len(whole):
         size, state, which, op, at, length, begun, ended = ENTRY.unpack_from(whole, place)
         if size == 0:
-            break
+            place += ALIGNED
+            continue
         data = whole[place + ENTRY.size:place + ENTRY.size + length] if op == WRITE and state != 3 else b""
         if state and which < len(FILES):
             calls[which].append(Call(op, at, data, length, begun, ended, state == 3))

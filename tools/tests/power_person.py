@@ -145,10 +145,21 @@ class Person:
     def stands(self, text: str) -> str:
         """Whether the motors stand where the record says."""
         said = re.findall(r"By the record the motors stand at X (\S+) Y (\S+) Z (\S+), behind", text)[-1]
-        if self.trusts or steps_of(said) == self.ledger.steps:
+        if self.trusts:
+            return "yes"
+        if steps_of(said) == self.ledger.steps:
+            self.takes_for_left()
             return "yes"
         self.measures = self.leaves = True
         return "no"
+
+    def takes_for_left(self) -> None:
+        """The path may have come to one place more than once: the way begins where the record has the motors, and what
+        is made since then is made once more."""
+        ledger, left = self.ledger, self.left_at()
+        if self.job.over == "file" and not ledger.is_by_hand and self.job.uncut.points[left] == ledger.steps and (
+                ledger.on is None or left < ledger.on):
+            ledger.on = left
 
     def begins(self) -> None:
         """The cut goes on: everything before is made, and the motors are where it begins."""

@@ -7,6 +7,7 @@ import sys
 import tempfile
 import unittest
 from pathlib import Path
+from types import SimpleNamespace
 from unittest.mock import patch
 
 sys.path.insert(0, str(Path(__file__).resolve().parent))
@@ -14,7 +15,7 @@ sys.path.insert(0, str(Path(__file__).resolve().parent))
 import power
 from power_axes import HOME, Screws
 from power_chain import Chain, Plan
-from power_disk import CUT, SYNC, WRITE, Call, left_of, mark_lasting
+from power_disk import CUT, ENTRY, HEAD, SYNC, WRITE, Call, left_of, mark_lasting, read_log
 from power_path import Ledger, Legs, Uncut, Wrong, memory, run_uncut
 from power_person import Person
 from power_shop import Lost
@@ -68,6 +69,29 @@ class Judge(unittest.TestCase):
         self.assertEqual(known.up, [1, 0, 4])
         self.assertEqual(known.table([b"P 1 1 -1 50", up]), [b"P 0 1 -1 50", up])
 
+    def test_twice_at_one_place(self) -> None:
+        """The path comes twice to one place, and the record is of the first time there: with a yes what lies between is
+        made once more. A record of what isn't made yet, and one that is trusted, move nothing."""
+        up, down, wait, over = b"P 0 0 1 50", b"P 0 0 -1 50", b"D 9", b"P 1 0 0 50"
+        said = "By the record the motors stand at X 0.000000 Y 0.000000 Z 0.000000, behind line"
+        with tempfile.TemporaryDirectory(dir=memory()) as name:
+            folder = Path(name)
+            for moves, on, kept, trusts in (([up, down, over], 2, 0, False), ([wait, wait, over], 1, 0, False),
+                                            ([up, down, over], 0, 2, False), ([up, down, over], 2, 0, True)):
+                ledger = Ledger(Uncut(), on=on, made=on)
+                for line in moves:
+                    ledger.uncut.take(line)
+                (folder / "out").write_bytes(b"".join(line + b"\n" for line in moves))
+                (folder / "position").write_text(f"lines {kept}\n")
+                person = Person(SimpleNamespace(folder=folder), power.Job(b"", ledger.uncut), ledger, Screws(),
+                                random.Random(1), trusts, False)
+                self.assertEqual(person.stands(said), "yes")
+                if trusts or kept > on:
+                    self.assertRaises(Wrong, ledger.goes, moves[kept:], 3)
+                    continue
+                ledger.goes(moves[kept:], 3)
+                self.assertEqual((ledger.on, ledger.made, ledger.again), (3, 3, on))
+
     def test_typed(self) -> None:
         """No jog at a stop, up to 100 steps along X, cut or whole, comes to where the line leads that is typed there."""
         for seed in range(300):
@@ -96,6 +120,20 @@ class Judge(unittest.TestCase):
         self.assertEqual(left["first"], first)
         self.assertLess(first | {b"aab\0\0\0cccc", b"aabbbbccd"}, left["torn"])
         self.assertEqual(left["hole"], {head + tail for head in (b"aabbbb", b"aa\0\0\0\0") for tail in (b"ccdddd",)})
+
+    def test_log(self) -> None:
+        """A process that was killed as it had room in the log, and had told nothing yet: what others tell behind that
+        counts, and the rest of the map doesn't."""
+        def entry(data: bytes) -> bytes:
+            """A write to OUT, as `power_disk.c` tells it."""
+            size = (ENTRY.size + len(data) + 7) // 8 * 8
+            return (ENTRY.pack(size, 2, 1, WRITE, 0, len(data), 1, 2) + data).ljust(size, b"\0")
+
+        told = entry(b"one") + bytes(len(entry(b"never"))) + entry(b"two") + bytes(ENTRY.size)
+        with tempfile.TemporaryDirectory(dir=memory()) as name:
+            log = Path(name, "log")
+            log.write_bytes(HEAD.pack(HEAD.size + len(told), *[0] * 70) + told + entry(b"behind the end"))
+            self.assertEqual([[call.data for call in calls] for calls in read_log(log)], [[], [b"one", b"two"], []])
 
 
 class Power(unittest.TestCase):

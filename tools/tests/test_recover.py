@@ -46,7 +46,7 @@ from ngc_tools.operator.sentences import GO_ON, LOOK, LOOK_AGAIN, LOOK_SWITCHED,
 from ngc_tools.operator.synced import SyncedLink
 from ngc_tools.operator.way_back import WayBack
 from ngc_tools.link.out_file import OutFile, born_ns
-from ngc_tools.link.progress import Report
+from ngc_tools.link.progress import NoAnswer, Report
 
 # A path by hand: spindle on, +X +X at 50 us, a wait, +Y at 200 us, +X -Z at 70 us. It leads to 3 1 -1.
 PATH = b"S 1 900.000000 0 0 0 0\nP 1 0 0 50\nP 1 0 0 50\nD 9\nP 0 1 0 200\nP 1 0 -1 70\n"
@@ -1608,6 +1608,29 @@ class EndsWhereItBegan(WithOperator):
                 operator.do(typed)
                 self.assertIn("they aren't put back, and nothing is stored: ", face.said[-1])
         self.assertEqual((len(face.asked), operator.console.status().entries, self.lines()), (3, entries, []))
+
+    def test_put_back_once(self) -> None:
+        """Attempts that failed as the disk was full after a part, as it couldn't be synced, and as the player didn't
+        answer behind that, leave nothing: the lines are put back once."""
+        lines, real = self.all_lost(), os.pwrite
+        operator, face = self.operate(*["yes"] * 7)
+
+        def part(file: int, text: bytes, at: int) -> int:
+            """Writes 15 bytes, and then nothing more."""
+            if at:
+                raise OSError(errno.ENOSPC, "No space left on device")
+            return real(file, text[:15], at)
+
+        for where, what, how in ((os, "pwrite", part), (os, "fsync", OSError(errno.EIO, "Input/output error")),
+                                 (OutFound, "look", NoAnswer("the player is gone"))):
+            with patch.object(where, what, side_effect=how):
+                operator.do("tool 1 0.5")
+                self.assertIn("they aren't put back, and nothing is stored: ", face.said[-1])
+        operator.do("tool 1 0.5")
+        self.assertTrue(face.said[-1].startswith("nothing is done: lines stand in OUT that no motor"), face.said)
+        self.assertEqual((len(face.asked), self.lines()), (4, lines))
+        operator.do("recover")
+        self.assertEqual(self.pins(), lines)
 
     def test_not_noted(self) -> None:
         """Where it can't be noted that is said once, and the work goes on; what isn't a note isn't written over."""

@@ -254,11 +254,18 @@ class OutFound:
                 self.link.follow()
 
     def put_back(self) -> None:
-        """Puts the lines that OUT lost behind it; they aren't carried out yet. Raises NoAnswer, OSError."""
-        if self.recovery.beginning:
-            self.link.is_following = False
-            self.link.append(self.recovery.beginning.missing)
-            self.look()
+        """Puts the lines that OUT lost behind what it had as it was looked at; they aren't carried out yet. What an
+        attempt that failed has put there is cut off before. Raises NoAnswer, OSError."""
+        found = self.recovery.beginning
+        if found is None or not found.missing:
+            return
+        self.link.is_following = False
+        end = found.size - len(found.missing)
+        if self.link.size() > end:
+            self.link.await_kept(end)
+            self.link.cut(end)
+        self.link.append(found.missing)
+        self.look()
 
     def is_left(self) -> bool:
         """Whether lines stand in OUT that no motor carried out, or are taken back. Raises OSError."""
