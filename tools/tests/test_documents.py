@@ -370,7 +370,8 @@ class Readme(Documents):
     def test_contract(self) -> None:
         """The contract is that of the code."""
         code = (TOOLS.parent / "crates/ng_step/src/stepper.rt").read_text()
-        for line in blocks(self.text)[1].splitlines():
+        contract, = (block for block in blocks(self.text) if block.startswith("pub fn"))
+        for line in contract.splitlines():
             self.assertIn(line.partition("  //")[0].rstrip() + "\n", code)
 
     def test_job(self) -> None:

@@ -689,6 +689,7 @@ class Power(InBrowser):
         self.assertIn("Given back, as it was: optional stop.", browser.js("document.querySelector('#over .words')"
                                                                           ".textContent"))
         self.assertTrue(browser.js("ngc.state.optional"))
+        self.another_sheet()
         self.not_rehearsed()
         self.press_amid_news("Next")
         self.assertTrue(browser.js("document.querySelector('#over .foot .go').disabled"))
@@ -723,6 +724,16 @@ class Power(InBrowser):
         browser.wait("ngc.state.does === 'running' && ngc.state.motors[0] > 0.02 && ngc.state.spindle === 1")
         self.assertFalse(browser.js("document.getElementById('over').checkVisibility()"))
         self.no_complaints()
+
+    def another_sheet(self) -> None:
+        """Another sheet in place of these steps: they are put off, and come again."""
+        browser = self.browser
+        browser.js("document.getElementById('runs').click()")
+        browser.wait("document.querySelector('#over h1')?.textContent === 'Record of runs'")
+        browser.press("Back", "#over .foot button")
+        browser.wait("!document.getElementById('over').checkVisibility()")
+        browser.press("Recover", "#run")
+        browser.wait("document.querySelector('#over .facts')?.textContent.includes('It begins at')")
 
     def moved_meanwhile(self) -> None:
         """Motors that come to rest only now: what was confirmed before isn't any more, and what nobody wrote goes with

@@ -49,6 +49,7 @@ export class Recovery {
     const sight = new Sight();
     this.picture = sight.picture;
     this.sheet = sheet.open('After the loss of power', [], [], sight.box);
+    sheet.ending(() => { if (this.isOpen) Object.assign(this, { isOpen: false, isLater: true }); }); // for another one
     this.sheet.head.append(this.steps);
     this.job();
     sight.look(true);
