@@ -257,7 +257,7 @@ class PowerOverPipe(Power):
 
     OUT = "axis"
     TEXT = "G17 G21 G90 G94\nG0 X0 Y0 Z0\nG1 Z-1 F600\n" + "".join(
-        f"G1 X{hundredths / 100:.2f} F3\n" for hundredths in range(4, 120, 4)) + "M2\n"
+        f"G1 X{hundredths / 100:.2f} F3\n" for hundredths in range(2, 120, 4)) + "M2\n"
 
     def test_amid(self) -> None:
         """That is shown as not cut, and said."""
