@@ -940,6 +940,32 @@ class OnTheWay(InBrowser):
         self.no_complaints()
 
 
+class LinesLeft(InBrowser):
+    """Power is lost behind the last line of a job, with motors that have ramps."""
+
+    OUT = "out"
+    MACHINE = Held.MACHINE
+
+    def test_given_back(self) -> None:
+        """Where lines alone are left, the sheet that leads on says what is given back to them."""
+        browser = self.browser
+        self.load("G17 G21 G90 G94\nG0 X0 Y0 Z0\nG1 X2 F12\nM2\n", 4)
+        browser.press("\u2212", "#override button")
+        browser.wait("ngc.state.percent === 90")
+        browser.press("Run", "#run")
+        browser.wait("ngc.state.half === 'none' && ngc.state.motors[0] > 0.1 && ngc.state.behind > 0")
+        self.wait_for("the record has it", lambda: self.recorded().at_nm[0] > 100_000)
+        before = browser.js("ngc.state.session")
+        self.pull()
+        self.begin_again()
+        browser.wait(f"ngc.state?.session && ngc.state.session !== '{before}' && ngc.state.recover?.left")
+        self.assertEqual(browser.js("ngc.state.half"), "none")
+        browser.press("Recover", "#run")
+        self.assertIn("Given back, as it was: feed 90 %.", browser.js("document.querySelector('#over .words')"
+                                                                      ".textContent"))
+        self.no_complaints()
+
+
 class PowerOverPipe(InBrowser):
     """Power is lost with a pipe as OUT: what no motor carried out is never cut."""
 

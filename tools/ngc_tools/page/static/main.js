@@ -20,7 +20,7 @@ import { StockSheet } from './stock_sheet.js';
 import { dead, means, rest } from './steady.js';
 import * as tools from './tools.js';
 import { place, unit } from './units.js';
-import { lostOf } from './ways.js';
+import { givenBack, lostOf } from './ways.js';
 
 const app = {
   state: null, job: null, neverCut: null, travel: null, programId: null, jobId: null, failed: '', asked: '',
@@ -300,7 +300,7 @@ function showJob(got) {
 function takeUpLines() {
   const { words } = app.state.recover, does = what => () => { sheet.close(); asks(what); };
   const drop = sheet.button('Drop', does('drop'), !app.state.behind); // on a way that was held nothing is cut off
-  sheet.open('Lines that no motor carried out', [el('p', { class: 'asked' }, words),
+  sheet.open('Lines that no motor carried out', [el('p', { class: 'asked' }, words), ...givenBack(app.state),
     sheet.said('Recover lets the motors go there, each step asked. Drop cuts these lines off, and nothing makes them '
       + 'any more.')],
   [sheet.button('Back', sheet.close), sheet.gap('Nothing moves yet.'), drop,

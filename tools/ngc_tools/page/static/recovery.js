@@ -220,9 +220,7 @@ export class Recovery {
         ['It begins at', found?.begins?.length && sheet.code(point(found.begins))], ['Was on there', found?.comes_on],
         ['From there to the end', found?.rest_us && lasting(found.rest_us)]]),
       found ? found.refused && sheet.warning(found.refused, 'bad') : this.notRehearsed(),
-      state.given_back.length && sheet.said(`Given back, as it was: ${state.given_back.join(', ')}.`),
-      state.not_given_back.length && sheet.warning('Not given back, since the player doesn\u2019t take it: '
-        + `${state.not_given_back.join(', ')}.`, 'bad'),
+      ...ways.givenBack(state),
       ...ways.neverCut(this.app.neverCut),
       sheet.soft('In the picture solid is done, amber was under way, pale is left. The amber segment is made again '
         + 'from its beginning.')];

@@ -16,6 +16,11 @@ export function neverCut(found) {
   return [last, ...found.earlier.map(one => red(one.words))];
 }
 
+// What was chosen before power was lost, and is given back or isn't.
+export const givenBack = ({ given_back: given, not_given_back: lost }) => [
+  given.length && sheet.said(`Given back, as it was: ${given.join(', ')}.`),
+  lost.length && sheet.warning(`Not given back, since the player doesn\u2019t take it: ${lost.join(', ')}.`, 'bad')];
+
 // Its paths, each of points in micrometres.
 export const lostOf = found => [found, ...found?.earlier ?? []].map(one => one?.points ?? [])
   .filter(points => points.length);
