@@ -7,6 +7,7 @@ import shutil
 import subprocess
 import sys
 import tempfile
+import time
 import unittest
 from pathlib import Path
 
@@ -154,6 +155,20 @@ class Files(InFolder):
         self.assertTrue(done.stderr.endswith("ngc-address: error: unrecognized arguments: --nothing\n"))
         said = subprocess.run([script, "--help"], capture_output=True, text=True, check=True).stdout
         self.assertRegex(said, r"(?s)^usage: .*\nexample:\n  ngc-address\n\nexit status:\n  0  ")
+
+    def test_address_to_come(self) -> None:
+        """A page that is about to begin is waited for, and one that doesn't run isn't."""
+        script = (PACKAGING / "files/ngc-address").read_text()
+        self.assertEqual(script.count("/run/ngc-page/address"), 1)
+        place = Path(self.folder, "page")
+        words = ["sh", "-c", script.replace("/run/ngc-page/address", f"{place}/address")]
+        self.assertEqual(subprocess.run(words, capture_output=True).returncode, 1)
+        place.mkdir()
+        child = subprocess.Popen(words, stdout=subprocess.PIPE, text=True)
+        time.sleep(1)
+        (place / "to come").write_text("http://127.0.0.1:1/key/\n")
+        (place / "to come").rename(place / "address")
+        self.assertEqual((child.communicate(timeout=60)[0], child.returncode), ("http://127.0.0.1:1/key/\n", 0))
 
     def test_runtime(self) -> None:
         """What stands in for the kit's C parts on 64-bit ARM, at its edges: 0 bytes, refusals, words that fit exactly.
