@@ -41,7 +41,7 @@ from ngc_tools.ngc.handed_out import Finder, FileRecord, _only
 from ngc_tools.operator.meter import Meter
 from ngc_tools.operator.operator import Operator
 from ngc_tools.operator.past import along_out, by_rate
-from ngc_tools.operator.recovery import Looking, OutFound, Recovery
+from ngc_tools.operator.recovery import NOT_KEPT, Looking, OutFound, Recovery
 from ngc_tools.operator.sentences import GO_ON, LOOK, LOOK_AGAIN, LOOK_SWITCHED, SWITCHED_THERE
 from ngc_tools.operator.synced import SyncedLink
 from ngc_tools.operator.way_back import WayBack
@@ -1044,7 +1044,7 @@ class Recovering(WithOperator):
         Path("out").write_text("P 1 0 0 50\n" * 9)
         counts = [99, 99, 23, 22]
         link = SyncedLink.__new__(SyncedLink)
-        link.__dict__.update(file=os.open("out", os.O_RDWR), notes=None, patience_s=60, follow=lambda: None,
+        link.__dict__.update(file=os.open("out", os.O_RDWR), notes=None, asked=None, patience_s=60, follow=lambda: None,
                              kept=lambda: (0, counts.pop(0)))
         self.addCleanup(os.close, link.file)
         OutFound(link, None, Recovery(), []).cut(22)
@@ -1597,6 +1597,99 @@ class EndsWhereItBegan(WithOperator):
         operator.do("tool 1 0.5")
         operator.do("tool 2 0.5")
         self.assertEqual((len(face.asked), operator.stored().tools_nm[:2]), (1, [500_000] * 2))
+
+    def unanswered(self, times: int = 3) -> list[str]:
+        """So many sessions begin and end, and nobody answers. Returns what the last one says."""
+        for _ in range(times):
+            operator, face = self.operate()
+            operator.console.kill()
+            self.player.kill()
+            self.player.communicate()
+        return face.said
+
+    def asks(self, said: list[str]) -> bool:
+        """Whether it is said that lines are lost, of which it is asked whether they are put back."""
+        return any(" that were handed out last, and no motor" in text for text in said)
+
+    def test_without_an_answer(self) -> None:
+        """They are asked about after any number of power ons at which nobody answered, also amid a session that is
+        begun anew."""
+        lines = self.all_lost()
+        self.unanswered()
+        operator, face = self.operate("yes", "yes", "yes", "yes")
+        operator.following.begin()
+        self.assertEqual(sum(map(self.asks, zip(face.said))), 2, face.said)
+        operator.do("recover")
+        self.assertEqual((self.pins(), self.lines(), Path("mill.dev.asked").exists()), (lines, lines, False))
+
+    def test_block_without_an_answer(self) -> None:
+        """The same of lines before a block that is half-done."""
+        self.half_done()
+        whole = self.lines()
+        Path("out").write_text("")
+        self.record_of(0, (0, 0, 0))
+        self.unanswered()
+        operator, face = self.operate(*["yes"] * 5)
+        operator.do("recover")
+        self.assertIn("out has none of the 3 lines that were handed out before the half-done block", face.asked[0][0])
+        self.assertEqual([line for line in self.pins() if line[0] == "P"], whole[:3] + ["P 0 0 1 50"] * 20)
+        self.assertFalse(Path("mill.dev.asked").exists())
+
+    def test_put_back_in_part(self) -> None:
+        """Where power is lost as they are put back, the rest is put back without a question: it is that OUT."""
+        lines = self.all_lost()
+        self.unanswered()
+        Path("out").write_text("".join(f"{line}\n" for line in lines[:2]) + lines[2][:5])
+        operator, face = self.operate("yes", "yes", "yes")
+        self.assertIn(f"out: {len(lines) - 2} lines that were handed out were lost with the power, and are put back:"
+                      " ngc run hands out the same ones again", face.said)
+        self.assertFalse(Path("mill.dev.asked").exists())
+        operator.do("recover")
+        self.assertEqual(self.pins(), lines)
+
+    def test_gone_on_without_them(self) -> None:
+        """A no is an answer once something is stored, and before that none."""
+        self.all_lost()
+        operator, _ = self.operate("no", "no")
+        operator.do("tool 1 -1")
+        self.assertTrue(Path("mill.dev.asked").exists())
+        operator.do("tool 1 0.5")
+        self.assertFalse(Path("mill.dev.asked").exists())
+        operator.console.kill()
+        self.player.kill()
+        self.player.communicate()
+        self.assertFalse(self.asks(self.unanswered(1)))
+
+    def test_asked_of_another(self) -> None:
+        """What is kept of another device, isn't whole, or is something else isn't gone by; the last of them stays."""
+        self.all_lost()
+        self.unanswered(1)
+        kept = Path("mill.dev.asked").read_bytes()
+        Path("mill.dev").unlink()
+        self.device()
+        for text, stays in ((kept, False), (kept[:-9], False), (kept[:20], False), (b"G0\n", True), (b"", True)):
+            Path("mill.dev.asked").write_bytes(text)
+            self.assertFalse(self.asks(self.unanswered(1)), text[:20])
+            self.assertEqual(Path("mill.dev.asked").exists(), stays, text[:20])
+
+    def test_not_kept(self) -> None:
+        """Where the device can't be kept that is said, the session begins, and what stood there stays."""
+        self.all_lost()
+        for number, why in ((errno.ENOSPC, "No space left on device"), (errno.EIO, "Input/output error")):
+            with patch("ngc_tools.formats.asked.write_new", side_effect=OSError(number, why, "mill.dev.asked")):
+                said = self.unanswered(1)
+            self.assertEqual((said.count(f"{NOT_KEPT}: [Errno {number}] {why}: 'mill.dev.asked'"), self.asks(said)),
+                             (1, True), said)
+        self.assertFalse(Path("mill.dev.asked").exists())
+
+    def test_another_is_kept_there(self) -> None:
+        """Nor is what somebody else has there written over."""
+        self.all_lost()
+        Path("mill.dev.asked").write_text("a drawing\n")
+        said = self.unanswered(1)
+        self.assertIn(f"{NOT_KEPT}: [Errno 17] it isn't what is kept there, and isn't written over: 'mill.dev.asked'",
+                      said)
+        self.assertEqual((self.asks(said), Path("mill.dev.asked").read_text()), (True, "a drawing\n"))
 
     def test_no_room_to_put_back(self) -> None:
         """Where the disk is full nothing is stored, whatever is typed, and it is asked again."""

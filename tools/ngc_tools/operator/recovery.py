@@ -9,6 +9,7 @@ from functools import cached_property
 from math import isqrt
 
 from ngc_tools.failure import Failure
+from ngc_tools.files import NotWritten
 from ngc_tools.formats.device import Device
 from ngc_tools.formats.out import OFF, BadLine, Switch
 from ngc_tools.formats.out_note import OutNote
@@ -32,6 +33,9 @@ is cut off there, with {lines} lines behind them that no motor carried out"""
 NEVER = """\
 the device doesn't tell any more what was handed out from there on. Up to the half-done segment, or without one up to
 the end, it is never cut: at most {lines} lines, {mm} mm"""
+NOT_KEPT = """\
+the device isn't kept as it was found, by which these lines are told: where nobody answers, they are forgotten after
+another power on"""
 _NO_WAY = Way(0, 0, 0, 0, 0, 0, (0, 0, 0))
 
 
@@ -174,11 +178,15 @@ class OutFound:
     def of(ngc: str, settings: str, link: SyncedLink, device: Device | None, is_whole: bool = False) -> "OutFound":
         """Looks, and mends. The player goes on at once where no line is left. `is_whole`: OUT has all that was handed
         out. Raises NoAnswer, BadSettings, OSError."""
-        looking = Looking(ngc, settings, device.image, link.noted(), is_whole) if device else None
+        kept = link.asked.before(device) if device and link.asked else None  # nothing was handed out since
+        is_whole = is_whole and kept is None
+        looking = Looking(ngc, settings, (kept or device).image, link.noted(), is_whole) if device else None
         found = OutFound(link, looking, Recovery(), [])
         found.look()
         lost = found.recovery.beginning.missing if found.recovery.beginning else b""
         found._say_hole()
+        if device:
+            found._keep_asked(device, kept)
         if lost and not found.recovery.beginning.is_new:
             found.put_back()
             found.said.append(f"{link.out}: {lost.count(10)} lines that were handed out were lost with the power, and"
@@ -187,6 +195,21 @@ class OutFound:
         if not found.is_left():
             link.follow()
         return found
+
+    def _keep_asked(self, device: Device, kept: Device | None) -> None:
+        """Keeps the device as it was found while it is asked whether lines are put back, unless that is `kept` already;
+        what was kept and is of use no more is removed."""
+        beginning, file = self.recovery.beginning, self.link.asked
+        if file is None:
+            return
+        if beginning is None or not beginning.missing:
+            if beginning is not None or kept is None:
+                file.remove()
+        elif beginning.is_new and kept is None:
+            try:
+                file.keep(device)
+            except (NotWritten, OSError) as error:
+                self.said.append(f"{NOT_KEPT}: {error}")
 
     def _say_hole(self) -> None:
         """Says what the disk lost in the midst of OUT, and what that costs."""
@@ -266,6 +289,7 @@ class OutFound:
             self.link.cut(end)
         self.link.append(found.missing)
         self.look()
+        self.link.answered()
 
     def is_left(self) -> bool:
         """Whether lines stand in OUT that no motor carried out, or are taken back. Raises OSError."""
@@ -304,5 +328,6 @@ class OutFound:
             self.link.await_kept(size)
             self._note_cut(size)
             self.link.cut(size)
+        self.link.answered()
         self.is_sent = False
         self.link.follow()
