@@ -1702,19 +1702,56 @@ class EndsWhereItBegan(WithOperator):
                 self.assertIn("they aren't put back, and nothing is stored: ", face.said[-1])
         self.assertEqual((len(face.asked), operator.console.status().entries, self.lines()), (3, entries, []))
 
-    def test_put_back_once(self) -> None:
-        """Attempts that failed as the disk was full after a part, as it couldn't be synced, and as the player didn't
-        answer behind that, leave nothing: the lines are put back once."""
-        lines, real = self.all_lost(), os.pwrite
-        operator, face = self.operate(*["yes"] * 7)
+    def test_no_after_a_failure(self) -> None:
+        """Who says no once they couldn't be put back goes on without them: what is handed out then is carried out."""
+        self.all_lost()
+        operator, face = self.operate("yes", "no")
+        link = operator.recover.found.link
+        with patch.object(os, "pwrite", side_effect=self.part()):
+            operator.do("tool 1 0.5")
+        self.assertIn("they aren't put back, and nothing is stored: ", face.said[-1])
+        self.assertEqual((link.is_following, link.size(), operator.recover.is_left()), (True, 0, False))
+        operator.do("G0 X0.002")
+        self.assertEqual((self.pins(), self.lines()), (["P 1 0 0 50"] * 2,) * 2, face.said)
 
-        def part(file: int, text: bytes, at: int) -> int:
-            """Writes 15 bytes, and then nothing more."""
+    def test_part_that_stays(self) -> None:
+        """Where the part that was written can't be cut off either, nothing is done behind it before a no or `drop` has
+        cut it off."""
+        self.all_lost()
+        operator, face = self.operate("yes", "no", "no")
+        link = operator.recover.found.link
+        with patch.object(os, "pwrite", side_effect=self.part()), \
+                patch.object(os, "ftruncate", side_effect=OSError(errno.EIO, "Input/output error")):
+            for typed in ("tool 1 0.5", "reference 0 0 0"):
+                operator.do(typed)
+                self.assertIn("they aren't put back, and nothing is stored: ", face.said[-1])
+            self.assertEqual((link.is_following, link.size(), operator.recover.is_left()), (False, 15, True))
+            operator.do("drop")
+            self.assertEqual(face.said[-1], "[Errno 5] Input/output error")
+        operator.do("drop")
+        self.assertEqual(face.said[-1], "no line is left in OUT that no motor carried out")
+        self.assertEqual((link.is_following, link.size(), Path("mill.dev.asked").exists()), (True, 0, True))
+        operator.do("G0 X0.002")
+        self.assertEqual((self.pins(), self.lines(), len(face.asked)), (["P 1 0 0 50"] * 2,) * 2 + (3,), face.said)
+
+    def part(self) -> Callable[[int, bytes, int], int]:
+        """What writes 15 bytes, and then nothing more."""
+        real = os.pwrite
+
+        def write(file: int, text: bytes, at: int) -> int:
+            """Writes them."""
             if at:
                 raise OSError(errno.ENOSPC, "No space left on device")
             return real(file, text[:15], at)
 
-        for where, what, how in ((os, "pwrite", part), (os, "fsync", OSError(errno.EIO, "Input/output error")),
+        return write
+
+    def test_put_back_once(self) -> None:
+        """Attempts that failed as the disk was full after a part, as it couldn't be synced, and as the player didn't
+        answer behind that, leave nothing: the lines are put back once."""
+        lines = self.all_lost()
+        operator, face = self.operate(*["yes"] * 7)
+        for where, what, how in ((os, "pwrite", self.part()), (os, "fsync", OSError(errno.EIO, "Input/output error")),
                                  (OutFound, "look", NoAnswer("the player is gone"))):
             with patch.object(where, what, side_effect=how):
                 operator.do("tool 1 0.5")

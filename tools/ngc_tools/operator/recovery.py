@@ -3,7 +3,7 @@
 Mended is what moves nothing: a part of a line at the end is cut off, and lines that were handed out before the open
 segment and are lost with the power are put behind it again."""
 from collections.abc import Iterator
-from contextlib import contextmanager
+from contextlib import contextmanager, suppress
 from dataclasses import dataclass
 from functools import cached_property
 from math import isqrt
@@ -23,7 +23,7 @@ from ngc_tools.ngc.copies import CommandRefused
 from ngc_tools.ngc.handed_out import SegmentBeginning, Finder, FileRecord
 from ngc_tools.operator.feeds import cut_feed
 from ngc_tools.operator.synced import SyncedLink
-from ngc_tools.link.progress import HeldBack, Report
+from ngc_tools.link.progress import HeldBack, NoAnswer, Report
 from ngc_tools.link.way import Way, count_lines, is_switch_between, look, moves, slowed, switched_at
 
 Point = tuple[int, int, int]
@@ -173,6 +173,7 @@ class OutFound:
     is_sent: bool = False  # the motors are on a way, and what stands behind its end isn't cut off yet
     as_left: bool = False  # nothing was done since the program was left for its next line
     _at_nm: Point = (0, 0, 0)
+    _attempt: tuple[int, bool] | None = None  # OUT's bytes before lines are put back, and whether the player followed
 
     @staticmethod
     def of(ngc: str, settings: str, link: SyncedLink, device: Device | None, is_whole: bool = False) -> "OutFound":
@@ -277,19 +278,42 @@ class OutFound:
                 self.link.follow()
 
     def put_back(self) -> None:
-        """Puts the lines that OUT lost behind what it had as it was looked at; they aren't carried out yet. What an
-        attempt that failed has put there is cut off before. Raises NoAnswer, OSError."""
-        found = self.recovery.beginning
+        """Puts the lines that OUT lost behind what it had as it was looked at; they aren't carried out yet. An attempt
+        that fails is undone, at once or as soon as that can be. Raises NoAnswer, OSError."""
+        self.undo()
+        kept, found = self.recovery, self.recovery.beginning
         if found is None or not found.missing:
             return
+        self._attempt = found.size - len(found.missing), self.link.is_following
         self.link.is_following = False
-        end = found.size - len(found.missing)
-        if self.link.size() > end:
-            self.link.await_kept(end)
-            self.link.cut(end)
-        self.link.append(found.missing)
-        self.look()
+        try:
+            self._cut_behind(self._attempt[0])
+            self.link.append(found.missing)
+            self.look()
+        except (NoAnswer, OSError):
+            self.recovery = kept
+            with suppress(NoAnswer, OSError):
+                self.undo()
+            raise
+        self._attempt = None
         self.link.answered()
+
+    def undo(self) -> None:
+        """Cuts off what an attempt to put lines back has left, if one failed: then the player goes on as before it.
+        Raises NoAnswer, OSError."""
+        if self._attempt is None:
+            return
+        size, is_following = self._attempt
+        try:
+            self._cut_behind(size)
+        finally:
+            if self.link.size() <= size:
+                self.link.is_following, self._attempt = is_following, None
+
+    def _cut_behind(self, size: int) -> None:
+        if self.link.size() > size:
+            self.link.await_kept(size)
+            self.link.cut(size)
 
     def is_left(self) -> bool:
         """Whether lines stand in OUT that no motor carried out, or are taken back. Raises OSError."""
@@ -329,5 +353,5 @@ class OutFound:
             self._note_cut(size)
             self.link.cut(size)
         self.link.answered()
-        self.is_sent = False
+        self.is_sent, self._attempt = False, None
         self.link.follow()
