@@ -148,7 +148,7 @@ class Job:
     def __init__(self, folder: Path, uncut: Uncut, options: Options, chance: random.Random, result: Result) -> None:
         self.folder, self.uncut, self.options, self.chance, self.result = folder, uncut, options, chance, result
         self.made: list[bytes] = []
-        for name in ("job.dev", "job.dev.out", "out", "record"):
+        for name in ("job.dev", "job.dev.out", "job.dev.asked", "out", "record"):
             (folder / name).unlink(missing_ok=True)
         subprocess.run([options.ngc, "format", folder / "job.dev"], check=True)
         (folder / "out").touch()

@@ -97,6 +97,40 @@ class Found(InFolder):
             search.look(Report(carried, carried, False, " ".join(at), "axis"))
             self.assertEqual((search.awaited()["lines"], Path("mill.dev.never-cut").exists()), (lines, lines > 0))
 
+    def search(self, image: bytes, report: Report) -> NeverCutSearch:
+        """What a server that begins finds, with its device and the player as they are then."""
+        search = NeverCutSearch(Here(), PageFace())
+        asked = LossRequest(ngc(), "first.toml", image, report.at.split(), 100)
+        search.begin(Losses("mill.dev"), BACK.encode(), asked, report)
+        return search
+
+    def test_in_hand_over_kills(self) -> None:
+        """What the player has in hand over kills of the server is told once it let go of it, after any number of them,
+        and also where one came before it was told. Nobody knows then how much that was: it is told by the place alone.
+        """
+        self.lose_power(BACK, "X0.02")
+        in_hand, let_go = (Report(carried, 24 if behind else carried, behind, f"0.00{x} 0 0", "axis")
+                           for carried, behind, x in ((12, True, 8), (16, False, 4)))
+        for report in (in_hand, in_hand, in_hand, let_go, let_go):
+            with patch.object(Here, "begin", side_effect=NotDone("the server is killed")):
+                self.assertFalse((self.search(Path("mill.dev").read_bytes(), report).awaited() or {}).get("lines"))
+            self.run_ngc("quit\n")
+        told = self.search(Path("mill.dev").read_bytes(), let_go).awaited()
+        self.assertEqual((told["lines"], Path("mill.dev.asked").exists()), (16, False), told)
+        self.assertIn("so it may be as few as 0", told["words"])
+
+    def test_given_up(self) -> None:
+        """Once the program is loaded anew, or the block is given up, the device isn't kept."""
+        self.lose_power(BACK, "X0.02")
+        report = Report(12, 24, True, "0.008 0 0", "axis")
+        self.search(self.image, report).forget()
+        self.assertFalse(Path("mill.dev.asked").exists())
+        self.search(self.image, report)
+        self.assertTrue(Path("mill.dev.asked").exists())
+        self.run_ngc("abandon\nquit\n")
+        self.search(Path("mill.dev").read_bytes(), report)
+        self.assertFalse(Path("mill.dev.asked").exists())
+
     def test_block_delete(self) -> None:
         """Lines with a slash that were left out aren't on the path."""
         self.lose_power("G21 G90 G94\n/G1 Y0.02 F60\nG1 X0.04 F60\nX0.06\nM2\n", "X0.06", "on")
@@ -280,20 +314,49 @@ class OverPipe(Served):
         """What it lets go of then is lost, also where `ngc` was started twice meanwhile."""
         page = self.ends_at_change()
         self.ends(page)
-        self.assertEqual(page.post("stop"), (200, {}))
-        asked = {"question": page.asked()["question"]["id"], "yes": False}
-        self.assertEqual(page.post("answer", asked), (200, {"taken": True}))
+        self.lets_go(page)
         page.until("it is told", lambda _: "NEVER CUT: 82 lines" in page.said())
         self.assertEqual([loss.lines for loss in Losses("mill.dev").of(CHANGE.encode())], [82])
 
+    def test_killed(self) -> None:
+        """So it is where the server was killed three times before it let go of that."""
+        self.waits_at_change().close()
+        for _ in range(3):
+            for pid in (*self.children(), self.server.pid):
+                os.kill(pid, signal.SIGKILL)
+            self.server.wait()
+            self.begin_server()
+        page = self.page()
+        self.assertIsNone(self.never_cut(page))
+        self.lets_go(page)
+        page.until("it is told", lambda _: "NEVER CUT: 82 lines" in page.said())
+        self.assertEqual([loss.lines for loss in Losses("mill.dev").of(CHANGE.encode())], [82])
+
+    def begin_server(self) -> None:
+        """A server, with the player that goes on."""
+        self.server = self.start("ngc-page", "mill.dev", "first.toml", self.OUT, "--player", "progress", "--ngc", ngc(),
+                                 "--listen", "127.0.0.1:0")
+        self.address = self.server.stdout.readline().strip()
+
+    def lets_go(self, page: Page) -> None:
+        """The player lets go of what it has in hand."""
+        self.assertEqual(page.post("stop"), (200, {}))
+        asked = {"question": page.asked()["question"]["id"], "yes": False}
+        self.assertEqual(page.post("answer", asked), (200, {"taken": True}))
+
     def ends_at_change(self) -> Page:
         """A page whose program runs to its tool change; `ngc` ends while the player waits for the tool."""
+        page = self.waits_at_change()
+        self.ends(page)
+        return page
+
+    def waits_at_change(self) -> Page:
+        """A page whose program runs to its tool change."""
         page = self.page()
         page.post("tool", {"slot": 2, "length": "0"})
         self.load(page, CHANGE)
         self.assertEqual(page.post("run"), (200, {}))
         page.until("it waits", lambda state: state["waits"] and state["behind"] > 90)
-        self.ends(page)
         return page
 
     def ends(self, page: Page) -> None:

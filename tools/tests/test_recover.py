@@ -41,7 +41,7 @@ from ngc_tools.ngc.handed_out import Finder, FileRecord, _only
 from ngc_tools.operator.meter import Meter
 from ngc_tools.operator.operator import Operator
 from ngc_tools.operator.past import along_out, by_rate
-from ngc_tools.operator.recovery import Looking, OutFound, Recovery
+from ngc_tools.operator.recovery import NOT_KEPT, Looking, OutFound, Recovery
 from ngc_tools.operator.sentences import GO_ON, LOOK, LOOK_AGAIN, LOOK_SWITCHED, SWITCHED_THERE
 from ngc_tools.operator.synced import SyncedLink
 from ngc_tools.operator.way_back import WayBack
@@ -1044,7 +1044,7 @@ class Recovering(WithOperator):
         Path("out").write_text("P 1 0 0 50\n" * 9)
         counts = [99, 99, 23, 22]
         link = SyncedLink.__new__(SyncedLink)
-        link.__dict__.update(file=os.open("out", os.O_RDWR), notes=None, patience_s=60, follow=lambda: None,
+        link.__dict__.update(file=os.open("out", os.O_RDWR), notes=None, asked=None, patience_s=60, follow=lambda: None,
                              kept=lambda: (0, counts.pop(0)))
         self.addCleanup(os.close, link.file)
         OutFound(link, None, Recovery(), []).cut(22)
@@ -1598,6 +1598,99 @@ class EndsWhereItBegan(WithOperator):
         operator.do("tool 2 0.5")
         self.assertEqual((len(face.asked), operator.stored().tools_nm[:2]), (1, [500_000] * 2))
 
+    def unanswered(self, times: int = 3) -> list[str]:
+        """So many sessions begin and end, and nobody answers. Returns what the last one says."""
+        for _ in range(times):
+            operator, face = self.operate()
+            operator.console.kill()
+            self.player.kill()
+            self.player.communicate()
+        return face.said
+
+    def asks(self, said: list[str]) -> bool:
+        """Whether it is said that lines are lost, of which it is asked whether they are put back."""
+        return any(" that were handed out last, and no motor" in text for text in said)
+
+    def test_without_an_answer(self) -> None:
+        """They are asked about after any number of power ons at which nobody answered, also amid a session that is
+        begun anew."""
+        lines = self.all_lost()
+        self.unanswered()
+        operator, face = self.operate("yes", "yes", "yes", "yes")
+        operator.following.begin()
+        self.assertEqual(sum(map(self.asks, zip(face.said))), 2, face.said)
+        operator.do("recover")
+        self.assertEqual((self.pins(), self.lines(), Path("mill.dev.asked").exists()), (lines, lines, False))
+
+    def test_block_without_an_answer(self) -> None:
+        """The same of lines before a block that is half-done."""
+        self.half_done()
+        whole = self.lines()
+        Path("out").write_text("")
+        self.record_of(0, (0, 0, 0))
+        self.unanswered()
+        operator, face = self.operate(*["yes"] * 5)
+        operator.do("recover")
+        self.assertIn("out has none of the 3 lines that were handed out before the half-done block", face.asked[0][0])
+        self.assertEqual([line for line in self.pins() if line[0] == "P"], whole[:3] + ["P 0 0 1 50"] * 20)
+        self.assertFalse(Path("mill.dev.asked").exists())
+
+    def test_put_back_in_part(self) -> None:
+        """Where power is lost as they are put back, the rest is put back without a question: it is that OUT."""
+        lines = self.all_lost()
+        self.unanswered()
+        Path("out").write_text("".join(f"{line}\n" for line in lines[:2]) + lines[2][:5])
+        operator, face = self.operate("yes", "yes", "yes")
+        self.assertIn(f"out: {len(lines) - 2} lines that were handed out were lost with the power, and are put back:"
+                      " ngc run hands out the same ones again", face.said)
+        self.assertFalse(Path("mill.dev.asked").exists())
+        operator.do("recover")
+        self.assertEqual(self.pins(), lines)
+
+    def test_gone_on_without_them(self) -> None:
+        """A no is an answer once something is stored, and before that none."""
+        self.all_lost()
+        operator, _ = self.operate("no", "no")
+        operator.do("tool 1 -1")
+        self.assertTrue(Path("mill.dev.asked").exists())
+        operator.do("tool 1 0.5")
+        self.assertFalse(Path("mill.dev.asked").exists())
+        operator.console.kill()
+        self.player.kill()
+        self.player.communicate()
+        self.assertFalse(self.asks(self.unanswered(1)))
+
+    def test_asked_of_another(self) -> None:
+        """What is kept of another device, isn't whole, or is something else isn't gone by; the last of them stays."""
+        self.all_lost()
+        self.unanswered(1)
+        kept = Path("mill.dev.asked").read_bytes()
+        Path("mill.dev").unlink()
+        self.device()
+        for text, stays in ((kept, False), (kept[:-9], False), (kept[:20], False), (b"G0\n", True), (b"", True)):
+            Path("mill.dev.asked").write_bytes(text)
+            self.assertFalse(self.asks(self.unanswered(1)), text[:20])
+            self.assertEqual(Path("mill.dev.asked").exists(), stays, text[:20])
+
+    def test_not_kept(self) -> None:
+        """Where the device can't be kept that is said, the session begins, and what stood there stays."""
+        self.all_lost()
+        for number, why in ((errno.ENOSPC, "No space left on device"), (errno.EIO, "Input/output error")):
+            with patch("ngc_tools.formats.asked.write_new", side_effect=OSError(number, why, "mill.dev.asked")):
+                said = self.unanswered(1)
+            self.assertEqual((said.count(f"{NOT_KEPT}: [Errno {number}] {why}: 'mill.dev.asked'"), self.asks(said)),
+                             (1, True), said)
+        self.assertFalse(Path("mill.dev.asked").exists())
+
+    def test_another_is_kept_there(self) -> None:
+        """Nor is what somebody else has there written over."""
+        self.all_lost()
+        Path("mill.dev.asked").write_text("a drawing\n")
+        said = self.unanswered(1)
+        self.assertIn(f"{NOT_KEPT}: [Errno 17] it isn't what is kept there, and isn't written over: 'mill.dev.asked'",
+                      said)
+        self.assertEqual((self.asks(said), Path("mill.dev.asked").read_text()), (True, "a drawing\n"))
+
     def test_no_room_to_put_back(self) -> None:
         """Where the disk is full nothing is stored, whatever is typed, and it is asked again."""
         self.all_lost()
@@ -1609,19 +1702,56 @@ class EndsWhereItBegan(WithOperator):
                 self.assertIn("they aren't put back, and nothing is stored: ", face.said[-1])
         self.assertEqual((len(face.asked), operator.console.status().entries, self.lines()), (3, entries, []))
 
-    def test_put_back_once(self) -> None:
-        """Attempts that failed as the disk was full after a part, as it couldn't be synced, and as the player didn't
-        answer behind that, leave nothing: the lines are put back once."""
-        lines, real = self.all_lost(), os.pwrite
-        operator, face = self.operate(*["yes"] * 7)
+    def test_no_after_a_failure(self) -> None:
+        """Who says no once they couldn't be put back goes on without them: what is handed out then is carried out."""
+        self.all_lost()
+        operator, face = self.operate("yes", "no")
+        link = operator.recover.found.link
+        with patch.object(os, "pwrite", side_effect=self.part()):
+            operator.do("tool 1 0.5")
+        self.assertIn("they aren't put back, and nothing is stored: ", face.said[-1])
+        self.assertEqual((link.is_following, link.size(), operator.recover.is_left()), (True, 0, False))
+        operator.do("G0 X0.002")
+        self.assertEqual((self.pins(), self.lines()), (["P 1 0 0 50"] * 2,) * 2, face.said)
 
-        def part(file: int, text: bytes, at: int) -> int:
-            """Writes 15 bytes, and then nothing more."""
+    def test_part_that_stays(self) -> None:
+        """Where the part that was written can't be cut off either, nothing is done behind it before a no or `drop` has
+        cut it off."""
+        self.all_lost()
+        operator, face = self.operate("yes", "no", "no")
+        link = operator.recover.found.link
+        with patch.object(os, "pwrite", side_effect=self.part()), \
+                patch.object(os, "ftruncate", side_effect=OSError(errno.EIO, "Input/output error")):
+            for typed in ("tool 1 0.5", "reference 0 0 0"):
+                operator.do(typed)
+                self.assertIn("they aren't put back, and nothing is stored: ", face.said[-1])
+            self.assertEqual((link.is_following, link.size(), operator.recover.is_left()), (False, 15, True))
+            operator.do("drop")
+            self.assertEqual(face.said[-1], "[Errno 5] Input/output error")
+        operator.do("drop")
+        self.assertEqual(face.said[-1], "no line is left in OUT that no motor carried out")
+        self.assertEqual((link.is_following, link.size(), Path("mill.dev.asked").exists()), (True, 0, True))
+        operator.do("G0 X0.002")
+        self.assertEqual((self.pins(), self.lines(), len(face.asked)), (["P 1 0 0 50"] * 2,) * 2 + (3,), face.said)
+
+    def part(self) -> Callable[[int, bytes, int], int]:
+        """What writes 15 bytes, and then nothing more."""
+        real = os.pwrite
+
+        def write(file: int, text: bytes, at: int) -> int:
+            """Writes them."""
             if at:
                 raise OSError(errno.ENOSPC, "No space left on device")
             return real(file, text[:15], at)
 
-        for where, what, how in ((os, "pwrite", part), (os, "fsync", OSError(errno.EIO, "Input/output error")),
+        return write
+
+    def test_put_back_once(self) -> None:
+        """Attempts that failed as the disk was full after a part, as it couldn't be synced, and as the player didn't
+        answer behind that, leave nothing: the lines are put back once."""
+        lines = self.all_lost()
+        operator, face = self.operate(*["yes"] * 7)
+        for where, what, how in ((os, "pwrite", self.part()), (os, "fsync", OSError(errno.EIO, "Input/output error")),
                                  (OutFound, "look", NoAnswer("the player is gone"))):
             with patch.object(where, what, side_effect=how):
                 operator.do("tool 1 0.5")

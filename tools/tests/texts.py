@@ -26,11 +26,11 @@ MOST = 24  # choices within one string
 
 BEGINNINGS = ("cli/operate.py", "cli/page.py")
 NOT_SHOWN = {
-    "cli/machine.py", "cli/run.py", "disk/records.py", "files.py", "formats/canonical.py", "formats/machine.py",
-    "formats/out_note.py", "formats/record.py", "job/marks.py", "job/parts_compared.py", "job/picture.py",
-    "job/split.py", "job/svg.py", "job/thumbnail.py", "job/timing.py", "language.py", "link/machine.py",
-    "ngc/copies.py", "ngc/machine_report.py", "ngc/pacing.py", "ngc/settings_report.py", "ngc/worlds.py",
-    "page/http.py", "page/start_player.py", "page/websocket.py", "scratch.py", "version.py"}
+    "cli/machine.py", "cli/run.py", "disk/records.py", "files.py", "formats/asked.py", "formats/canonical.py",
+    "formats/machine.py", "formats/out_note.py", "formats/record.py", "job/marks.py", "job/parts_compared.py",
+    "job/picture.py", "job/split.py", "job/svg.py", "job/thumbnail.py", "job/timing.py", "language.py",
+    "link/machine.py", "ngc/copies.py", "ngc/machine_report.py", "ngc/pacing.py", "ngc/settings_report.py",
+    "ngc/worlds.py", "page/http.py", "page/start_player.py", "page/websocket.py", "scratch.py", "version.py"}
 """Modules of which no person reads a string here, or at the start of a program alone."""
 UNREAD_CALLS = {
     "startswith", "endswith", "removeprefix", "removesuffix", "compile", "encode", "decode", "replace", "split", "get",

@@ -116,14 +116,16 @@ class Recover:
         if beginning is None or not beginning.is_new or not beginning.missing or not self.is_still():
             return True
         status, count = self.session.console.status(), beginning.missing.count(b"\n")
-        if status.half != "none" or not self.session.agrees(HIDES.format(out=self.found.link.out, count=count)):
+        if status.half != "none":
             return True
+        is_wanted = self.session.agrees(HIDES.format(out=self.found.link.out, count=count))
         try:
-            self.found.put_back()
+            self.found.put_back() if is_wanted else self.found.undo()
         except (NoAnswer, OSError) as error:
             self.session.face.say(f"they aren't put back, and nothing is stored: {error}", REFUSED)
             return False
-        self.session.face.say(LEFT.format(line=self.found.recovery.lines), WARNING)
+        if is_wanted:
+            self.session.face.say(LEFT.format(line=self.found.recovery.lines), WARNING)
         return True
 
     def is_still(self) -> bool:
@@ -136,6 +138,8 @@ class Recover:
 
     def drop(self) -> None:
         """Cuts off what no motor carried out. Raises NoAnswer, OSError."""
+        if self.found is not None:
+            self.found.undo()
         if self.found is None or not self.found.is_left():
             self.session.face.say("no line is left in OUT that no motor carried out")
             return
@@ -261,6 +265,7 @@ class Recover:
 
     def _is_brought(self, found: OutFound) -> bool:
         """Along OUT, or by legs to it; whether the motors are there."""
+        found.undo()
         face, report = self.session.face, found.link.ask()
         found.look_again(report)
         recovery = found.recovery

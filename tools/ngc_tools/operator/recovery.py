@@ -3,12 +3,13 @@
 Mended is what moves nothing: a part of a line at the end is cut off, and lines that were handed out before the open
 segment and are lost with the power are put behind it again."""
 from collections.abc import Iterator
-from contextlib import contextmanager
+from contextlib import contextmanager, suppress
 from dataclasses import dataclass
 from functools import cached_property
 from math import isqrt
 
 from ngc_tools.failure import Failure
+from ngc_tools.files import NotWritten
 from ngc_tools.formats.device import Device
 from ngc_tools.formats.out import OFF, BadLine, Switch
 from ngc_tools.formats.out_note import OutNote
@@ -22,7 +23,7 @@ from ngc_tools.ngc.copies import CommandRefused
 from ngc_tools.ngc.handed_out import SegmentBeginning, Finder, FileRecord
 from ngc_tools.operator.feeds import cut_feed
 from ngc_tools.operator.synced import SyncedLink
-from ngc_tools.link.progress import HeldBack, Report
+from ngc_tools.link.progress import HeldBack, NoAnswer, Report
 from ngc_tools.link.way import Way, count_lines, is_switch_between, look, moves, slowed, switched_at
 
 Point = tuple[int, int, int]
@@ -32,6 +33,9 @@ is cut off there, with {lines} lines behind them that no motor carried out"""
 NEVER = """\
 the device doesn't tell any more what was handed out from there on. Up to the half-done segment, or without one up to
 the end, it is never cut: at most {lines} lines, {mm} mm"""
+NOT_KEPT = """\
+the device isn't kept as it was found, by which these lines are told: where nobody answers, they are forgotten after
+another power on"""
 _NO_WAY = Way(0, 0, 0, 0, 0, 0, (0, 0, 0))
 
 
@@ -169,16 +173,21 @@ class OutFound:
     is_sent: bool = False  # the motors are on a way, and what stands behind its end isn't cut off yet
     as_left: bool = False  # nothing was done since the program was left for its next line
     _at_nm: Point = (0, 0, 0)
+    _attempt: tuple[int, bool] | None = None  # OUT's bytes before lines are put back, and whether the player followed
 
     @staticmethod
     def of(ngc: str, settings: str, link: SyncedLink, device: Device | None, is_whole: bool = False) -> "OutFound":
         """Looks, and mends. The player goes on at once where no line is left. `is_whole`: OUT has all that was handed
         out. Raises NoAnswer, BadSettings, OSError."""
-        looking = Looking(ngc, settings, device.image, link.noted(), is_whole) if device else None
+        kept = link.asked.before(device) if device and link.asked else None  # nothing was handed out since
+        is_whole = is_whole and kept is None
+        looking = Looking(ngc, settings, (kept or device).image, link.noted(), is_whole) if device else None
         found = OutFound(link, looking, Recovery(), [])
         found.look()
         lost = found.recovery.beginning.missing if found.recovery.beginning else b""
         found._say_hole()
+        if device:
+            found._keep_asked(device, kept)
         if lost and not found.recovery.beginning.is_new:
             found.put_back()
             found.said.append(f"{link.out}: {lost.count(10)} lines that were handed out were lost with the power, and"
@@ -187,6 +196,21 @@ class OutFound:
         if not found.is_left():
             link.follow()
         return found
+
+    def _keep_asked(self, device: Device, kept: Device | None) -> None:
+        """Keeps the device as it was found while it is asked whether lines are put back, unless that is `kept` already;
+        what was kept and is of use no more is removed."""
+        beginning, file = self.recovery.beginning, self.link.asked
+        if file is None:
+            return
+        if beginning is None or not beginning.missing:
+            if beginning is not None or kept is None:
+                file.remove()
+        elif beginning.is_new and kept is None:
+            try:
+                file.keep(device)
+            except (NotWritten, OSError) as error:
+                self.said.append(f"{NOT_KEPT}: {error}")
 
     def _say_hole(self) -> None:
         """Says what the disk lost in the midst of OUT, and what that costs."""
@@ -254,18 +278,42 @@ class OutFound:
                 self.link.follow()
 
     def put_back(self) -> None:
-        """Puts the lines that OUT lost behind what it had as it was looked at; they aren't carried out yet. What an
-        attempt that failed has put there is cut off before. Raises NoAnswer, OSError."""
-        found = self.recovery.beginning
+        """Puts the lines that OUT lost behind what it had as it was looked at; they aren't carried out yet. An attempt
+        that fails is undone, at once or as soon as that can be. Raises NoAnswer, OSError."""
+        self.undo()
+        kept, found = self.recovery, self.recovery.beginning
         if found is None or not found.missing:
             return
+        self._attempt = found.size - len(found.missing), self.link.is_following
         self.link.is_following = False
-        end = found.size - len(found.missing)
-        if self.link.size() > end:
-            self.link.await_kept(end)
-            self.link.cut(end)
-        self.link.append(found.missing)
-        self.look()
+        try:
+            self._cut_behind(self._attempt[0])
+            self.link.append(found.missing)
+            self.look()
+        except (NoAnswer, OSError):
+            self.recovery = kept
+            with suppress(NoAnswer, OSError):
+                self.undo()
+            raise
+        self._attempt = None
+        self.link.answered()
+
+    def undo(self) -> None:
+        """Cuts off what an attempt to put lines back has left, if one failed: then the player goes on as before it.
+        Raises NoAnswer, OSError."""
+        if self._attempt is None:
+            return
+        size, is_following = self._attempt
+        try:
+            self._cut_behind(size)
+        finally:
+            if self.link.size() <= size:
+                self.link.is_following, self._attempt = is_following, None
+
+    def _cut_behind(self, size: int) -> None:
+        if self.link.size() > size:
+            self.link.await_kept(size)
+            self.link.cut(size)
 
     def is_left(self) -> bool:
         """Whether lines stand in OUT that no motor carried out, or are taken back. Raises OSError."""
@@ -304,5 +352,6 @@ class OutFound:
             self.link.await_kept(size)
             self._note_cut(size)
             self.link.cut(size)
-        self.is_sent = False
+        self.link.answered()
+        self.is_sent, self._attempt = False, None
         self.link.follow()

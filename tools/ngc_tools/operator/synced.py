@@ -11,6 +11,7 @@ from dataclasses import dataclass
 from pathlib import Path
 
 from ngc_tools.files import naming
+from ngc_tools.formats.asked import AskedFile
 from ngc_tools.formats.device import Device, NoDevice
 from ngc_tools.formats.out import LONGEST_LINE, BadLine, end_of_lines, read_line
 from ngc_tools.formats.out_note import NoteFile, OutNote
@@ -62,6 +63,7 @@ class SyncedLink(Link):
         super().__init__(path, patience_s)
         self.out = str(out)
         self.notes = NoteFile(device) if device else None
+        self.asked = AskedFile(device) if device else None
         self._epoch = 0  # of the device, as it was noted last
         self.file = os.open(out, os.O_RDWR | os.O_CLOEXEC)
         self.is_following = False
@@ -182,6 +184,7 @@ class SyncedLink(Link):
             at_nm = at_nm or (state.point_nm if state.point_known else None)
             self.notes.write(OutNote(what.st_ino & (2**63 - 1), born_ns(self.file), device.epoch, len(device.records),
                                      state.entries, size, begins, as_left, at_nm))
+            self.answered()
 
     def note_end(self, as_left: bool, is_anew: bool = False) -> None:
         """The same of all that OUT has, without a half-done block; with `is_anew` only where the device was written
@@ -193,6 +196,11 @@ class SyncedLink(Link):
         """What was noted isn't true of what OUT is to have. Raises OSError."""
         if self.notes is not None:
             self.notes.remove()
+
+    def answered(self) -> None:
+        """Nobody is to be asked any more about lines that OUT lost."""
+        if self.asked is not None:
+            self.asked.remove()
 
     def cut_part(self) -> int:
         """Cuts a part of a line off the end, if no session has OUT, and it is one; returns how many bytes that had.

@@ -7,6 +7,7 @@ from dataclasses import asdict, dataclass
 from pathlib import Path
 
 from ngc_tools.files import NotWritten, read_regular, write_new
+from ngc_tools.formats.asked import AskedFile
 
 SUFFIX = ".never-cut"
 
@@ -30,11 +31,12 @@ class Loss:
 
 
 class Losses:
-    """The file of a device."""
+    """The file of a device. `asked` is that which keeps the device until it is found what a loss left uncut."""
 
     def __init__(self, device: str) -> None:
         """`device` is the path of the device; the file needn't be there."""
         self._device, self.path = Path(device), Path(device + SUFFIX)
+        self.asked = AskedFile(device)
 
     def of(self, program: bytes) -> list[Loss]:
         """Those of a program, the earliest first; none where the file isn't there, can't be read, or is of another

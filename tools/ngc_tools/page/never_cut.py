@@ -81,10 +81,11 @@ class NeverCutSearch:
     def begin(self, losses: Losses, program: bytes, asked: LossRequest | None, report: Report | None) -> None:
         """Takes up what was kept of a device, which has this program, and finds what the last session left, if a block
         is half-done; that isn't to be found where nothing is asked. What the player has in hand by its report isn't
-        lost yet: then it is found once `look` sees that nothing is in hand any more."""
+        lost yet: then it is found once `look` sees that nothing is in hand any more. Until it is found the device is
+        kept as it was, since no log tells it after two more power ons."""
         self._losses, self._program, self._earlier = losses, program, losses.of(program)
         if asked is None or self._received is None:
-            self._asked = asked if asked is not None and Device(asked.image).state.half else None
+            self._asked = self._half_done(asked) if asked is not None else None
             self._received = report.received if self._asked and report and report.behind else None
         # else the session before that has lines in hand still, and its log tells them
         self._take(dict(_NONE, earlier=_plain(self._earlier)) if self._earlier else None)
@@ -94,6 +95,22 @@ class NeverCutSearch:
             self._search(self._asked)
         elif report is not None:
             self.look(report)
+
+    def _half_done(self, asked: LossRequest) -> LossRequest | None:
+        """The same over the device as it was kept, where a kill came before that was found; else it is kept as it is.
+        None where no block is half-done."""
+        now, file = Device(asked.image), self._losses.asked
+        if not now.state.half:
+            file.remove()
+            return None
+        kept = file.before(now)
+        if kept is not None:
+            return replace(asked, image=kept.image)
+        try:
+            file.keep(now)
+        except (NotWritten, OSError) as error:
+            self._warn(error)
+        return asked
 
     def look(self, report: Report) -> None:
         """Finds what the player let go of, once it has nothing in hand any more: it carried out the other lines."""
@@ -122,18 +139,22 @@ class NeverCutSearch:
         self._asked, self._received, self._earlier = None, None, []
         with suppress(OSError):  # it is of another program then, or is found again and shown
             self._losses.forget()
+        self._losses.asked.remove()
         self._take(None)
 
     def _find(self, asked: LossRequest) -> None:
+        is_found = True
         try:
             told = self._aside.call(found, asked)
         except (NotDone, OSError) as error:
-            told = dict(_NONE, words=_UNKNOWN.format(why=error))
+            told, is_found = dict(_NONE, words=_UNKNOWN.format(why=error)), False
         if asked is self._asked:
             earlier = self._kept(asked, told) if told["lines"] else self._earlier
             self._take(told | {"earlier": _plain(earlier)})
             self._face.say(told["words"], UNCUT if told["lines"] else SAID if told["words"] == _KEPT else WARNING)
             self._tell(earlier)
+            if is_found:
+                self._losses.asked.remove()
 
     def _kept(self, asked: LossRequest, told: dict) -> list[Loss]:
         """Keeps what was found; the earlier ones, without this one, where it was found before."""
@@ -143,9 +164,12 @@ class NeverCutSearch:
         try:
             self._losses.keep(self._program, [*earlier, loss])
         except (NotWritten, OSError) as error:
-            why = cause(error) if isinstance(error, OSError) else str(error)
-            self._face.say(f"after another loss of power this one won't be told of: {why}", WARNING)
+            self._warn(error)
         return earlier
+
+    def _warn(self, error: NotWritten | OSError) -> None:
+        why = cause(error) if isinstance(error, OSError) else str(error)
+        self._face.say(f"after another loss of power this one won't be told of: {why}", WARNING)
 
     def _take(self, told: dict | None) -> None:
         self.found = told
