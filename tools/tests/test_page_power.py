@@ -4,6 +4,7 @@ import os
 import signal
 import subprocess
 import sys
+import time
 import unittest
 from collections.abc import Callable
 from pathlib import Path
@@ -11,7 +12,7 @@ from unittest.mock import patch
 
 sys.path.insert(0, str(Path(__file__).resolve().parent))
 
-from page_support import SHORT, Page, Served
+from page_support import OTHER, SHORT, SLOW, Page, Served
 from player_support import built, preloaded
 from session_support import InFolder, ngc
 
@@ -34,6 +35,8 @@ BACK = "G21 G90 G94\nG1 X0.01 F60\nX0\nX0.02\nM2\n"
 """Ten pulses on, ten back, and twenty on."""
 CHANGE = "G17 G21 G90 G94\nG1 X0.02 F60\nT2 M6\n" + "G1 X0.04 F3\nG1 X0.02\n" * 20 + "M2\n"
 """Behind a tool change twenty pulses on and twenty back, again and again, 0.4 s each."""
+SLOWER = SLOW.replace("F3", "F0.3")
+"""Five pulses a second: 100 lines in hand last twenty seconds."""
 JOB = "G17 G21 G90 G94\nM3 S100\nG0 X0.4\nG1 Z-0.4 F600\nX1.2\nG2 X0.4 Y0.8 I-0.8 F900\nG1 X0 Y0\nM2\n"
 """7,200 pulses: a traverse, a plunge, lines, an arc."""
 
@@ -328,6 +331,72 @@ class OverPipe(Served):
     def never_cut(page: Page) -> dict | None:
         """What is told of it."""
         return json.loads(page.get("job")[1])["never_cut"]
+
+
+class ServerKilled(Served):
+    """The page's server and `ngc` are killed, and begun again while the player has lines in hand for some seconds."""
+
+    OUT = "out"
+    IN_HAND = 60
+
+    def begin_player(self) -> None:
+        """There is one as long as it isn't killed."""
+        if not os.path.exists("progress"):
+            super().begin_player()
+
+    def begun_again(self) -> tuple[Page, dict]:
+        """A page of the next session, and what it shows first."""
+        page = self.page()
+        self.load(page, SLOWER)
+        self.assertEqual(page.post("run"), (200, {}))
+        page.until("lines are in hand", lambda state: state["behind"] > self.IN_HAND and float(state["motors"][0]) > 0)
+        for pid in (*self.children(), self.server.pid):
+            os.kill(pid, signal.SIGKILL)
+        self.server.wait()
+        self.begin()
+        page = self.page(OTHER)
+        return page, page.until("it is shown", lambda state: state["motors"])
+
+
+class KilledWithoutRamps(ServerKilled):
+    """Motors that no hold stops."""
+
+    def test_goes_on(self) -> None:
+        """While they go on the band says so, and nothing of a recovery can be touched; once they rest it can."""
+        page, state = self.begun_again()
+        self.assertEqual((state["word"], state["tone"], state["half"]), ("Still running", "run", "program"))
+        self.assertRegex(state["detail"], r"^The player carries out what it was given before, \d+ lines?$")
+        self.assertEqual((state["busy"], state["goes_on"], state["can"]["hold"]), (True, True, True))
+        self.assertFalse(any(state["can"][word] for word in ("recover", "reference", "resume", "abandon", "jog", "run")))
+        rested = page.until("they rest", lambda state: not state["busy"])
+        self.assertEqual((rested["word"], rested["behind"], rested["goes_on"]), ("Half-done", 0, False))
+        self.assertGreater(float(rested["motors"][0]), float(state["motors"][0]))
+        self.assertTrue(rested["can"]["recover"] and rested["can"]["abandon"])
+
+
+class KilledWithRamps(ServerKilled):
+    """Motors that a hold stops, over a file."""
+
+    MACHINE = "[motion]\naccel_mm_s2 = [500, 500, 500]\n\n[window]\nlines = 1000\n"
+    IN_HAND = 500
+
+    def test_held(self) -> None:
+        """They are held as the session begins, which the band says from the first; lines in hand come first then."""
+        page, state = self.begun_again()
+        self.assertEqual((state["word"], state["held_motors"], state["busy"]), ("Held", True, False))
+        self.assertEqual((state["half"], state["held_by"]), ("program", "here"))
+        self.assertRegex(state["detail"], r"^Recover has them carry out \d+ lines in hand first; Stop lets go of these$")
+        time.sleep(0.5)
+        self.assertEqual(self.link.ask().at.split(), state["motors"])
+        self.assertEqual(page.post("recover", {"at": state["motors"]}), (200, {}))
+        page.agree(page.asked())
+        page.until("they go on", lambda now: float(now["motors"][0]) > float(state["motors"][0]))
+
+
+class KilledWithRampsOverPipe(KilledWithRamps):
+    """The same with a pipe as OUT."""
+
+    OUT = "axis"
 
 
 class Task:

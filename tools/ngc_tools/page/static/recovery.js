@@ -79,7 +79,7 @@ export class Recovery {
   show(s) {
     if (this.isHoming && !s.busy && s.homed) Object.assign(this, { isHoming: false, isLater: false });
     if (!this.isOpen) return;
-    const isOver = !s.busy && s.half === 'none' || s.moving;
+    const isOver = !s.busy && s.half === 'none' || s.moving || s.goes_on; // it comes anew once the motors rest
     if (s.ended || isOver && !s.question) {
       this.close();
       return;
