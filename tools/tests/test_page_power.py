@@ -37,6 +37,7 @@ CHANGE = "G17 G21 G90 G94\nG1 X0.02 F60\nT2 M6\n" + "G1 X0.04 F3\nG1 X0.02\n" * 
 """Behind a tool change twenty pulses on and twenty back, again and again, 0.4 s each."""
 SLOWER = SLOW.replace("F3", "F0.3")
 """Five pulses a second: 100 lines in hand last twenty seconds."""
+TOOLS = "G17 G21 G90 G94\nT1 M6\nG1 X0.1 F60\nT2 M6\nG1 X0.2\nM2\n"
 JOB = "G17 G21 G90 G94\nM3 S100\nG0 X0.4\nG1 Z-0.4 F600\nX1.2\nG2 X0.4 Y0.8 I-0.8 F900\nG1 X0 Y0\nM2\n"
 """7,200 pulses: a traverse, a plunge, lines, an arc."""
 
@@ -388,7 +389,10 @@ class KilledWithRamps(ServerKilled):
         self.assertRegex(state["detail"], r"^Recover has them carry out \d+ lines in hand first; Stop lets go of these$")
         time.sleep(0.5)
         self.assertEqual(self.link.ask().at.split(), state["motors"])
-        self.assertEqual(page.post("recover", {"at": state["motors"]}), (200, {}))
+        told = {"at": state["motors"], "anyway": True, "shown": state["motors"]}
+        refused = page.post("reference", told)[1]["refused"]
+        self.assertIn("lines in hand. Recover has them carry those out first", refused)
+        self.assertEqual(page.post("recover", {"at": state["motors"], "shown": state["motors"]}), (200, {}))
         page.agree(page.asked())
         page.until("they go on", lambda now: float(now["motors"][0]) > float(state["motors"][0]))
 
@@ -397,6 +401,49 @@ class KilledWithRampsOverPipe(KilledWithRamps):
     """The same with a pipe as OUT."""
 
     OUT = "axis"
+
+
+class Confirmed(Served):
+    """What a page confirms that wasn't told the newest state yet."""
+
+    OUT = "out"
+
+    def test_older_place(self) -> None:
+        """A place that was confirmed before the motors moved isn't taken, and why is told; the one now is."""
+        page = self.page()
+        self.load(page, SLOW)
+        self.cuts(page)
+        self.pull()
+        self.begin()
+        page = self.page(OTHER)
+        state = page.until("it is half-done", lambda state: state["word"] == "Half-done")
+        at, older = state["motors"], ["0.000000", "0.000000", "0.000000"]
+        self.assertNotEqual(at, older)
+        refused = page.post("reference", {"at": older, "anyway": True, "shown": older})[1]["refused"]
+        self.assertTrue(refused.startswith("the motors aren't where this page showed them"), refused)
+        self.assertEqual(page.post("recover", {"at": older, "shown": older}), (200, {}))
+        page.until("it is told twice", lambda state: page.said().count(refused) == 2 and not state["busy"])
+        self.assertEqual(page.post("reference", {"at": "player", "shown": older}), (200, {"refused": refused}))
+        self.assertEqual((self.link.ask().at.split(), page.rested()["known"]), (at, False))
+        self.assertEqual(page.post("reference", {"at": older, "anyway": True, "shown": at}), (200, {"refused": ""}))
+        self.assertEqual(self.link.ask().at.split(), older)
+
+    def test_other_tool(self) -> None:
+        """A tool that the player doesn't ask for any more isn't the one that it asks for now."""
+        page = self.page()
+        for slot in (1, 2):
+            page.post("tool", {"slot": slot, "length": "0"})
+        self.load(page, TOOLS)
+        self.assertEqual(page.post("run"), (200, {}))
+        for slot in (1, 2):
+            state = page.until("it asks", lambda state, slot=slot: state["waits_tool"] == slot and state["waits"])
+            for touch in ({"tool": 3 - slot, "shown": state["motors"]}, {"tool": slot, "shown": ["9", "0", "0"]}):
+                status, said = page.post("go", touch)
+                self.assertEqual((status, said.get("why", "").partition(",")[0]),
+                                 (409, "the player doesn't ask for that tool any more"))
+            self.assertEqual(self.link.ask().tool, slot)
+            self.assertEqual(page.post("go", {"tool": slot, "shown": state["motors"]}), (200, {}))
+        page.until("it is through", lambda state: state["finished"] and state["motors"][0] == "0.200000")
 
 
 class Task:

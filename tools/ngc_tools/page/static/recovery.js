@@ -108,6 +108,9 @@ export class Recovery {
     return true;
   }
 
+  // Where the motors were shown as the place was confirmed; null without a player. The server compares it.
+  get shown() { return this.app.state.motors && this.told; }
+
   // What of a state decides what is on the sheet: while that stays, what somebody typed or ticked stays too.
   shownOf(s) {
     if (this.step < 3) return [this.step, s.yours, s.recover?.left].join();
@@ -339,7 +342,7 @@ export class Recovery {
     const isAlong = this.along && (this.along.way || this.along.there);
     const offered = isAlong ? ['along'] : this.along || player ? ['legs'] : [];
     if (canResume) offered.push(player ? 'straight' : 'own');
-    const recovers = () => this.asks('recover', { at: this.at });
+    const recovers = () => this.asks('recover', { at: this.at, shown: this.shown });
     const does = { along: recovers, legs: recovers, straight: () => this.resume(),
       own: () => this.resume() };
     const buttons = offered.map((name, i) => (i === (this.along ? 0 : offered.length - 1) ? sheet.go : sheet.button)(
@@ -378,7 +381,7 @@ export class Recovery {
   // Until that is over, motors that are told to be elsewhere didn't move.
   async tells(does) {
     this.isTelling = true;
-    await does(await this.asks('reference', { at: this.at, anyway: true }));
+    await does(await this.asks('reference', { at: this.at, anyway: true, shown: this.shown }));
     this.isTelling = false;
   }
 }
