@@ -29,7 +29,7 @@ from ngc_tools.page.losses import Loss, Losses
 from ngc_tools.page.never_cut import LossRequest, NeverCutSearch, found
 from ngc_tools.page.rehearse import finished, rehearse
 from ngc_tools.page.session import PageSession
-from ngc_tools.link.progress import Report
+from ngc_tools.link.progress import NoAnswer, Report
 
 BACK = "G21 G90 G94\nG1 X0.01 F60\nX0\nX0.02\nM2\n"
 """Ten pulses on, ten back, and twenty on."""
@@ -496,6 +496,35 @@ class Moments(InFolder):
             halves += self.go_back()
             self.assertTrue(pulses_of("out") == self.pulses, f"lost at {lost_at}")
         self.assertGreater(halves, count // 2)
+
+    def test_last_lines(self) -> None:
+        """Power is lost with all of the job handed out, and its last lines not cut: once `recover` has them carried out
+        the job has run to its end, and so the record of runs says."""
+        self.begin_anew()
+        session = self.session()
+        self.assertTrue(session.load("job", JOB.encode()))
+
+        def drained(_: object) -> bool:
+            """Power is lost as nothing more is to be handed out."""
+            self.player.kill()
+            session.operator.console.child.kill()
+            raise NoAnswer("power is lost")
+
+        session.operator.session.meter.drained = drained
+        session.run("run")
+        self.wait_for("power is lost", lambda: session.ended != "")
+        session.leave()
+        self.end_player()
+        session = self.session()
+        self.assertEqual((session.stand.status.half, session.stand.status.place), ("none", 0))
+        self.assertGreater(session.stand.recovery["left_lines"], 0)
+        self.assertFalse(session.is_finished)
+        session.recover(session.face.report.at.split())
+        self.agrees(session)
+        self.assertTrue(session.is_finished)
+        self.assertEqual(session.face.report.at, "0.000000 0.000000 -0.400000")
+        self.assertRegex(Path("mill.dev.runs").read_text(), r" ended, through, after [0-9:]+, 1 loss of power\n$")
+        self.assertTrue(pulses_of("out") == self.pulses)
 
     def test_loaded_first(self) -> None:
         """Where OUT lost all that was handed out, another program isn't loaded before that is put back, and the four
