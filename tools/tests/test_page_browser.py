@@ -808,6 +808,27 @@ class Power(InBrowser):
         browser.wait("document.getElementById('run').disabled")  # what it opens is open
         self.no_complaints()
 
+    def test_older_place(self) -> None:
+        """What was confirmed on a page that doesn't know yet that the motors moved isn't taken: why stands where the
+        finger was, and the line isn't given up."""
+        browser = self.browser
+        self.half_done()
+        browser.js("void (ngc.recovery.show = () => {})")  # the steps know no newer state
+        self.link.at("0.5 0.25 0")
+        browser.wait("ngc.state.motors[1] === '0.250000'")
+        for _ in range(3):
+            browser.press("Confirm", "#over button")
+        browser.press("Next", "#over button")
+        browser.wait("document.querySelector('#over details')")
+        browser.press("Next", "#over button")
+        browser.press("Give up", "#over button")
+        browser.press("Yes, give it up", "#over button")
+        says = browser.wait("document.getElementById('toast').checkVisibility() && document.getElementById('toast')"
+                            ".textContent")
+        self.assertTrue(says.startswith("the motors aren't where this page showed them"), says)
+        browser.wait("!ngc.state.busy")
+        self.assertEqual(browser.js("[ngc.state.half, ngc.state.motors[1]]"), ["program", "0.250000"])
+
     def test_outside(self) -> None:
         """From outside of the travel, as where home was held at a switch, a line can be given up too: nobody knows
         then where the machine is, and why its place isn't taken is told."""

@@ -4,6 +4,7 @@ import os
 import signal
 import subprocess
 import sys
+import time
 import unittest
 from collections.abc import Callable
 from pathlib import Path
@@ -11,7 +12,7 @@ from unittest.mock import patch
 
 sys.path.insert(0, str(Path(__file__).resolve().parent))
 
-from page_support import SHORT, Page, Served
+from page_support import OTHER, SHORT, SLOW, Page, Served
 from player_support import built, preloaded
 from session_support import InFolder, ngc
 
@@ -28,12 +29,15 @@ from ngc_tools.page.losses import Loss, Losses
 from ngc_tools.page.never_cut import LossRequest, NeverCutSearch, found
 from ngc_tools.page.rehearse import finished, rehearse
 from ngc_tools.page.session import PageSession
-from ngc_tools.link.progress import Report
+from ngc_tools.link.progress import NoAnswer, Report
 
 BACK = "G21 G90 G94\nG1 X0.01 F60\nX0\nX0.02\nM2\n"
 """Ten pulses on, ten back, and twenty on."""
 CHANGE = "G17 G21 G90 G94\nG1 X0.02 F60\nT2 M6\n" + "G1 X0.04 F3\nG1 X0.02\n" * 20 + "M2\n"
 """Behind a tool change twenty pulses on and twenty back, again and again, 0.4 s each."""
+SLOWER = SLOW.replace("F3", "F0.3")
+"""Five pulses a second: 100 lines in hand last twenty seconds."""
+TOOLS = "G17 G21 G90 G94\nT1 M6\nG1 X0.1 F60\nT2 M6\nG1 X0.2\nM2\n"
 JOB = "G17 G21 G90 G94\nM3 S100\nG0 X0.4\nG1 Z-0.4 F600\nX1.2\nG2 X0.4 Y0.8 I-0.8 F900\nG1 X0 Y0\nM2\n"
 """7,200 pulses: a traverse, a plunge, lines, an arc."""
 
@@ -393,6 +397,118 @@ class OverPipe(Served):
         return json.loads(page.get("job")[1])["never_cut"]
 
 
+class ServerKilled(Served):
+    """The page's server and `ngc` are killed, and begun again while the player has lines in hand for some seconds."""
+
+    OUT = "out"
+    IN_HAND = 60
+
+    def begin_player(self) -> None:
+        """There is one as long as it isn't killed."""
+        if not os.path.exists("progress"):
+            super().begin_player()
+
+    def begun_again(self) -> tuple[Page, dict]:
+        """A page of the next session, and what it shows first."""
+        page = self.page()
+        self.load(page, SLOWER)
+        self.assertEqual(page.post("run"), (200, {}))
+        page.until("lines are in hand", lambda state: state["behind"] > self.IN_HAND and float(state["motors"][0]) > 0)
+        for pid in (*self.children(), self.server.pid):
+            os.kill(pid, signal.SIGKILL)
+        self.server.wait()
+        self.begin()
+        page = self.page(OTHER)
+        return page, page.until("it is shown", lambda state: state["motors"])
+
+
+class KilledWithoutRamps(ServerKilled):
+    """Motors that no hold stops."""
+
+    def test_goes_on(self) -> None:
+        """While they go on the band says so, and nothing of a recovery can be touched; once they rest it can."""
+        page, state = self.begun_again()
+        self.assertEqual((state["word"], state["tone"], state["half"]), ("Still running", "run", "program"))
+        self.assertRegex(state["detail"], r"^The player carries out what it was given before, \d+ lines?$")
+        self.assertEqual((state["busy"], state["goes_on"], state["can"]["hold"]), (True, True, True))
+        self.assertFalse(any(state["can"][word] for word in ("recover", "reference", "resume", "abandon", "jog", "run")))
+        rested = page.until("they rest", lambda state: not state["busy"])
+        self.assertEqual((rested["word"], rested["behind"], rested["goes_on"]), ("Half-done", 0, False))
+        self.assertGreater(float(rested["motors"][0]), float(state["motors"][0]))
+        self.assertTrue(rested["can"]["recover"] and rested["can"]["abandon"])
+
+
+class KilledWithRamps(ServerKilled):
+    """Motors that a hold stops, over a file."""
+
+    MACHINE = "[motion]\naccel_mm_s2 = [500, 500, 500]\n\n[window]\nlines = 1000\n"
+    IN_HAND = 500
+
+    def test_held(self) -> None:
+        """They are held as the session begins, which the band says from the first; lines in hand come first then."""
+        page, state = self.begun_again()
+        self.assertEqual((state["word"], state["held_motors"], state["busy"]), ("Held", True, False))
+        self.assertEqual((state["half"], state["held_by"]), ("program", "here"))
+        self.assertRegex(state["detail"], r"^Recover has them carry out \d+ lines in hand first; Stop lets go of these$")
+        time.sleep(0.5)
+        self.assertEqual(self.link.ask().at.split(), state["motors"])
+        told = {"at": state["motors"], "anyway": True, "shown": state["motors"]}
+        refused = page.post("reference", told)[1]["refused"]
+        self.assertIn("lines in hand. Recover has them carry those out first", refused)
+        self.assertEqual(page.post("recover", {"at": state["motors"], "shown": state["motors"]}), (200, {}))
+        page.agree(page.asked())
+        page.until("they go on", lambda now: float(now["motors"][0]) > float(state["motors"][0]))
+
+
+class KilledWithRampsOverPipe(KilledWithRamps):
+    """The same with a pipe as OUT."""
+
+    OUT = "axis"
+
+
+class Confirmed(Served):
+    """What a page confirms that wasn't told the newest state yet."""
+
+    OUT = "out"
+
+    def test_older_place(self) -> None:
+        """A place that was confirmed before the motors moved isn't taken, and why is told; the one now is."""
+        page = self.page()
+        self.load(page, SLOW)
+        self.cuts(page)
+        self.pull()
+        self.begin()
+        page = self.page(OTHER)
+        state = page.until("it is half-done", lambda state: state["word"] == "Half-done")
+        at, older = state["motors"], ["0.000000", "0.000000", "0.000000"]
+        self.assertNotEqual(at, older)
+        refused = page.post("reference", {"at": older, "anyway": True, "shown": older})[1]["refused"]
+        self.assertTrue(refused.startswith("the motors aren't where this page showed them"), refused)
+        self.assertEqual(page.post("recover", {"at": older, "shown": older}), (200, {}))
+        page.until("it is told twice", lambda state: page.said().count(refused) == 2 and not state["busy"])
+        self.assertEqual(page.post("reference", {"at": "player", "shown": older}), (200, {"refused": refused}))
+        self.assertEqual((self.link.ask().at.split(), page.rested()["known"]), (at, False))
+        self.assertEqual(page.post("reference", {"at": older, "anyway": True, "shown": at}), (200, {"refused": ""}))
+        self.assertEqual(self.link.ask().at.split(), older)
+
+    def test_other_tool(self) -> None:
+        """A tool that the player doesn't ask for any more isn't the one that it asks for now."""
+        page = self.page()
+        for slot in (1, 2):
+            page.post("tool", {"slot": slot, "length": "0"})
+        self.load(page, TOOLS)
+        self.assertEqual(page.post("run"), (200, {}))
+        for slot in (1, 2):
+            state = page.until("it asks", lambda state, slot=slot: state["waits_tool"] == slot and state["waits"])
+            for touch in ({"tool": 3 - slot, "shown": state["motors"]}, {"tool": slot, "shown": ["9", "0", "0"]}):
+                status, said = page.post("go", touch)
+                self.assertEqual((status, said.get("why", "").partition(",")[0]),
+                                 (409, "the player doesn't ask for that tool any more"))
+            self.assertEqual(self.link.ask().tool, slot)
+            self.assertEqual(page.post("go", {"tool": slot, "shown": state["motors"]}), (200, {}))
+        page.until("it is through", lambda state: state["finished"] and state["motors"][0] == "0.200000")
+
+
 class Task:
     """Work aside that is done within this process."""
 
@@ -443,6 +559,35 @@ class Moments(InFolder):
             halves += self.go_back()
             self.assertTrue(pulses_of("out") == self.pulses, f"lost at {lost_at}")
         self.assertGreater(halves, count // 2)
+
+    def test_last_lines(self) -> None:
+        """Power is lost with all of the job handed out, and its last lines not cut: once `recover` has them carried out
+        the job has run to its end, and so the record of runs says."""
+        self.begin_anew()
+        session = self.session()
+        self.assertTrue(session.load("job", JOB.encode()))
+
+        def drained(_: object) -> bool:
+            """Power is lost as nothing more is to be handed out."""
+            self.player.kill()
+            session.operator.console.child.kill()
+            raise NoAnswer("power is lost")
+
+        session.operator.session.meter.drained = drained
+        session.run("run")
+        self.wait_for("power is lost", lambda: session.ended != "")
+        session.leave()
+        self.end_player()
+        session = self.session()
+        self.assertEqual((session.stand.status.half, session.stand.status.place), ("none", 0))
+        self.assertGreater(session.stand.recovery["left_lines"], 0)
+        self.assertFalse(session.is_finished)
+        session.recover(session.face.report.at.split())
+        self.agrees(session)
+        self.assertTrue(session.is_finished)
+        self.assertEqual(session.face.report.at, "0.000000 0.000000 -0.400000")
+        self.assertRegex(Path("mill.dev.runs").read_text(), r" ended, through, after [0-9:]+, 1 loss of power\n$")
+        self.assertTrue(pulses_of("out") == self.pulses)
 
     def test_loaded_first(self) -> None:
         """Where OUT lost all that was handed out, another program isn't loaded before that is put back, and the four

@@ -39,11 +39,16 @@ class Steady(InBrowser):
         browser.press("Hold", "#hold")
         browser.wait("ngc.state.does === 'held' && !ngc.state.busy")
         browser.js("void (ngc.dead.ms = 1e6)")  # however slow the machine is
+        browser.js("""void (window.fetched = window.fetch, window.fetch = (what, how) => {
+            if (what === 'go') window.went = JSON.parse(how.body);
+            return fetched(what, how);
+        })""")
         x, y = browser.place("Tool 1 is in", "#run")
         for _ in range(2):
             browser.down(x, y)
             browser.up(x, y)
             browser.wait("document.getElementById('run').textContent === 'Continue'")
+        self.assertEqual(browser.js("went"), {"tool": 1, "shown": ["0.000000", "0.000000", "0.000000"]})
         self.assertTrue(browser.js("document.getElementById('run').inert"))
         seen = browser.js("ngc.state.now")
         browser.wait(f"ngc.state.now > {seen} + 1")

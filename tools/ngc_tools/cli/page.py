@@ -152,16 +152,20 @@ class Opener:
     starter: PlayerStarter | None = None
 
     def __call__(self, face: PageFace) -> Opened:
-        """Begins one. Raises CannotBegin, NoAnswer, BadSettings, ValueError, Ended, OSError."""
+        """Begins one. Motors that go on along lines of the session before are held first, since nobody could hold them
+        meanwhile. Raises CannotBegin, NoAnswer, BadSettings, ValueError, Ended, OSError."""
         if self.starter:
             self.starter.start()
         meter = metered(self.args)
         try:
-            return self._begun(face, meter)
+            is_told = meter is not None and meter.link.rest()
+            opened = self._begun(face, meter)
         except BaseException:
             if meter:
                 meter.link.close()
             raise
+        opened.operator.motors.is_told = is_told
+        return opened
 
     def _begun(self, face: PageFace, meter: Meter | None) -> Opened:
         args = self.args

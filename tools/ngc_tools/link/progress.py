@@ -84,6 +84,13 @@ class Report:
                       int(match[4] or 0), match[3] == "held", int(match[8]), int(match[10]), word, int(match[9]), again)
 
 
+def goes_on(report: Report | None) -> bool:
+    """Whether the motors carry out lines in hand, or will by themselves: nothing holds them, and no tool is asked for.
+    """
+    return (report is not None and report.behind > 0 and not report.is_held and not report.waits
+            and report.word in ("works", "waits spindle"))
+
+
 @dataclass(frozen=True, slots=True)
 class MoveReport:
     """What a player says of moves without lines. `does` is `stands`, `home X`, `jog X+` or `seek Z-`; `homed` the axes
@@ -271,6 +278,18 @@ class Link:
     def hold(self) -> None:
         """Tells a player to come to rest. Raises NoAnswer."""
         self._send(b"hold")
+
+    def rest(self) -> bool:
+        """Holds motors that make ramps and go on along lines in hand, and waits until they stand, or for some seconds,
+        as in a dwell; whether it told them. Raises NoAnswer."""
+        report = self.ask()
+        if not report.wants or not goes_on(report):
+            return False
+        self.hold()
+        until = time.monotonic() + self.patience_s
+        while goes_on(self.ask()) and time.monotonic() < until:
+            time.sleep(0.005)
+        return True
 
     def release(self) -> None:
         """Tells a player that is held to go on. Raises NoAnswer."""

@@ -115,6 +115,7 @@ class Operator:
         say_opening(self.session, self.places, self.left, found)
         status = self.console.status()
         self.taken_up = None
+        self.runs.is_handed_out = False
         self.choices.forget_given()
         self.recover.begin(status, self.left.is_as_left() and status.half != "mdi")
         self.session.noted = status.entries
@@ -368,15 +369,24 @@ class Operator:
             self.moves.touched = None
 
     def bring_back(self) -> None:
-        """Brings the motors to where a half-done segment begins, and takes it up."""
+        """Brings the motors to where a half-done segment begins, and takes it up; without one to where what was handed
+        out ends."""
         status = self.console.status()
         try:
+            left = self._size_of_out() if self.recover.is_left() else None
             is_there = self.recover.go(status)
+            is_whole = left is not None and self._size_of_out() >= left  # nothing is cut off
         except (NoAnswer, OSError) as error:
             self.face.say(str(error), WARNING)
             return
         if is_there and status.half != "none":
             self._take_up(self.console.status(), True)
+        elif is_there and is_whole:
+            self.runs.carried_out()
+
+    def _size_of_out(self) -> int:
+        """The bytes of OUT, a file that is followed. Raises OSError."""
+        return self.recover.found.link.size()
 
     def drop(self) -> None:
         """Cuts off OUT what no motor carried out."""

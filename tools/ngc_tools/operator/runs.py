@@ -132,6 +132,7 @@ class Runs:
         self.path = of_device(session.console.device)
         self.run = RecordedRun()
         self.ends = 0  # so many runs came to their end since
+        self.is_handed_out = False  # a run broke off behind its last line, and nothing was stored since
         self._slot: int | None = None
         session.on_slot = self._tool
 
@@ -147,6 +148,7 @@ class Runs:
         for event in _events(lines):
             self.run = self.run.after(event)
         if self.run.is_open and self.run.runs:
+            self.is_handed_out = not status.place and status.half == "none"
             self._add(_BROKE.format(line=self._line(status)))
 
     def loaded(self, name: str, text: bytes) -> None:
@@ -181,14 +183,24 @@ class Runs:
         if not self.run.runs or ended in (SINGLE, CHANGE) and not is_through:
             return
         if is_through:
-            self.ends += 1
-            self._add(f"ended, through, {self.run.figures(time.time())}")
+            self._end()
         elif ended == "stopped":
             self._add(f"stopped before {self._line(status)}")
         elif ended == "refused":
             self._add(f"refused at {self._line(status)}")
         else:
             self._add(f"held in {self._line(status)}")
+
+    def carried_out(self) -> None:
+        """The lines that the last session left in OUT are carried out, to the last one: where those of a run that broke
+        off were among them, it is through."""
+        if self.is_handed_out and self.run.is_open:
+            self._end()
+        self.is_handed_out = False
+
+    def _end(self) -> None:
+        self.ends += 1
+        self._add(f"ended, through, {self.run.figures(time.time())}")
 
     def show(self) -> None:
         """Says its last lines."""

@@ -5,7 +5,13 @@ from ngc_tools.operator.commands import COMMANDS, Asked, Needs
 from ngc_tools.operator.display import on_words
 from ngc_tools.operator.session import ALARM, BROKEN, WAITS_SPINDLE
 from ngc_tools.page.session import MOVES, PageSession
-from ngc_tools.link.progress import MoveReport, Report
+from ngc_tools.link.progress import MoveReport, Report, goes_on
+
+
+def is_given_before(session: PageSession, status: Status, report: Report | None) -> bool:
+    """Whether the motors carry out lines that were given before, and no command is under way, nor `ngc` held."""
+    is_told = not session.ended and not session.stand.gone
+    return is_told and session.under is None and status.does != "held" and goes_on(report)
 
 
 def able(session: PageSession, status: Status, report: Report | None, machine: MoveReport | None, outputs: Switch,
@@ -13,7 +19,8 @@ def able(session: PageSession, status: Status, report: Report | None, machine: M
     """Of each command that a page may ask for, and of `hold`, whether all holds that it needs. `machine` is what the
     player says of moves without lines, None where it makes none; `outputs` are those that are shown; `is_apart` says
     that the motors rest elsewhere than `ngc` takes them to be."""
-    holds = (_of_session(session) | _of_ngc(status) | _of_player(session, status, report) |
+    is_busy = session.is_busy or is_given_before(session, status, report)
+    holds = (_of_session(session, is_busy) | _of_ngc(status) | _of_player(session, status, report) |
              _of_moves(session, status, report, machine, outputs))
     if not is_apart:
         holds |= Needs.ONE_PLACE
@@ -31,11 +38,11 @@ def _those(**holding: bool) -> Needs:
     return found
 
 
-def _of_session(session: PageSession) -> Needs:
+def _of_session(session: PageSession, is_busy: bool) -> Needs:
     stand, under = session.stand, session.under
     return _those(SESSION=not session.ended, PLAYER=not stand.gone, CARRIES=not stand.is_broken,
-                  NOT_BUSY=not session.is_busy,
-                  NOTHING_BUT_JOG=not session.is_busy or under is not None and under.word == "jog",
+                  NOT_BUSY=not is_busy,
+                  NOTHING_BUT_JOG=not is_busy or under is not None and under.word == "jog",
                   NOTHING_LEFT=not (stand.recovery and stand.recovery["left"]))
 
 

@@ -8,7 +8,7 @@ from ngc_tools.operator.motors import count
 from ngc_tools.operator.session import ALARM, BROKEN, DOOR, SPINDLE, WAITS_SPINDLE
 from ngc_tools.page.face import LOOKS
 from ngc_tools.page.session import LOST, MOVES, WITHOUT_LINES, PageSession
-from ngc_tools.link.progress import UNSURE, Report
+from ngc_tools.link.progress import UNSURE, Report, goes_on
 
 Band = tuple[str, str, str]
 
@@ -50,7 +50,7 @@ class Standing:
 
     def band(self) -> Band:
         """A word, its tone, and more."""
-        return self._failed() or self._wanted() or self._under_way() or self._at_rest()
+        return self._failed() or self._wanted() or self._under_way() or self._goes_on() or self._at_rest()
 
     def _failed(self) -> Band | None:
         """Where something failed."""
@@ -119,6 +119,14 @@ class Standing:
         is_own = command.word in OWN_LINES and not session.operator.session.own
         return "Running", "run", ("" if is_own else self._line()) + waits
 
+    def _goes_on(self) -> Band | None:
+        """While the motors carry out lines that were given before, as by a session that was killed."""
+        report = self.report
+        if self._holds() or report is None or not goes_on(report):
+            return None
+        stops = ". Hold stops it" if report.wants else ""
+        return "Still running", "run", f"The player carries out what it was given before, {count(report)}{stops}"
+
     def _line(self) -> str:
         """The line that is under way or held: one's own as it was typed, nothing for one of a session before."""
         session = self.session
@@ -166,7 +174,7 @@ class Standing:
         if self.session.operator.session.is_door_open:
             return _OPEN
         if self.status.does != "held":
-            if self._has_lines_left():
+            if self._has_lines_left() or self.status.half != "none":
                 return self._left_in_hand()
             return self._held_by() if self.held_by != "here" else "Go on carries out what was handed out"
         who, line = self._who(), self._line()
@@ -174,7 +182,8 @@ class Standing:
 
     def _left_in_hand(self) -> str:
         """What leads on where motors are held that have lines of the last session in hand, or a way."""
-        if self.session.stand.recovery["sent"]:
+        recovery = self.session.stand.recovery
+        if recovery and recovery["sent"]:
             return "Recover goes on with the way that was held"
         return f"Recover has them carry out {count(self.report)} in hand first; Stop lets go of these"
 

@@ -33,6 +33,7 @@ _LONGEST_ANSWER = 64
 _MOST_PRESSES = 1000  # that are numbered before the server hears of one
 _STEP_S = 600.0  # that a step may take
 _SLOW = "said {ms} ms ago, and so not done: this page, or the network, is too slow now for keys"
+_NOT_ASKED = "the player doesn't ask for that tool any more, and so it isn't done: look which one it asks for"
 _MOST_KEPT = 2  # programs that were looked at and may be loaded
 SWITCHES = words_that_bring(Brings.SWITCH)
 _OUTPUT_LINES = {"clockwise": "M3 S{}", "counter-clockwise": "M4 S{}", "spindle off": "M5", "flood": "M8", "mist": "M7",
@@ -84,6 +85,10 @@ class Given:
         if not isinstance(found, list) or len(found) != 3:
             raise BadWords(f"{name}: three numbers in millimetres")
         return list(map(number_of, found))
+
+    def shown(self) -> list[str] | None:
+        """Where the page showed the motors as it was touched; None where it says no place. Raises BadWords."""
+        return self.point("shown") if self.words.get("shown") is not None else None
 
     def axes(self, name: str) -> dict[str, str]:
         """Numbers in millimetres of some axes. Raises BadWords."""
@@ -157,7 +162,7 @@ def _reference(given: Given) -> dict:
     at = "player" if given.words.get("at") == "player" else " ".join(given.point("at"))
     if given.session.stand.gone:
         raise RequestRefused(HTTPStatus.CONFLICT, "the player is gone. Start it, then Start ngc again")
-    given.session.tell(f"reference {at}{given.anyway()}")
+    given.session.reference(f"reference {at}{given.anyway()}", given.shown())
     return {"refused": given.session.face.refusal}
 
 
@@ -297,7 +302,15 @@ def _answer(given: Given) -> dict:
 
 
 def _recover(given: Given) -> None:
-    given.session.recover(given.point("at") if given.words.get("at") is not None else None)
+    given.session.recover(given.point("at") if given.words.get("at") is not None else None, given.shown())
+
+
+def _go(given: Given) -> None:
+    """The tool is in that the page showed. Raises RequestRefused where the player waits for another one by now, or for
+    none."""
+    if given.words.get("tool") is not None and not given.session.asks_for(given.count("tool", SLOTS), given.shown()):
+        raise RequestRefused(HTTPStatus.CONFLICT, _NOT_ASKED)
+    given.session.tell("go", given.holds)
 
 
 def _rehearse(given: Given) -> dict:
@@ -327,12 +340,12 @@ def _typed(word: str, given: Given) -> None:
 
 _OWN: dict[str, Callable[[Given], dict | None]] = {
     "load": _load, "mdi": _mdi, "reference": _reference, "rehearse": _rehearse, "jog": _jog, "recover": _recover,
+    "go": _go,
     "stop": lambda given: given.session.stop(given.pages.commands),
     "off": lambda given: given.session.off(given.pages.commands),
     "rewind": lambda given: {"taken": given.session.rewind()},
     "run": lambda given: given.session.run("run" + given.anyway()),
     "release": lambda given: given.session.release(),
-    "go": lambda given: given.session.tell("go", given.holds),
     "quit": lambda given: given.session.quit(),
 }
 """The commands by which the page does more than a console, or asks for more."""

@@ -21,7 +21,7 @@ from ngc_tools.job.cam_homes import HomeAnswers
 from ngc_tools.ngc.console import Ended, Status
 from ngc_tools.operator.commands import Brings, Taken, words_taken, words_that_bring
 from ngc_tools.operator.face import REFUSED, WARNING
-from ngc_tools.operator.motors import SPINDLE_PERCENTS, WHOLE
+from ngc_tools.operator.motors import SPINDLE_PERCENTS, WHOLE, count
 from ngc_tools.operator.operator import Operator
 from ngc_tools.operator.places import is_same_place
 from ngc_tools.operator.sentences import explained
@@ -38,7 +38,7 @@ from ngc_tools.page.jog import HeldJog, Wish
 from ngc_tools.page.losses import Losses
 from ngc_tools.page.stand import Kept, Stand, recovery_of
 from ngc_tools.link.machine import read_machine
-from ngc_tools.link.progress import Link, NoAnswer, Report
+from ngc_tools.link.progress import Link, NoAnswer, Report, goes_on
 from ngc_tools.version import shown_version
 
 WITHOUT_LINES = words_that_bring(Brings.MOVES)
@@ -48,6 +48,9 @@ LOST = "lost"
 """Stands for the page that held, where that was nobody: the one that commands was lost."""
 _LEAVE_S = 10.0
 _LOOK_S = 0.15  # how often it looks while nothing runs
+_MOVED = "the motors aren't where this page showed them, and so it isn't done: look, and confirm anew where they stand"
+_IN_HAND = """\
+nothing is done: the motors have {count} in hand. Recover has them carry those out first, and Stop lets go of them"""
 _PROGRAM = words_that_bring(Brings.PROGRAM)
 _CHOICES = words_that_bring(Brings.CHOICE)
 _ASIDES = words_taken(Taken.AMID) - {"release"}  # that one has a way of its own
@@ -358,12 +361,44 @@ class PageSession:
             self.operator.do(line)
         self.give("run", does)
 
-    def recover(self, stands: list[str] | None) -> None:
-        """Does `recover`. A person has confirmed that the motors stand there, in machine millimetres; None where nobody
-        was asked. Raises Busy."""
+    def reference(self, line: str, shown: list[str] | None) -> None:
+        """Does `reference`, as a person types it, and waits for it; `shown` is where the page showed the motors. Raises
+        Busy."""
         def does() -> None:
             """By the operator's core."""
-            if stands and not self._are_there(stands):
+            report = self.operator.session.report() if shown else None
+            if not self._are_shown(shown):
+                return
+            if report is not None and report.behind:
+                self.face.say(_IN_HAND.format(count=count(report)), REFUSED)
+            else:
+                self.operator.do(line)
+        self.give("reference", does).awaited()
+
+    def asks_for(self, tool: int, shown: list[str] | None) -> bool:
+        """Whether the player waits for that tool, where the page showed the motors."""
+        report = self.face.report
+        if report is None or not report.waits or report.tool != tool:
+            return False
+        return shown is None or is_same_place(self.settings, shown, report.at.split())
+
+    def _are_shown(self, shown: list[str] | None) -> bool:
+        """Whether the motors stand where a page showed them as somebody confirmed a place, None for nowhere; says it
+        where they don't."""
+        report = self.operator.session.report()
+        if shown is None or report is None:
+            return True
+        if not goes_on(report) and is_same_place(self.settings, shown, report.at.split()):
+            return True
+        self.face.say(_MOVED, REFUSED)
+        return False
+
+    def recover(self, stands: list[str] | None, shown: list[str] | None = None) -> None:
+        """Does `recover`. A person has confirmed that the motors stand there, in machine millimetres, as the page
+        showed them at `shown`; None where nobody was asked. Raises Busy."""
+        def does() -> None:
+            """By the operator's core."""
+            if stands and not (self._are_shown(shown) and self._are_there(stands)):
                 return
             self.operator.recover.confirmed_nm = tuple(map(nanometres, stands)) if stands else None
             self.operator.do("recover")

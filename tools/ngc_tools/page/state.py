@@ -15,7 +15,7 @@ from ngc_tools.operator.display import on_words
 from ngc_tools.operator.motors import way_nm
 from ngc_tools.operator.sentences import SWITCHED
 from ngc_tools.operator.session import ALARM
-from ngc_tools.page.able import able
+from ngc_tools.page.able import able, is_given_before
 from ngc_tools.page.band import Standing
 from ngc_tools.page.face import LOOKS
 from ngc_tools.page.offsets import offsets_of
@@ -123,7 +123,8 @@ class Pictured:
                 "own": session.own, "optional": session.optional, "delete": session.delete, "single": session.single,
                 "question": question, "message": face.message, "half_opened": state.opened,
                 "half_text": shown_line(state.half_text) if state.half else "",
-                "busy": self.session.is_busy, "moving": self._moves(), "does_move": self._does,
+                "busy": self.session.is_busy or self._goes_on, "goes_on": self._goes_on, "moving": self._moves(),
+                "does_move": self._does,
                 "press": self.session.jogs.last,
                 "apart": self._apart, "unsure": self._is_unsure, "held_by": self._held_by,
                 "door_open": self.operator.session.is_door_open,
@@ -305,6 +306,11 @@ class Pictured:
                 "measures": self.operator.measuring.is_on if self.operator.measuring.can else None,
                 "jobs": session.jobs is not None,
                 "typed": self.stand.typed, "restore": self.stand.restore, "version": session.version}
+
+    @property
+    def _goes_on(self) -> bool:
+        """Whether the motors carry out lines that were given before: nothing of a recovery is shown until they rest."""
+        return is_given_before(self.session, self.status, self.report)
 
     def _moves(self) -> bool:
         """Whether a command is under way that moves the machine, and nobody has to look or agree first."""

@@ -164,7 +164,7 @@ function running(s) {
   if (isThere(s)) return alarm.button(s);
   if (s.command?.word === 'stop') return ['Stopping\u2026', false, null];
   const isIn = s.waits_tool ? `Tool ${s.waits_tool} is in` : 'Tool is out';
-  if (s.waits && !s.player_gone) return [isIn, may(s, 'go'), () => asks('go')];
+  if (s.waits && !s.player_gone) return [isIn, may(s, 'go'), () => asks('go', { tool: s.waits_tool, shown: s.motors })];
   if (s.door_open && s.held_by && !isHalf) return ['Close the door', false, null];
   if (s.busy && s.held_by && s.held_by !== 'here') return ['Go on', may(s, 'release'), () => asks('release')];
   if (isHalf) return ['Recover', s.yours && !recovery.isOpen, () => recovery.begin()];
@@ -203,7 +203,7 @@ function whereIsIt() {
     s.past && sheet.said(byRecord(s.past)),
     hasHome && sheet.said('Where steps may be lost, as after a loss of power, home it.')],
   [sheet.button('Back', sheet.close), sheet.gap('Nothing moves by the first.'),
-    sheet.button(`Where the player counts${off}`, does('reference', { at: 'player' })),
+    sheet.button(`Where the player counts${off}`, does('reference', { at: 'player', shown: s.motors })),
     hasHome ? sheet.go('Home all', does('home', { axes: '' })) : '']);
 }
 

@@ -79,7 +79,7 @@ export class Recovery {
   show(s) {
     if (this.isHoming && !s.busy && s.homed) Object.assign(this, { isHoming: false, isLater: false });
     if (!this.isOpen) return;
-    const isOver = !s.busy && s.half === 'none' || s.moving;
+    const isOver = !s.busy && s.half === 'none' || s.moving || s.goes_on; // it comes anew once the motors rest
     if (s.ended || isOver && !s.question) {
       this.close();
       return;
@@ -107,6 +107,9 @@ export class Recovery {
     this.told = now;
     return true;
   }
+
+  // Where the motors were shown as the place was confirmed; null without a player. The server compares it.
+  get shown() { return this.app.state.motors && this.told; }
 
   // What of a state decides what is on the sheet: while that stays, what somebody typed or ticked stays too.
   shownOf(s) {
@@ -337,7 +340,7 @@ export class Recovery {
     const isAlong = this.along && (this.along.way || this.along.there);
     const offered = isAlong ? ['along'] : this.along || player ? ['legs'] : [];
     if (canResume) offered.push(player ? 'straight' : 'own');
-    const recovers = () => this.asks('recover', { at: this.at });
+    const recovers = () => this.asks('recover', { at: this.at, shown: this.shown });
     const does = { along: recovers, legs: recovers, straight: () => this.resume(),
       own: () => this.resume() };
     const buttons = offered.map((name, i) => (i === (this.along ? 0 : offered.length - 1) ? sheet.go : sheet.button)(
@@ -376,7 +379,7 @@ export class Recovery {
   // Until that is over, motors that are told to be elsewhere didn't move.
   async tells(does) {
     this.isTelling = true;
-    await does(await this.asks('reference', { at: this.at, anyway: true }));
+    await does(await this.asks('reference', { at: this.at, anyway: true, shown: this.shown }));
     this.isTelling = false;
   }
 }
