@@ -431,7 +431,8 @@ class KilledWithoutRamps(ServerKilled):
         self.assertEqual((state["word"], state["tone"], state["half"]), ("Still running", "run", "program"))
         self.assertRegex(state["detail"], r"^The player carries out what it was given before, \d+ lines?$")
         self.assertEqual((state["busy"], state["goes_on"], state["can"]["hold"]), (True, True, True))
-        self.assertFalse(any(state["can"][word] for word in ("recover", "reference", "resume", "abandon", "jog", "run")))
+        touched = ("recover", "reference", "resume", "abandon", "jog", "run")
+        self.assertFalse(any(state["can"][word] for word in touched))
         rested = page.until("they rest", lambda state: not state["busy"])
         self.assertEqual((rested["word"], rested["behind"], rested["goes_on"]), ("Half-done", 0, False))
         self.assertGreater(float(rested["motors"][0]), float(state["motors"][0]))
@@ -449,7 +450,7 @@ class KilledWithRamps(ServerKilled):
         page, state = self.begun_again()
         self.assertEqual((state["word"], state["held_motors"], state["busy"]), ("Held", True, False))
         self.assertEqual((state["half"], state["held_by"]), ("program", "here"))
-        self.assertRegex(state["detail"], r"^Recover has them carry out \d+ lines in hand first; Stop lets go of these$")
+        self.assertRegex(state["detail"], r"^Recover has them carry out \d+ lines in hand first; Stop lets go of")
         time.sleep(0.5)
         self.assertEqual(self.link.ask().at.split(), state["motors"])
         told = {"at": state["motors"], "anyway": True, "shown": state["motors"]}
