@@ -25,7 +25,10 @@ G0 Z5
 M2
 """
 """Its line 6 goes along Y, within the work."""
+UNSET = "G21 G90 G17 G54 G94\nG0 X1\nG0 Z2\nM2\n"
+"""Its line 3 moves Z by the length that is in force before."""
 PRESSES = 50
+WORDS = "document.querySelector('#over .words').textContent"
 GAUGES = "[...document.querySelectorAll('#gauges dd')].slice(1, 3).map(one => one.textContent).join()"
 """Of spindle and coolant."""
 
@@ -185,6 +188,58 @@ class Deeds(OverBodies):
         self.is_at(0, 0, 5)
         self.assertEqual(self.world.reached[1:], ((-4 * MM, -4 * MM, MM), (3 * MM, 2 * MM, 9.5 * MM)))
         self.assertEqual(self.world.outputs.spindle, 0)
+
+
+class Asked(OverBodies):
+    """What is asked before it is done. Tool 2 is 3 mm long."""
+
+    EXTRA = ""
+    BEFORE = "tool 1 0\ntool 2 3\n"
+
+    def test_length_in_force(self) -> None:
+        """A program that moves Z before it sets a tool length begins by the one that is in force, which is told as it
+        is looked at, and as it is loaded. Where that is another one since, it is asked: a no moves nothing."""
+        browser = self.browser
+        self.do("G43 H2")
+        self.choose(UNSET)
+        says = "it moves Z before it sets G43 or G49, and a length of 3.000 mm is in force, as it was left before"
+        self.assertIn(f"Line 3  WarningG0 Z2{says}", browser.js(WORDS))
+        browser.press("Load", "#over .go")
+        self.rests("s.program.lines === 4 && ngc.job")
+        self.toasts(f"line 3: {says}")
+        browser.press("Run", "#run")
+        self.rests("s.finished")
+        self.assertEqual(self.world.place, (MM, 0, 5 * MM))
+        self.do("G49")
+        self.world.forget_reached()
+        browser.press("Run", "#run")
+        self.assertEqual(self.asked(), "begin all the same?")
+        self.assertIn("line 3: it moves Z before it sets G43 or G49, and no tool length is in force", browser.js(WORDS))
+        browser.press("No", "#over .foot button")
+        self.rests("!s.finished")
+        self.assertEqual(*self.world.reached[1:])
+        browser.press("Run", "#run")
+        browser.press("Yes: begins", "#over .go")
+        self.rests("s.finished")
+        self.assertEqual(self.world.place, (MM, 0, 2 * MM))
+        self.shows("", length=0)
+        self.no_complaints()
+
+    def test_homes_by_a_line(self) -> None:
+        """Of `G91 G28 Z0` it is said which axes move: by a no none does, and nothing is in force that wasn't."""
+        browser = self.browser
+        self.do("G0 X1 Y2 Z3")
+        for answer, place, distance in (("No", (MM, 2 * MM, 3 * MM), 90), ("Yes: goes there", (0, 0, 0), 91)):
+            self.world.forget_reached()
+            browser.fill("#line", "G91 G28 Z0")
+            browser.press("Do", "#do")
+            self.assertTrue(self.asked().startswith(
+                "G28 moves X, Y and Z, through what stands there, to machine X 0.000 Y 0.000 Z 0.000. To move Z alone"))
+            self.assertEqual(*self.world.reached[1:])
+            browser.press(answer, "#over .foot button")
+            self.rests(f"s.distance === {distance}")
+            self.assertEqual((self.world.place, self.world.reached[1:]), (place, (place, (MM, 2 * MM, 3 * MM))))
+        self.no_complaints()
 
 
 if __name__ == "__main__":

@@ -76,7 +76,7 @@ class OverMachine(AtMachine):
         self.seen = self.page()
         state = self.seen.rested()
         self.assertEqual((state["program"]["way"][1], state["motors"]), (7, ["9.000000", "-9.000000", "2.000000"]))
-        self.assertEqual((state["half"], self.world.reached), ("none", (0, (0, 0, 0), (0, 0, 0))))
+        self.assertEqual((state["half"], *self.world.reached[1:]), ("none", *[(9_000, -9_000, 2_000)] * 2))
 
     def test_refused(self) -> None:
         """What can't be is said, and words that aren't a line's number aren't taken."""

@@ -29,19 +29,24 @@ class OverWorld(Served):
         Path("first.toml").write_text(Path("first.toml").read_text().replace("1000000000", "10000000"))
 
     def begin_player(self) -> None:
-        """Starts the player over the machine."""
-        self.world = self.MODEL()
-        self.addCleanup(self.world.close)
-        for number in range(3):
-            self.world.no_switch(number)
-        self.world.touching(PROBE)
+        """Starts the player over the machine, which stays where it is while power is lost."""
+        if not Path("world").exists():
+            self.world = self.MODEL()
+            self.addCleanup(self.world.close)
+            for number in range(3):
+                self.world.no_switch(number)
+            self.world.touching(PROBE)
         text = MACHINE.replace("door = 4\nspindle_at_speed = 5\n", "").replace("at_speed_s = 1\n", "")
         Path("motion.toml").write_text(text + self.EXTRA)
-        words = [*self.WORDS, "-f", "-s", "progress", "-m", "motion.toml", "out", "first.toml", "position"]
-        self.player = subprocess.Popen([program(), *words], stdin=subprocess.DEVNULL, stdout=subprocess.PIPE,
-                                       stderr=subprocess.PIPE, text=True)
+        self.player = subprocess.Popen([program(), *self.player_words()], stdin=subprocess.DEVNULL,
+                                       stdout=subprocess.PIPE, stderr=subprocess.PIPE, text=True)
         self.addCleanup(self._end, self.player)
         self.wait_for("the player listens", lambda: os.path.exists("progress"))
+
+    def player_words(self) -> list[str]:
+        """Those of the player."""
+        follows = ["-f"] if self.OUT == "out" else []
+        return [*self.WORDS, *follows, "-s", "progress", "-m", "motion.toml", self.OUT, "first.toml", "position"]
 
     def begin(self) -> None:
         """Starts both."""

@@ -127,6 +127,13 @@ class OverBodies(OverWorld, test_page_browser.InBrowser):
         with closing(Link("progress", PATIENCE_S)) as link:
             self.wait_for("the player knows it", lambda: ("probe" in link.machine().on) == is_on)
 
+    def puts_in(self, slot: int) -> None:
+        """A tool is put in by hand, as a line asks for it."""
+        self.browser.fill("#line", f"T{slot} M6")
+        self.browser.press("Do", "#do")
+        self.browser.press(f"Tool {slot} is in", "#run")
+        self.rests(f"s.slot === {slot}")
+
     def rests(self, holds: str = "true") -> None:
         """Waits until nothing is under way, nothing is asked, and something holds of the state `s`."""
         self.browser.wait(f"(s => !s.busy && !s.question && ({holds}))(ngc.state)")
@@ -184,10 +191,7 @@ class Misbehaves(OverBodies):
     def setUp(self) -> None:
         """The probe is put in, and its length is in force."""
         super().setUp()
-        self.browser.fill("#line", "T1 M6")
-        self.browser.press("Do", "#do")
-        self.browser.press("Tool 1 is in", "#run")
-        self.rests("s.slot === 1")
+        self.puts_in(1)
         self.do("G43 H1")
 
     def test_probe(self) -> None:
@@ -220,6 +224,45 @@ class Misbehaves(OverBodies):
         self.rests("Number(s.origin[0]) === 5")
         self.shows("2.000", (5, 0, 0), 2)
         self.no_complaints()
+
+    def test_where_touched(self) -> None:
+        """The place where the probe was touched is taken for a zero where that is chosen, anew for each touch, until
+        something moves, and once. It is said each time which machine point a zero takes."""
+        self.browser.press("Setup", "nav button")
+        self.seeks()
+        self.takes(self.world.place, "the motors are")  # it is off by itself
+        self.browser.press("Where the probe was touched", "#tab-setup button")
+        self.takes((4_500, 0, 0), "the probe was touched")
+        self.do("G0 X0 Y1")
+        self.is_gone()
+        self.seeks()
+        self.takes(self.world.place, "the motors are")
+        self.browser.press("Where the probe was touched", "#tab-setup button")
+        self.takes((4_500, MM, 0), "the probe was touched")
+        self.press("Set X", "#tab-setup .four button:first-child")
+        self.shows("2.000", (4.5, 0, 0), 2)
+        self.is_gone()
+        self.press("Set X", "#tab-setup .four button:first-child")
+        self.shows("2.000", (self.world.place[0] / MM, 0, 0), 2)
+        self.no_complaints()
+
+    def seeks(self) -> None:
+        """Seeks the block along X: the motors come to rest a little behind the touch."""
+        self.browser.press("X+", "#tab-setup .five button")
+        self.rests("s.touched")
+        self.assertTrue(4_500 < self.world.place[0] < 4_500 + REST, self.world.place)
+
+    def takes(self, place: tuple[int, ...], where: str) -> None:
+        """The page says that a zero takes this machine point."""
+        named = "   ".join(f"{axis} {shown(at, False)}" for axis, at in zip("XYZ", place))
+        self.browser.wait(f"document.querySelector('#tab-setup .hint:has(+ .four)').textContent"
+                          f" === 'Takes machine {named} mm, where {where}'")
+
+    def is_gone(self) -> None:
+        """No place where the probe was touched is offered, and the motors' place is taken."""
+        self.takes(self.world.place, "the motors are")
+        self.assertFalse(self.browser.js("[...document.querySelectorAll('#tab-setup .switch')].find(one =>"
+                                         " one.textContent === 'Where the probe was touched').checkVisibility()"))
 
     def bounces(self, steps: int) -> None:
         """One that bounces by so many steps finds the edge within these."""

@@ -139,6 +139,16 @@ class Telling(World):
         """When an output changed last."""
         return float(_MADE.unpack_from(self._made)[7]) / 1e9
 
+    def last(self, count: int) -> Iterator[Pulse]:
+        """The last pulses, the newest first."""
+        return self.between(self.pulses - count, self.pulses)
+
+    def between(self, begin: int, end: int) -> Iterator[Pulse]:
+        """The pulses of these numbers, the newest first, as far as they are still told."""
+        for number in range(end - 1, max(0, begin, end - _LAST // 2) - 1, -1):
+            at_ns, *told = _PULSE.unpack_from(self._made, _MADE.size + number % _LAST * _PULSE.size)
+            yield Pulse(at_ns / 1e9, (told[3], told[4], told[5]), (told[0], told[1], told[2]))
+
     def lose_power(self) -> None:
         """Nothing turns, and nothing flows."""
         _MADE.pack_into(self._made, 0, self.pulses, 0, 0, 0, 0, self.outputs.slot, 0, time.monotonic_ns())
@@ -167,16 +177,6 @@ class Mill(Telling):
     def at_mm(self) -> Point:
         """Where the machine is."""
         return next((pulse.at_mm for pulse in self.last(1)), (0.0, 0.0, 0.0))
-
-    def last(self, count: int) -> Iterator[Pulse]:
-        """The last pulses, the newest first."""
-        return self.between(self.pulses - count, self.pulses)
-
-    def between(self, begin: int, end: int) -> Iterator[Pulse]:
-        """The pulses of these numbers, the newest first, as far as they are still told."""
-        for number in range(end - 1, max(0, begin, end - _LAST // 2) - 1, -1):
-            at_ns, *told = _PULSE.unpack_from(self._made, _MADE.size + number % _LAST * _PULSE.size)
-            yield Pulse(at_ns / 1e9, (told[3], told[4], told[5]), (told[0], told[1], told[2]))
 
     def last_pulse_at(self) -> float:
         """When the last pulse was made; 0 for none."""
