@@ -259,6 +259,13 @@ class InBrowser(Served):
                                  "--listen", f"127.0.0.1:{port}")
         self.assertEqual(self.server.stdout.readline().strip(), self.address)
 
+    def power_comes_back(self) -> None:
+        """Power is lost, and the page shows the session that begins then."""
+        before = self.browser.js("ngc.state.session")
+        self.pull()
+        self.begin_again()
+        self.browser.wait(f"ngc.state?.session && ngc.state.session !== '{before}'")
+
     def no_complaints(self) -> None:
         """The page logged nothing, and asked nobody else; a server that is gone may be missed."""
         missed = [one for one in self.browser.complaints if "ERR_CONNECTION_REFUSED" not in one]
@@ -776,10 +783,7 @@ class Power(InBrowser):
         self.load(SLOW, 4)
         browser.press("Run", "#run")
         browser.wait("ngc.state.motors[0] > 0.02")
-        before = browser.js("ngc.state.session")
-        self.pull()
-        self.begin_again()
-        browser.wait(f"ngc.state?.session && ngc.state.session !== '{before}'")
+        self.power_comes_back()
         browser.goes_on()
         browser.press("Next", "#over button")
 
@@ -931,10 +935,7 @@ class OnTheWay(InBrowser):
         browser.press("Run", "#run")
         browser.wait("ngc.state.motors[0] > 0.6")
         self.wait_for("the record has it", lambda: self.recorded().at_nm[0] > 500_000)
-        before = browser.js("ngc.state.session")
-        self.pull()
-        self.begin_again()
-        browser.wait(f"ngc.state?.session && ngc.state.session !== '{before}'")
+        self.power_comes_back()
         browser.goes_on()
         browser.press("Next", "#over button")
         for _ in range(3):
@@ -976,10 +977,8 @@ class LinesLeft(InBrowser):
         browser.press("Run", "#run")
         browser.wait("ngc.state.half === 'none' && ngc.state.motors[0] > 0.1 && ngc.state.behind > 0")
         self.wait_for("the record has it", lambda: self.recorded().at_nm[0] > 100_000)
-        before = browser.js("ngc.state.session")
-        self.pull()
-        self.begin_again()
-        browser.wait(f"ngc.state?.session && ngc.state.session !== '{before}' && ngc.state.recover?.left")
+        self.power_comes_back()
+        browser.wait("ngc.state.recover?.left")
         self.assertEqual(browser.js("ngc.state.half"), "none")
         browser.press("Recover", "#run")
         self.assertIn("Given back, as it was: feed 90 %.", browser.js("document.querySelector('#over .words')"
@@ -998,10 +997,8 @@ class PowerOverPipe(InBrowser):
         browser.wait("ngc.state.motors[0] > 0.05 && ngc.state.behind > 60")
         risk = browser.js("document.getElementById('risk').textContent")
         self.assertRegex(risk, r"^A loss of power costs [0-9]+ lines, 0\.[0-9]{3} mm$")
-        before = browser.js("ngc.state.session")
-        self.pull()
-        self.begin_again()
-        browser.wait(f"ngc.state?.session && ngc.state.session !== '{before}' && ngc.neverCut")
+        self.power_comes_back()
+        browser.wait("ngc.neverCut")
         browser.wait("document.querySelector('#over .bad')?.textContent.includes('NEVER CUT')")
         self.assertTrue(browser.js("ngc.picture.lost[0].length > 1 && !document.getElementById('never-cut').hidden"))
         log = "document.querySelector('#log .uncut')"
