@@ -31,8 +31,10 @@ class NotWritten(Failure):
     """A file isn't written, since something that is needed stands there; the text names it, and says what to do."""
 
 
-def cause(error: OSError) -> str:
-    """The path and what is wrong with it."""
+def cause(error: Exception) -> str:
+    """The path and what is wrong with it; the text of what the system didn't raise."""
+    if not isinstance(error, OSError):
+        return str(error)
     why = error.strerror or str(error)
     return why if error.filename is None else f"{shown(os.fsdecode(error.filename))}: {why}"
 

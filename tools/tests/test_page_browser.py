@@ -266,6 +266,16 @@ class InBrowser(Served):
         self.begin_again()
         self.browser.wait(f"ngc.state?.session && ngc.state.session !== '{before}'")
 
+    def gives_line_up(self, says: str = "") -> None:
+        """From the step in which the place was confirmed: the way back says so much, and the line is given up."""
+        browser = self.browser
+        browser.press("Next", "#over button")
+        browser.wait("document.querySelector('#over details')")
+        self.assertIn(says, browser.js("document.querySelector('#over .words').textContent"))
+        browser.press("Next", "#over button")
+        browser.press("Give up", "#over button")
+        browser.press("Yes, give it up", "#over button")
+
     def no_complaints(self) -> None:
         """The page logged nothing, and asked nobody else; a server that is gone may be missed."""
         missed = [one for one in self.browser.complaints if "ERR_CONNECTION_REFUSED" not in one]
@@ -793,12 +803,7 @@ class Power(InBrowser):
         browser.fill("input[aria-label='Machine Y']", y)
         for _ in range(3):
             browser.press("Confirm", "#over button")
-        browser.press("Next", "#over button")
-        browser.wait("document.querySelector('#over details')")
-        self.assertIn("Legs alone lead back", browser.js("document.querySelector('#over .words').textContent"))
-        browser.press("Next", "#over button")
-        browser.press("Give up", "#over button")
-        browser.press("Yes, give it up", "#over button")
+        self.gives_line_up("Legs alone lead back")
         browser.wait("ngc.state.half === 'none' && !ngc.state.busy")
 
     def test_measured(self) -> None:
@@ -822,11 +827,7 @@ class Power(InBrowser):
         browser.wait("ngc.state.motors[1] === '0.250000'")
         for _ in range(3):
             browser.press("Confirm", "#over button")
-        browser.press("Next", "#over button")
-        browser.wait("document.querySelector('#over details')")
-        browser.press("Next", "#over button")
-        browser.press("Give up", "#over button")
-        browser.press("Yes, give it up", "#over button")
+        self.gives_line_up()
         says = browser.wait("document.getElementById('toast').checkVisibility() && document.getElementById('toast')"
                             ".textContent")
         self.assertTrue(says.startswith("the motors aren't where this page showed them"), says)
@@ -952,11 +953,7 @@ class OnTheWay(InBrowser):
         self.goes()
         browser.wait("document.querySelector('#over .steps .now b').textContent === '2'")
         browser.press("Confirm", "#over button")
-        browser.press("Next", "#over button")
-        browser.wait("document.querySelector('#over details')")
-        browser.press("Next", "#over button")
-        browser.press("Give up", "#over button")
-        browser.press("Yes, give it up", "#over button")
+        self.gives_line_up()
         browser.wait("ngc.state.half === 'none' && !ngc.state.busy")
         self.assertEqual(browser.js("ngc.state.at.join()"), browser.js("ngc.state.motors.join()"))
         self.no_complaints()

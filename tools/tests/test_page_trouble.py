@@ -308,11 +308,7 @@ class Nowhere(test_page_browser.InBrowser):
             browser.fill(f"input[aria-label='Machine {axis}']", at)
         for _ in "XYZ":
             browser.press("Confirm", "#over button")
-        browser.press("Next", "#over .go")
-        browser.wait("document.querySelector('#over details')")
-        browser.press("Next", "#over .go")
-        browser.press("Give up", "#over button")
-        browser.press("Yes, give it up", "#over button")
+        self.gives_line_up()
         browser.wait("ngc.state.half === 'none' && ngc.state.known && !ngc.state.busy")
         self.assertEqual(browser.js(numbers), ["1.500", "0.000", "\u22120.250"])
         self.assertEqual(browser.js("document.getElementById('risk').textContent"), "")

@@ -39,8 +39,7 @@ class AskedFile:
         sync_folder(self.path)
 
     def remove(self) -> None:
-        """Removes it, if it is what is kept there. One that can't be removed is looked at once more, and no more than
-        asked about."""
+        """Removes it, if it is what is kept there. Where it can't be removed, people are at most asked once more."""
         with suppress(OSError):
             if self._text() is not None:
                 os.unlink(self.path)

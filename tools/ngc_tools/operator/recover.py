@@ -120,7 +120,10 @@ class Recover:
             return True
         is_wanted = self.session.agrees(HIDES.format(out=self.found.link.out, count=count))
         try:
-            self.found.put_back() if is_wanted else self.found.undo()
+            if is_wanted:
+                self.found.put_back()
+            else:
+                self.found.undo()
         except (NoAnswer, OSError) as error:
             self.session.face.say(f"they aren't put back, and nothing is stored: {error}", REFUSED)
             return False

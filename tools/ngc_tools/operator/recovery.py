@@ -9,7 +9,7 @@ from functools import cached_property
 from math import isqrt
 
 from ngc_tools.failure import Failure
-from ngc_tools.files import NotWritten
+from ngc_tools.files import NotWritten, cause
 from ngc_tools.formats.device import Device
 from ngc_tools.formats.out import OFF, BadLine, Switch
 from ngc_tools.formats.out_note import OutNote
@@ -201,16 +201,15 @@ class OutFound:
         """Keeps the device as it was found while it is asked whether lines are put back, unless that is `kept` already;
         what was kept and is of use no more is removed."""
         beginning, file = self.recovery.beginning, self.link.asked
-        if file is None:
-            return
+        if file is None or beginning is None and kept is not None:
+            return  # what is kept may tell them later
         if beginning is None or not beginning.missing:
-            if beginning is not None or kept is None:
-                file.remove()
+            file.remove()
         elif beginning.is_new and kept is None:
             try:
                 file.keep(device)
             except (NotWritten, OSError) as error:
-                self.said.append(f"{NOT_KEPT}: {error}")
+                self.said.append(f"{NOT_KEPT}: {cause(error)}")
 
     def _say_hole(self) -> None:
         """Says what the disk lost in the midst of OUT, and what that costs."""

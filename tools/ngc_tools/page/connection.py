@@ -104,7 +104,7 @@ class Connection:
         except Failure as error:
             status, why = HTTPStatus.UNPROCESSABLE_ENTITY, error.said()
         except (BadWords, OSError) as error:
-            status, why = HTTPStatus.UNPROCESSABLE_ENTITY, cause(error) if isinstance(error, OSError) else str(error)
+            status, why = HTTPStatus.UNPROCESSABLE_ENTITY, cause(error)
         return status, packed({"why": why}), _JSON
 
     def _got(self, path: str) -> tuple[bytes, str]:

@@ -168,8 +168,7 @@ class NeverCutSearch:
         return earlier
 
     def _warn(self, error: NotWritten | OSError) -> None:
-        why = cause(error) if isinstance(error, OSError) else str(error)
-        self._face.say(f"after another loss of power this one won't be told of: {why}", WARNING)
+        self._face.say(f"after another loss of power this one won't be told of: {cause(error)}", WARNING)
 
     def _take(self, told: dict | None) -> None:
         self.found = told
