@@ -24,7 +24,7 @@ from pathlib import Path
 sys.path.insert(0, str(Path(__file__).resolve().parent))
 
 from player_support import built, builds, made
-from power_chain import Chain, Options, Plan, plan
+from power_chain import Chain, Options, Plan, plan, plan_as_log_begins
 from power_path import Unjudged, Wrong, memory, run_uncut
 from power_shop import HERE, Consoles, Job, Tools
 from session_support import FIRST
@@ -88,10 +88,16 @@ def typed_x(stands: int, wanted: int) -> int:
     return wanted + (JOG_STEPS + 10) * (0 <= wanted - stands <= JOG_STEPS)
 
 
-def program(chance: random.Random, blocks: int) -> tuple[bytes, list[bytes]]:
-    """Short moves, arcs, cycles, waits, switches, tools, traverses and stops, by chance; and what is typed at these."""
+FILLING = ["G91 G81 X0 Y0 Z-0.002 R0 L700", "G80 G90"]
+"""Two segments a hole, of which the device's log has the room for 510."""
+
+
+def program(chance: random.Random, blocks: int, fills: bool) -> tuple[bytes, list[bytes]]:
+    """Short moves, arcs, cycles, waits, switches, tools, traverses and stops, by chance; and what is typed at these. It
+    may begin with what `fills` the device's log, which begins anew amid that."""
     typed: list[bytes] = []
     lines, x, y = ["G17 G21 G40 G49 G54 G80 G90 G94", "M3 S1000", "G0 Z0.1", "G1 Z-0.1 F1200"], 0, 0
+    lines += FILLING * fills
     stands = 0  # in steps of X
     for _ in range(blocks):
         before, x, y = len(lines), x + chance.randint(-6, 9), y + chance.randint(-6, 9)
@@ -112,7 +118,8 @@ def program(chance: random.Random, blocks: int) -> tuple[bytes, list[bytes]]:
 def try_chain(tools: Tools, seed: int, options: Options, found: Found) -> list[str]:
     """Runs the chain of a seed; what was said, if it is wrong."""
     chance = random.Random(seed)
-    text, typed = program(chance, chance.randint(3, 14))
+    fills = (filling := random.Random(f"{seed} fills")).random() < options.filled
+    text, typed = program(chance, chance.randint(3, 14), fills)
     has_ramps = options.over == "sink" or chance.random() < 0.3
     job = Job(text, run_uncut(tools.ngc, FIRST, text, typed), typed, options.over, has_ramps, chance.random() < 0.5)
     if options.over == "sink":
@@ -120,6 +127,7 @@ def try_chain(tools: Tools, seed: int, options: Options, found: Found) -> list[s
     elif has_ramps and chance.random() < 0.5:
         job.backlash = tuple(chance.choice((0, 1, 7, 40)) for _ in range(3))
     plans = [plan(chance, len(job.uncut.moves), options) for _ in range(chance.randint(1, options.losses))]
+    plans[:fills] = [plan_as_log_begins(filling)] * fills
     with tempfile.TemporaryDirectory(prefix="ngc-power-", dir=memory()) as name:
         chain = Chain(tools, Path(name).resolve(), job, chance, plans, each=options.states)
         found.chains += 1
@@ -174,6 +182,7 @@ def words() -> argparse.Namespace:
     parser.add_argument("--calls", action="store_true", help="power is lost at lines and calls alone, at no moment")
     parser.add_argument("--fails", type=int, default=15, help="the weight of calls that fail, beside 100 losses")
     parser.add_argument("--states", type=int, default=5, help="more states of the disk that are judged of each loss")
+    parser.add_argument("--filled", type=float, default=0.1, help="the part of the jobs that fill the device's log")
     parser.add_argument("--plant", choices=PLANTS, help="a fault that the judge has to find in each chain")
     parser.add_argument("--keep", type=Path, help="a folder, where what was said of wrong chains is kept")
     return parser.parse_args()
@@ -210,7 +219,7 @@ def main() -> int:
         tools.consoles.close()
         return status
     options = Options(given.losses, tuple(given.kept.split(",")), given.fails, given.over, not given.calls,
-                      given.states)
+                      given.states, given.filled)
     found = tried(tools, options, given.seed, given.seconds, given.chains, given.keep)
     tools.consoles.close()
     print(f"{found.losses} losses of power, {found.states} states of the disk, {found.chains} chains,"

@@ -50,7 +50,8 @@ AGAIN = 1711
 class Options:
     """How power is lost: at most so often in a chain. `kept` are what the disk keeps by chance, `fails` is the weight
     of calls that fail, beside 100 losses, `over` what OUT is. Without moments each loss is at a line or a call. So many
-    `states` of the disk are judged of each loss, beside the one that the job goes on with."""
+    `states` of the disk are judged of each loss, beside the one that the job goes on with. That part of the jobs fills
+    the device's log."""
 
     losses: int = 5
     kept: tuple[str, ...] = ("all", "none", "first", "torn")
@@ -58,6 +59,7 @@ class Options:
     over: str = "file"
     has_moments: bool = True
     states: int = 5
+    filled: float = 0.1
 
 
 def plan(chance: random.Random, moves: int, options: Options) -> Plan:
@@ -88,6 +90,12 @@ def plan(chance: random.Random, moves: int, options: Options) -> Plan:
         if chance.random() < 0.15 and options.over != "sink":
             found.coasts = tuple(chance.randint(-30, 30) for _ in range(3))
     return found
+
+
+def plan_as_log_begins(chance: random.Random) -> Plan:
+    """A loss of power about where the device's log, which is full behind 1,020 records, has begun anew."""
+    return Plan(deeds=f"ngc mill.dev write {AGAIN + chance.randint(1000, 1400)} kill",
+                keeps={**dict.fromkeys(FILES, "all"), "out": chance.choice(("none", "none", "first", "torn"))})
 
 
 class Chain:

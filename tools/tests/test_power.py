@@ -96,7 +96,7 @@ class Judge(unittest.TestCase):
         """No jog at a stop, up to 100 steps along X, cut or whole, comes to where the line leads that is typed there."""
         for seed in range(300):
             chance = random.Random(seed)
-            text, typed = power.program(chance, chance.randint(3, 14))
+            text, typed = power.program(chance, chance.randint(3, 14), False)
             x, lines = 0, iter(typed)
             for line in text.decode().splitlines():
                 x = next((round(float(word[1:]) * 1000) for word in line.split() if word[0] == "X"), x)

@@ -29,6 +29,7 @@ from session_support import FIRST, InFolder, ngc, told
 from sink_support import ServedSink
 
 from ngc_tools.cli.rehearse import main as rehearse
+from ngc_tools.formats.before import BeforeFile
 from ngc_tools.formats.device import Device
 from ngc_tools.formats.out import OFF, read_line
 from ngc_tools.formats.out_note import OutNote
@@ -43,6 +44,7 @@ from ngc_tools.operator.operator import Operator
 from ngc_tools.operator.past import along_out, by_rate
 from ngc_tools.operator.recovery import NOT_KEPT, Looking, OutFound, Recovery
 from ngc_tools.operator.sentences import GO_ON, LOOK, LOOK_AGAIN, LOOK_SWITCHED, SWITCHED_THERE
+from ngc_tools.operator.session import Session
 from ngc_tools.operator.synced import SyncedLink
 from ngc_tools.operator.way_back import WayBack
 from ngc_tools.link.out_file import OutFile, born_ns
@@ -1471,6 +1473,26 @@ class EndsWhereItBegan(WithOperator):
         self.assertEqual(self.lines()[-2:], ["D 10000"] * 2)
         self.brought_back(self.lines(), 600)
 
+    def lost_in_the_piece(self, text: str, count: int, half: int = 0) -> None:
+        """The log is begun anew amid a piece of ticks, and power is lost before OUT is synced: it has `count` lines.
+        """
+        self.device()
+        operator, face = self.begun("")
+        operator.load("long", text.encode())
+        epoch = Device.read("mill.dev").epoch
+        with patch.object(Session, "passed"), patch.object(Session, "note_out"):
+            operator.do("run")
+        shutil.copy("mill.dev.out", "noted")
+        device = Device.read("mill.dev")
+        self.assertEqual((device.epoch, device.state.half), (epoch + 1, half), face.said)
+        self.assertGreater(device.records[0].state.place, len("G91\nF60\n") + 11 * count, "the log begins behind that")
+        self.brought_back(self.lines(), count)
+
+    def test_lost_as_it_begins_anew(self) -> None:
+        """Lines that were handed out before the log was begun anew are put back, where they led nowhere as well."""
+        steps = "G0 X0.001\nG0 X-0.001\n" * 200
+        self.lost_in_the_piece(f"G91\nF60\n{steps}G2 X0 I0.002\n{steps}M0\nM2\n", 400)
+
     def test_noted_within(self) -> None:
         """Where the log is begun anew in the midst of a program it is noted once no block is under way."""
         self.device()
@@ -1484,8 +1506,15 @@ class EndsWhereItBegan(WithOperator):
         operator.console.load(b"M2\n")  # begins it anew
         operator.session.passed(replace(operator.console.status(), half="mdi"))
         self.assertEqual(Path("mill.dev.out").read_bytes(), before)
+        operator.session.own = "G0 X0.001"
+        operator.session.passed(operator.console.status())
+        self.assertEqual(BeforeFile("mill.dev").read(Device.read("mill.dev")).command, "mdi G0 X0.001")
+        operator.session.own = ""
+        operator.console.load(b"M30\n")
         operator.session.passed(operator.console.status())
         note, device = link.noted(), Device.read("mill.dev")
+        kept = BeforeFile("mill.dev").read(device)
+        self.assertEqual((kept.command, kept.device.epoch), ("start", device.epoch))
         self.assertEqual((note.epoch, note.records, note.entries, note.size, note.begins, note.at_nm),
                          (device.epoch, 0, device.state.entries, 11, 11, (1000, 0, 0)))
 
@@ -1676,7 +1705,7 @@ class EndsWhereItBegan(WithOperator):
         """Where the device can't be kept that is said, the session begins, and what stood there stays."""
         self.all_lost()
         for number, why in ((errno.ENOSPC, "No space left on device"), (errno.EIO, "Input/output error")):
-            with patch("ngc_tools.formats.asked.write_new", side_effect=OSError(number, why, "mill.dev.asked")):
+            with patch("ngc_tools.formats.kept_device.write_new", side_effect=OSError(number, why, "mill.dev.asked")):
                 said = self.unanswered(1)
             self.assertEqual((said.count(f"{NOT_KEPT}: mill.dev.asked: {why}"), self.asks(said)),
                              (1, True), said)
@@ -1769,9 +1798,24 @@ class EndsWhereItBegan(WithOperator):
         operator.do("G0 X0.002")
         operator.do("G0 X0.003")
         why = ("what OUT has isn't noted beside the device, by which lines are told that are lost with the power:"
-               " [Errno 17] it isn't what is kept there, and isn't written over: 'mill.dev.out'")
+               " mill.dev.out: it isn't what is kept there, and isn't written over")
         self.assertEqual(face.said.count(why), 3)
         self.assertEqual((Path("mill.dev.out").read_text(), len(self.lines())), ("a drawing\n", 3))
+
+    def test_not_kept_before(self) -> None:
+        """The same where the device can't be kept as it stood before a command."""
+        self.device()
+        Path("mill.dev.before").write_text("a drawing\n")
+        operator, face = self.begun("")
+        with patch("ngc_tools.formats.kept_device.write_new", side_effect=OSError(errno.ENOSPC, "No space left on"
+                                                                                 " device", "mill.dev.before")):
+            operator.do("G0 X0.002")
+            Path("mill.dev.before").unlink()
+            operator.do("G0 X0.003")
+        for why in ("it isn't what is kept there, and isn't written over", "No space left on device"):
+            self.assertIn("what OUT has isn't noted beside the device, by which lines are told that are lost with the"
+                          f" power: mill.dev.before: {why}", face.said)
+        self.assertEqual((Path("mill.dev.before").exists(), len(self.lines())), (False, 3))
 
     def twice(self, typed: str) -> None:
         """A line is typed twice: OUT ends with the first one as it would with the second."""

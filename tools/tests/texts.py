@@ -26,7 +26,7 @@ MOST = 24  # choices within one string
 
 BEGINNINGS = ("cli/operate.py", "cli/page.py")
 NOT_SHOWN = {
-    "cli/machine.py", "cli/run.py", "disk/records.py", "files.py", "formats/asked.py", "formats/canonical.py",
+    "cli/machine.py", "cli/run.py", "disk/records.py", "files.py", "formats/canonical.py", "formats/kept_device.py",
     "formats/machine.py", "formats/out_note.py", "formats/record.py", "job/marks.py", "job/parts_compared.py",
     "job/picture.py", "job/split.py", "job/svg.py", "job/thumbnail.py", "job/timing.py", "language.py",
     "link/machine.py", "ngc/copies.py", "ngc/machine_report.py", "ngc/pacing.py", "ngc/settings_report.py",

@@ -5,6 +5,7 @@ import sys
 from ngc_tools.ngc.carried import CannotTell, Found, Replay, Run, runs
 from ngc_tools.cli.run import MOST_MEMORY, add_ngc, new_parser, run
 from ngc_tools.failure import Failure, WrongWords, speaking_of
+from ngc_tools.formats.before import BeforeFile
 from ngc_tools.formats.device import Device, NoDevice, copied
 from ngc_tools.ngc.console import Ended
 from ngc_tools.ngc.copies import CommandRefused
@@ -115,7 +116,8 @@ def recovered(args: argparse.Namespace, ngc: str, image: bytes) -> Recovery:
     source = OutFile(args.out)
     try:
         check_record(args.position, record, source)
-        looking = Looking(ngc, args.settings, image, NoteFile(args.device).read())
+        looking = Looking(ngc, args.settings, image, NoteFile(args.device).read(),
+                          before=BeforeFile(args.device).read(Device(image)))
         found = looking.look(args.out, source.file, record.lines, record.size, record.at_nm, record.outputs,
                              record.path_nm)
     finally:

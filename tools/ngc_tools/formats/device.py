@@ -20,7 +20,7 @@ AREAS = ((174, MOST_PROGRAM), (430, MOST_PROGRAM), (1710, MOST_LARGE_PROGRAM), (
 """The program areas: the first sector of each, and the most bytes of a program in it. A large device alone has the
 last two."""
 
-_TOOLS_FIRST = 1706
+TOOLS_FIRST, TOOLS_END = 1706, 1710  # sectors of the two tool areas
 LENGTHS = range(10**9 + 1)
 _COUNTS = range(9_999_999_999_999 + 1)
 _SIGNED = range(-9_999_999_999_999, 9_999_999_999_999 + 1)
@@ -245,7 +245,7 @@ class Device:
         self.tools_nm: list[int] = []
         if self.format == 1:
             return
-        area, slots = _TOOLS_FIRST + 2 * (self.epoch % 2), struct.unpack_from("<H", image, SECTOR * first + 456)[0]
+        area, slots = TOOLS_FIRST + 2 * (self.epoch % 2), struct.unpack_from("<H", image, SECTOR * first + 456)[0]
         if slots > SLOTS:
             self.damage.append(f"sector {first}: number of slots {slots}")
             return

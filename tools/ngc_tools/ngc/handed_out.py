@@ -12,12 +12,13 @@ from dataclasses import dataclass, replace
 from pathlib import Path
 
 from ngc_tools.files import opened
+from ngc_tools.formats.before import Before
 from ngc_tools.formats.device import Device, State
 from ngc_tools.formats.out import LONGEST_LINE, Switch, end_of_lines, read_line
 from ngc_tools.formats.out_note import OutNote
 from ngc_tools.formats.position import nanometres, rounded
 from ngc_tools.formats.settings import Settings
-from ngc_tools.ngc.carried import CannotTell, Run, is_within, runs
+from ngc_tools.ngc.carried import CannotTell, Run, is_within, recovered, runs
 from ngc_tools.ngc.console import Ended, Status
 from ngc_tools.ngc.copies import Copy, CommandRefused, first
 from ngc_tools.link.out_file import born_ns
@@ -127,10 +128,12 @@ class Finder:
     """Finds it, with `ngc` and the settings of the session."""
 
     def __init__(self, ngc: str, settings: str | Path, image: bytes, note: OutNote | None = None,
-                 is_whole: bool = False) -> None:
-        """`image` is the device as the session left it, or as it stood since, `note` what was noted of OUT beside it.
-        `is_whole`: OUT has all that was handed out. Raises NoDevice, BadSettings, OSError."""
+                 is_whole: bool = False, before: Before | None = None) -> None:
+        """`image` is the device as the session left it, or as it stood since, `note` what was noted of OUT beside it,
+        `before` what was kept there before the last command that handed lines out. `is_whole`: OUT has all that was
+        handed out. Raises NoDevice, BadSettings, OSError."""
         self.ngc, self.settings, self.image, self.note, self.is_whole = ngc, settings, image, note, is_whole
+        self.before = before
         self.step_nm = Settings.read(settings).step_nm
         self.device = Device(image)
         self._in_whole: _InWhole | None = None
@@ -179,13 +182,12 @@ class Finder:
     def _by_note(self, text: "bytes | mmap.mmap", size: int, kept: FileRecord) -> SegmentBeginning | None:
         """By what OUT had as it was noted, and what was handed out since; None where the log doesn't go back to that,
         or OUT goes on in another way."""
-        note = self.note
-        device = self._noted_device()
-        if device is None or size < note.size:
+        note, parts = self.note, self._parts()
+        if parts is None or size < note.size:
             return None
         for how in (_SAME, _DELETES):
             try:
-                since = self._since(device, how)
+                since = self._since(parts, how)
             except (CannotTell, CommandRefused, Ended):
                 continue
             is_emptied = since is not None and size == 0 and since.before.count(b"\n") > _MOST_UNSYNCED
@@ -198,6 +200,18 @@ class Finder:
     def _noted_device(self) -> Device | None:
         """The device as its log goes back to the note; None where it doesn't."""
         return next((each for each in self._devices(True) if self.note is not None and self.note.is_of(each)), None)
+
+    def _parts(self) -> list[tuple[Device, Run]] | None:
+        """What was done since the note, and the device whose log tells it; None where that isn't known. Where the log
+        was begun anew since, that is known by what was kept before the last command."""
+        device, note, before = self._noted_device(), self.note, self.before
+        if device is not None:
+            return [(device, run) for run in runs(device, True, note.records)]
+        if before is None or not note.is_of(before.device) or before.device.program != self.device.program:
+            return None
+        earlier = [(before.device, run) for run in runs(before.device, True, note.records)]
+        ends = None if self.device.state.half else self.device.state.entries
+        return [*earlier, (self.device, Run(before.device.image, (before.command,), -1, ends))]
 
     def is_all_there(self, file: int, size: int) -> bool:
         """Whether OUT, which is open, had these bytes as it was noted, and nothing was handed out since: no block is
@@ -214,12 +228,12 @@ class Finder:
             return size > 0
         return self._is_noted(file) and (size > 0 or self.note.size == 0 and self._noted_device() is not None)
 
-    def _since(self, device: Device, how: tuple[str, ...]) -> _Lines | None:
-        """What was handed out since the note; for nothing, without a half-done block, where OUT led as it was noted,
-        wherever the machine is since, None where that isn't noted. Raises CannotTell, CommandRefused, Ended, OSError.
-        """
+    def _since(self, parts: list[tuple[Device, Run]], how: tuple[str, ...]) -> _Lines | None:
+        """What was handed out since the note, by these parts; for nothing, without a half-done block, where OUT led as
+        it was noted, wherever the machine is since, None where that isn't noted. Raises CannotTell, CommandRefused,
+        Ended, OSError."""
         before, last = b"", None
-        for run in runs(device, True, self.note.records):
+        for device, run in parts:
             last = self._again(device, self._begun(device, run), how)
             before += last.before
         if last is not None:
@@ -461,7 +475,10 @@ def _place_after(device: Device, run: Run) -> int:
 
 
 def _is_as_logged(again: Device, device: Device, begin: int) -> bool:
-    """Whether what was done again is what the log of a device has from a record on."""
+    """Whether what was done again is what the log of a device has from a record on; where it began before the log,
+    whether it ends as the device does."""
+    if begin < 0:
+        return recovered(again.state) == recovered(device.state) and again.parameters == device.parameters
     return all(mine.state == record.state for mine, record in zip(again.records, device.records[begin:]))
 
 

@@ -202,7 +202,7 @@ class Operator:
         timeline = self.loading.timeline(begins)
         if begins and status.half == "none" and not typed.anyway and not self.loading.begins_as_told(timeline):
             return
-        if refused(self.session, self.console.ask(command)[0], command):
+        if not self._is_taken(command):
             return
         if status.half == "none" and (said := dropped_g92(self.session)):
             self.face.once(said)
@@ -213,10 +213,17 @@ class Operator:
         if ended != CHANGE and (ended != "refused" or self.console.status().place != status.place):
             self.left.forget()
 
+    def _is_taken(self, command: str) -> bool:
+        """Gives a command by which the program goes on; whether it was taken."""
+        if refused(self.session, self.console.ask(command)[0], command):
+            return False
+        self.session.begins(command, self.left.is_as_left)
+        return True
+
     def _begun(self) -> str | None:
         """Starts the stored program from its first line. Returns what ended its work, None for a hold."""
         self.work.timeline = self.loading.timeline(True)
-        if refused(self.session, self.console.ask("start")[0], "start"):
+        if not self._is_taken("start"):
             return "refused"
         self.session.told = 0
         self.left.forget()
@@ -249,6 +256,7 @@ class Operator:
         if refused(self.session, reply, f"mdi {line}"):
             self._near(line)
             return None
+        self.session.begins("mdi " + text.decode("latin-1"), self.left.is_as_left)
         self.session.own = line
         return self._work()
 
@@ -429,6 +437,7 @@ class Operator:
             if reply.startswith("refused K3"):
                 self.places.offer()
             return
+        self.session.begins("resume", self.left.is_as_left)
         self.left.forget()
         said = TAKEN_UP_THERE if is_there else TAKEN_UP
         self.face.say(said.format(half=self.session.half(status), place=place(status)), WARNING)
@@ -560,7 +569,7 @@ class Operator:
                 self.face.say("the program waits behind the tool change: run goes on", WARNING)
                 return "stopped" if self.left.is_as_left() else CHANGE
         self.left.forget()
-        if refused(self.session, self.console.ask("continue")[0], "continue"):
+        if not self._is_taken("continue"):
             return "stopped"
         return self._work()
 

@@ -10,6 +10,7 @@ from math import isqrt
 
 from ngc_tools.failure import Failure
 from ngc_tools.files import NotWritten, cause
+from ngc_tools.formats.before import Before
 from ngc_tools.formats.device import Device
 from ngc_tools.formats.out import OFF, BadLine, Switch
 from ngc_tools.formats.out_note import OutNote
@@ -91,11 +92,11 @@ class Looking:
     """Looks at OUT, with `ngc`, the settings and the device as the session left it."""
 
     def __init__(self, ngc: str, settings: str, image: bytes, note: OutNote | None = None,
-                 is_whole: bool = False) -> None:
-        """`note` is what was noted of OUT beside the device; `is_whole`: OUT has all that was handed out. Raises
-        NoDevice, BadSettings, OSError."""
+                 is_whole: bool = False, before: Before | None = None) -> None:
+        """`note` is what was noted of OUT beside the device, `before` what was kept there; `is_whole`: OUT has all that
+        was handed out. Raises NoDevice, BadSettings, OSError."""
         self.settings, self.path = Settings.read(settings), settings
-        self.finder = Finder(ngc, settings, image, note, is_whole)
+        self.finder = Finder(ngc, settings, image, note, is_whole, before)
         self.device = Device(image)
 
     def look(self, out: str, file: int, lines: int, size: int, at_nm: Point, kept: Switch,
@@ -181,8 +182,10 @@ class OutFound:
         out. Raises NoAnswer, BadSettings, OSError."""
         kept = link.asked.before(device) if device and link.asked else None  # nothing was handed out since
         is_whole = is_whole and kept is None
-        looking = Looking(ngc, settings, (kept or device).image, link.noted(), is_whole) if device else None
-        found = OutFound(link, looking, Recovery(), [])
+        found = OutFound(link, None, Recovery(), [])
+        if device:
+            now = kept or device
+            found.looking = Looking(ngc, settings, now.image, link.noted(), is_whole, link.kept_before(now))
         found.look()
         lost = found.recovery.beginning.missing if found.recovery.beginning else b""
         found._say_hole()

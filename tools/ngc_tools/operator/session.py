@@ -6,6 +6,7 @@ from contextlib import suppress
 from dataclasses import dataclass, field
 from functools import partial
 
+from ngc_tools.files import NotWritten, cause
 from ngc_tools.formats.device import Device, NoDevice
 from ngc_tools.formats.lines import Program
 from ngc_tools.formats.settings import Settings
@@ -110,7 +111,23 @@ class Session:
             with suppress(NoAnswer):  # the next question says it
                 self.meter.link.passed(status)
             if status.half == "none":
-                self.noting(partial(self.meter.link.note_end, not self.own, True))
+                self.noting(partial(self._note_anew, self.meter.link, not self.own))
+
+    def _note_anew(self, link: SyncedLink, as_left: bool) -> None:
+        if link.note_anew(as_left) and not self.own:
+            link.keep_before(self.stored(), "start")
+
+    def begins(self, command: str, as_left: Callable[[], bool]) -> None:
+        """Keeps the device as it stands before what a command hands out, which was taken, unless it goes on amid a
+        block. `as_left` as in `note_out`."""
+        if not self.meter or not isinstance(self.meter.link, SyncedLink) or self.meter.link.notes is None:
+            return
+        link, device = self.meter.link, self.stored()
+        if isinstance(device, Nothing) or device.state.half and command != "resume":
+            return
+        if not device.state.half:
+            self.noting(lambda: link.note_anew(as_left()))
+        self.noting(partial(link.keep_before, device, "start" if command == "continue" else command))
 
     def note_out(self, as_left: Callable[[], bool]) -> None:
         """Notes what OUT, a file, has as a command is done, if no block is under way and something is an entry since.
@@ -126,8 +143,8 @@ class Session:
         """Has it noted what OUT has; says once why that can't be."""
         try:
             note()
-        except OSError as error:
-            self.face.once(f"{NOT_NOTED}: {error}")
+        except (NotWritten, OSError) as error:
+            self.face.once(f"{NOT_NOTED}: {cause(error)}")
 
     def take(self, report: Report) -> None:
         """Takes what the player says."""

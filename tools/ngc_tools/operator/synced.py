@@ -12,6 +12,7 @@ from pathlib import Path
 
 from ngc_tools.files import naming
 from ngc_tools.formats.asked import AskedFile
+from ngc_tools.formats.before import Before, BeforeFile
 from ngc_tools.formats.device import Device, NoDevice
 from ngc_tools.formats.out import LONGEST_LINE, BadLine, end_of_lines, read_line
 from ngc_tools.formats.out_note import NoteFile, OutNote
@@ -64,6 +65,7 @@ class SyncedLink(Link):
         self.out = str(out)
         self.notes = NoteFile(device) if device else None
         self.asked = AskedFile(device) if device else None
+        self.before = BeforeFile(device) if device else None
         self._epoch = 0  # of the device, as it was noted last
         self.file = os.open(out, os.O_RDWR | os.O_CLOEXEC)
         self.is_following = False
@@ -186,11 +188,26 @@ class SyncedLink(Link):
                                      state.entries, size, begins, as_left, at_nm))
             self.answered()
 
-    def note_end(self, as_left: bool, is_anew: bool = False) -> None:
-        """The same of all that OUT has, without a half-done block; with `is_anew` only where the device was written
-        anew since. Raises OSError."""
-        if self.notes is not None and not (is_anew and self.notes.epoch() == self._epoch):
-            self.note(self.size(), self.size(), as_left)
+    def note_end(self, as_left: bool) -> None:
+        """The same of all that OUT has, without a half-done block. Raises OSError."""
+        self.note(self.size(), self.size(), as_left)
+
+    def note_anew(self, as_left: bool) -> bool:
+        """The same where the device was written anew since; returns whether it was. Raises OSError."""
+        is_anew = self.notes is not None and self.notes.epoch() != self._epoch
+        if is_anew:
+            self.note_end(as_left)
+        return is_anew
+
+    def keep_before(self, device: Device, command: str) -> None:
+        """Keeps the device as it stands, of which OUT is noted: what comes now is what a command hands out. Raises
+        NotWritten, OSError."""
+        if self.before is not None:
+            self.before.keep(device, command)
+
+    def kept_before(self, now: Device) -> Before | None:
+        """What was kept so last of a device; None where nothing was."""
+        return self.before.read(now) if self.before else None
 
     def forget(self) -> None:
         """What was noted isn't true of what OUT is to have. Raises OSError."""
