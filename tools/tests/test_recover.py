@@ -1651,6 +1651,21 @@ class EndsWhereItBegan(WithOperator):
         operator.do("recover")
         self.assertEqual((self.pins(), self.lines(), Path("mill.dev.asked").exists()), (lines, lines, False))
 
+    def test_next_line_without_an_answer(self) -> None:
+        """The device that is kept tells how the program was left for its next line, too: nothing is asked of that."""
+        self.device()
+        operator, _ = self.begun("")
+        operator.load("a program", b"G21 G90\nG0 X0.003\nM0\nG0 X0.006\nM2\n")
+        self.keep_note()
+        operator.do("run")
+        self.lost(self.lines(), 0)
+        self.unanswered()
+        operator, face = self.operate(*["yes"] * 6)
+        operator.do("recover")
+        asked = len(face.asked)
+        operator.do("run")
+        self.assertEqual((face.asked[asked:], self.pins()[:6]), ([], ["P 1 0 0 50"] * 6), face.said)
+
     def test_block_without_an_answer(self) -> None:
         """The same of lines before a block that is half-done."""
         self.half_done()

@@ -36,14 +36,16 @@ class Left:
         """Takes how the program was left from the log of a device, as it stood before `ngc` was started, else from what
         was noted beside it."""
         if found.state.place:
+            link = self.session.meter.link if self.session.meter else None
+            if isinstance(link, SyncedLink) and link.asked:
+                found = link.asked.before(found) or found
             self.device = begins_at(found)
-            self.is_lost = self.device is None and not self._is_noted(found)
+            self.is_lost = self.device is None and not (isinstance(link, SyncedLink) and self._is_noted(link, found))
 
-    def _is_noted(self, found: Device) -> bool:
+    def _is_noted(self, link: SyncedLink, found: Device) -> bool:
         """Whether it is noted that nothing was done since the program was left for its next line; what was done since
         the note the log tells."""
-        link = self.session.meter.link if self.session.meter else None
-        note = link.noted() if isinstance(link, SyncedLink) else None
+        note = link.noted()
         if note is None or not note.as_left:
             return False
         if note.is_of(found):
