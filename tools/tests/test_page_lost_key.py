@@ -14,6 +14,7 @@ from browser_support import chromium
 from firefox_support import IS_FIREFOX, start
 from page_support import OTHER
 from test_page_day import Walk
+from test_page_keys import PADS
 from test_page_measure import AtMachine
 
 SOON_S = 0.15
@@ -169,6 +170,45 @@ class InBrowser(Watched, Walk):
             time.sleep(0.3)
             self.assertEqual(self.world.place, at)
             self.assertLess(len(took), TRIES, took)
+
+    def test_wheel(self) -> None:
+        """A click of a wheel is a step along the axis that is chosen, and no more."""
+        self.press("0.1", ".jog .choices button")
+        for keys, wanted in (("+", (100, 0, 0)), ("z-", (100, 0, -100)), ("x-", (0, 0, -100))):
+            for _ in range(TRIES):  # where the page is so late that a click isn't done
+                for key in keys:
+                    self.browser.key("rawKeyDown", key)
+                    self.browser.key("keyUp", key)
+                time.sleep(0.3)
+                self.rests()
+                if self.world.place == wanted:
+                    break
+            self.assertEqual(self.world.place, wanted)
+
+    def test_gamepad(self) -> None:
+        """With a stick pushed and a shoulder button held an axis goes; once the button is let go it rests soon."""
+        self.browser.js(PADS)
+        took: list[float] = []
+        while not took or min(took) > SOON_S:
+            self.pushed()
+            self.browser.js("void (pad.buttons[5].pressed = false)")
+            took.append(self.rested_after(time.monotonic()))
+            self.rests()
+            self.assertLess(len(took), TRIES, took)
+        self.assertEqual(self.world.place[1:], (0, 0))
+
+    def pushed(self) -> None:
+        """A stick is pushed, and X moves: it is pushed anew where the page is so late that it ends."""
+        for _ in range(PRESSES):
+            before = self.world.place[0]
+            for what in ("buttons[5].pressed = true", "axes[0] = 0", "axes[0] = 1", "axes[1] = 0"):
+                self.browser.js(f"void (pad.{what})")
+                self.browser.js("new Promise(done => setTimeout(done, 100))")
+            if self.browser.js("ngc.keys.jog.isOn") and self.world.place[0] > before + 300:
+                return
+            self.browser.js("void (pad.axes[0] = 0)")
+            self.rests()
+        self.fail("it never goes on")
 
     def test_offline(self) -> None:
         """No request of the page comes through any more."""
