@@ -19,6 +19,7 @@ from ngc_tools.cli import adapt, check, device, operate, page, plot, rehearse, s
 from ngc_tools.ngc import run
 from ngc_tools.ngc.run import TooLong, dry
 
+CAM = Path(__file__).resolve().parent / "cam"
 MOTION = "[motion]\naccel_mm_s2 = [500, 500, 500]\n"
 HEAD = "G21 G90 G17 G54 G94 G98 F100\n"
 HOLES = "G91 G81 X0.001 Z-1 R0.5 L9999\n"
@@ -176,6 +177,14 @@ class Bounds(InFolder):
             self.assertTrue(said.endswith(stops), said[-500:])
         Path("many.ngc").write_text("Q1\n" * 260 + "M2\n")
         self.assertIn("many.ngc: 260 refusals, no warnings\n", self.timed("--most", "300")[0])
+
+    def test_cam_text(self) -> None:
+        """So is a raw text of FreeCAD with 100 arcs, each of which is refused for its K, within as many seconds."""
+        *lines, end = (CAM / "freecad_linuxcnc.ngc").read_text().splitlines(True)
+        Path("many.ngc").write_text("".join([*lines * 100, end]))
+        said, took_s = self.timed()
+        self.assertIn("many.ngc: 100 refusals, no warnings\n", said[-500:])
+        self.assertLess(took_s, PATIENCE_S)
 
     def timed(self, *words: str) -> tuple[str, float]:
         """What ngc-check says of the program, and the processor time that it and its dry runs take, in seconds."""
