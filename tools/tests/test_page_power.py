@@ -408,10 +408,10 @@ class ServerKilled(Served):
         if not os.path.exists("progress"):
             super().begin_player()
 
-    def begun_again(self) -> tuple[Page, dict]:
+    def begun_again(self, text: str = SLOWER) -> tuple[Page, dict]:
         """A page of the next session, and what it shows first."""
         page = self.page()
-        self.load(page, SLOWER)
+        self.load(page, text)
         self.assertEqual(page.post("run"), (200, {}))
         page.until("lines are in hand", lambda state: state["behind"] > self.IN_HAND and float(state["motors"][0]) > 0)
         for pid in (*self.children(), self.server.pid):
@@ -438,6 +438,13 @@ class KilledWithoutRamps(ServerKilled):
         self.assertGreater(float(rested["motors"][0]), float(state["motors"][0]))
         self.assertTrue(rested["can"]["recover"] and rested["can"]["abandon"])
 
+    def test_last_lines(self) -> None:
+        """Once they have made the last lines of the job it has run to its end."""
+        page, state = self.begun_again("G21 G90 G94\nG1 X0.09 F1\nM2\n")
+        self.assertEqual((state["word"], state["half"], state["finished"]), ("Still running", "none", False))
+        page.until("it is through", lambda state: state["finished"] and state["motors"][0] == "0.090000")
+        self.assertRegex(Path("mill.dev.runs").read_text(), r" ended, through, after [0-9:]+, 1 loss of power\n$")
+
 
 class KilledWithRamps(ServerKilled):
     """Motors that a hold stops, over a file."""
@@ -459,6 +466,17 @@ class KilledWithRamps(ServerKilled):
         self.assertEqual(page.post("recover", {"at": state["motors"], "shown": state["motors"]}), (200, {}))
         page.agree(page.asked())
         page.until("they go on", lambda now: float(now["motors"][0]) > float(state["motors"][0]))
+
+
+    def test_last_lines(self) -> None:
+        """Where all of the job was handed out, `Go on` has its last lines carried out, and then it has run to its end."""
+        page, state = self.begun_again("G21 G90 G94\nG1 X0.6 F10\nM2\n")
+        self.assertEqual((state["word"], state["half"], state["place"]), ("Held", "none", 0))
+        self.assertRegex(Path("mill.dev.runs").read_text(), r" broke off in line 1: [^\n]+\n$")
+        self.assertEqual(page.post("release"), (200, {}))
+        state = page.until("they rest", lambda state: not state["busy"] and state["motors"][0] == "0.600000")
+        self.assertRegex(Path("mill.dev.runs").read_text(), r" ended, through, after [0-9:]+, 1 loss of power\n$")
+        self.assertTrue(state["finished"])
 
 
 class KilledWithRampsOverPipe(KilledWithRamps):

@@ -336,7 +336,17 @@ class Operator:
             return
         self.motors.release()
         if self.work.await_motors():
+            self.see_carried_out()
             Look(self.session).after_work()
+
+    def see_carried_out(self) -> None:
+        """The motors rest: where the last session had handed out all of a run, sees whether its lines are carried out.
+        """
+        try:
+            if self.runs.is_handed_out and self.recover.is_carried_out():
+                self.runs.carried_out()
+        except (NoAnswer, OSError) as error:
+            self.face.say(str(error), WARNING)
 
     def jog(self, rest: str) -> None:
         """Jogs as the words say; without any by keys, where there are some."""

@@ -91,6 +91,13 @@ class Recover:
         """Whether lines stand in OUT, a file, that no motor carried out, or are taken back. Raises OSError."""
         return self.found is not None and self.found.is_left()
 
+    def is_carried_out(self) -> bool:
+        """Whether nothing is left in OUT, looked at where the motors rest now. Raises NoAnswer, OSError."""
+        if self.found is None:
+            return True
+        self.found.look_again(self.found.link.ask())
+        return not self.found.is_left()
+
     def begin(self, status: Status, as_left: bool = False) -> None:
         """Says as the session begins what is left. `as_left`: nothing was done since the program was left for its next
         line."""

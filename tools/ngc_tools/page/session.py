@@ -51,7 +51,7 @@ _LOOK_S = 0.15  # how often it looks while nothing runs
 _MOVED = "the motors aren't where this page showed them, and so it isn't done: look, and confirm anew where they stand"
 _IN_HAND = """\
 nothing is done: the motors have {count} in hand. Recover has them carry those out first, and Stop lets go of them"""
-_PROGRAM = words_that_bring(Brings.PROGRAM)
+_MAY_END = words_that_bring(Brings.PROGRAM) | {"release"}  # the program runs to its end, or its last lines are made
 _CHOICES = words_that_bring(Brings.CHOICE)
 _ASIDES = words_taken(Taken.AMID) - {"release"}  # that one has a way of its own
 
@@ -608,10 +608,13 @@ class PageSession:
         if self.under is not None or report.behind or status.does != "idle" or rests_at == self._rests_at:
             return
         self._rests_at = rests_at
+        ends = self.operator.runs.ends
         try:
             self._look_at_way()
+            self.operator.see_carried_out()
         except (NoAnswer, OSError) as error:
             self.face.once(str(error))
+        self.is_finished = self.is_finished or self.operator.runs.ends > ends
 
     def _tell_bug(self, command: SessionCommand, error: Exception) -> None:
         """An error of this program itself."""
@@ -623,7 +626,7 @@ class PageSession:
     def _see_end(self, command: SessionCommand, ends: int) -> None:
         """Sees whether the program ran to its end, of which so many were before. Lines of one's own have none."""
         status = self.operator.console.status()
-        ran = command.word in _PROGRAM and self.operator.runs.ends > ends
+        ran = command.word in _MAY_END and self.operator.runs.ends > ends
         at_start = status.does == "idle" and status.half == "none" and not status.place
         seen = self.operator.session.seen
         is_through = seen is None or not seen.behind  # nor were the motors held before its end
