@@ -469,7 +469,7 @@ class KilledWithRamps(ServerKilled):
 
 
     def test_last_lines(self) -> None:
-        """Where all of the job was handed out, `Go on` has its last lines carried out, and then it has run to its end."""
+        """Where all of the job was handed out, `Go on` has its last lines made, and then it has run to its end."""
         page, state = self.begun_again("G21 G90 G94\nG1 X0.6 F10\nM2\n")
         self.assertEqual((state["word"], state["half"], state["place"]), ("Held", "none", 0))
         self.assertRegex(Path("mill.dev.runs").read_text(), r" broke off in line 1: [^\n]+\n$")

@@ -208,8 +208,8 @@ class Server:
         return packed(said)[:-1] + b',"job":' + job + b"}"
 
     def state(self, page: str, told: int) -> tuple[bytes, int]:
-        """What a page shows, with the entries of the log behind the one that it was told last, and the last one now. All
-        of it is at least as new as its `now`."""
+        """What a page shows, with the entries of the log behind the one that it was told last, and the last one now.
+        All of it is at least as new as its `now`."""
         log = [asdict(entry) for entry in list(self.session.face.log) if entry.id > told]
         pages = {"yours": self.pages.commands == page, "pages": len(self.pages), "on_loss": self.pages.on_loss,
                  "stamp": str(self.pages.stamp()), "log": log, "now": time.time()}
