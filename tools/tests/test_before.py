@@ -1,8 +1,11 @@
 """What was handed out before the device's log was full and begun anew is told by what was kept before the command."""
 import os
+import sys
 import unittest
 from dataclasses import dataclass, replace
 from pathlib import Path
+
+sys.path.insert(0, str(Path(__file__).resolve().parent))
 
 from out_support import after
 from session_support import InFolder, ngc

@@ -1040,7 +1040,7 @@ class Given(unittest.TestCase):
         while something is under way, held or in hand."""
         session, looks = PageSession.__new__(PageSession), []
         session.face, session.under, session._rests_at = PageFace(), None, None
-        session._look_at_way = lambda: looks.append(1)
+        session._look_at_way, session._see_carried_out = lambda: looks.append(1), MagicMock()
         idle = Status(5, 0, ("0", "0", "0"), True, "program", 0, "idle")
         at, on = (SimpleNamespace(carried=carried, at=f"{carried} 0 0", behind=0) for carried in (3, 5))
         for under, status, report, count in (

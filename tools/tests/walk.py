@@ -549,8 +549,12 @@ class Walk:
     # pages
 
     def _do_reload(self) -> None:
-        """The page is loaded anew."""
-        self.tabs.call("Page.reload")
+        """The page is loaded anew; once more where Chromium refuses that, since it isn't through with another page."""
+        try:
+            self.tabs.call("Page.reload")
+        except Failed:
+            time.sleep(0.5)
+            self.tabs.call("Page.reload")
         time.sleep(0.05)
 
     def _do_page(self, what: str) -> None:

@@ -608,12 +608,16 @@ class PageSession:
         if self.under is not None or report.behind or status.does != "idle" or rests_at == self._rests_at:
             return
         self._rests_at = rests_at
-        ends = self.operator.runs.ends
         try:
             self._look_at_way()
-            self.operator.see_carried_out()
+            self._see_carried_out()
         except (NoAnswer, OSError) as error:
             self.face.once(str(error))
+
+    def _see_carried_out(self) -> None:
+        """Sees whether the last lines of a run are made, which is over then."""
+        ends = self.operator.runs.ends
+        self.operator.see_carried_out()
         self.is_finished = self.is_finished or self.operator.runs.ends > ends
 
     def _tell_bug(self, command: SessionCommand, error: Exception) -> None:
