@@ -36,6 +36,15 @@ class Told:
 class LogBegunAnew(InFolder):
     """A log is begun anew amid what a command hands out, and OUT loses lines of before and behind that."""
 
+    def setUp(self) -> None:
+        super().setUp()
+        self.begin_afresh()
+
+    def begin_afresh(self) -> None:
+        """A fresh device, and an OUT without a line."""
+        self.device()
+        Path("out").write_text("")
+
     def handed_out(self, setup: list[str], text: str, command: str, ticks: int, begins: int = -1) -> Told:
         """Does a command, behind others, with a program, for so many ticks. OUT's half-done segment begins behind its
         first `begins` bytes, at its end without a number."""
@@ -86,8 +95,7 @@ class LogBegunAnew(InFolder):
         """A program that is over; also after it went on behind stops and tool changes."""
         for within in ("", "M0\n", "T1 M6\nG43 H1\n"):
             with self.subTest(within=within):
-                self.device()
-                Path("out").write_text("")
+                self.begin_afresh()
                 text = f"G91\n{THERE_AND_BACK * 200}{within}{THERE_AND_BACK * 150}M2\n"
                 told = self.handed_out(["tool 1 0.5"], text, "start", 9000)
                 count = len(Path("out").read_text().splitlines())
@@ -95,40 +103,30 @@ class LogBegunAnew(InFolder):
 
     def test_half_done(self) -> None:
         """Power is lost within a line of 9,000 pulses."""
-        self.device()
-        Path("out").write_text("")
         told = self.handed_out([], f"G91\n{THERE_AND_BACK * 300}G0 X9\nM2\n", "start", 6000)
         self.assertEqual(told.device.state.half, 1)
         self.tells(told, 600, 3, 400, 599, 600, 700)
 
     def test_more_than_once(self) -> None:
         """It is begun anew twice within one piece."""
-        self.device()
-        Path("out").write_text("")
         told = self.handed_out([], f"G91\n{THERE_AND_BACK * 700}M2\n", "start", 9000)
         self.assertEqual(told.device.epoch, told.before.device.epoch + 2)
         self.tells(told, 1401, 17, 700, 1399)  # the last one is M2's switch
 
     def test_deleted(self) -> None:
         """Lines with a slash were left out."""
-        self.device()
-        Path("out").write_text("")
         told = self.handed_out(["delete on"], f"G91\n{'/G0 X0.5' + chr(10) + THERE_AND_BACK}"
                                f"{THERE_AND_BACK * 300}M2\n", "start", 9000)
         self.tells(told, 603, 0, 480)
 
     def test_typed(self) -> None:
         """A line of one's own: 400 holes, of three segments each."""
-        self.device()
-        Path("out").write_text("")
         told = self.handed_out(["mdi G91 F100", "tick 5"], "", "mdi G81 X0.001 Z-0.001 R0 L400", 9000)
         count = len(Path("out").read_text().splitlines())
         self.tells(told, count, 5, count // 2, count - 1)
 
     def test_resumed(self) -> None:
         """A block that was half-done is taken up, and the program goes on."""
-        self.device()
-        Path("out").write_text("")
         Path("program").write_text(f"G91\nG0 X0.005\n{THERE_AND_BACK * 300}M2\n")
         text = Path("program").read_text()
         self.run_ngc(f"load {len(text)}\n{text}start\ntick 7\nquit\n")
@@ -140,8 +138,6 @@ class LogBegunAnew(InFolder):
 
     def test_others(self) -> None:
         """What was kept of another program, before another command or is cut off tells nothing."""
-        self.device()
-        Path("out").write_text("")
         lines = "".join(f"G1 X{0.001 - 0.002 * (line % 2):.3f} F{60 + line}\n" for line in range(600))
         told = self.handed_out([], f"G91\n{lines}M2\n", "start", 9000)
         whole = Path("out").read_text().splitlines()

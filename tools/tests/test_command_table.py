@@ -168,12 +168,14 @@ class Buttons(unittest.TestCase):
         self.check(Standing(under="jog"), self.ALWAYS, self.CHOICES, {"stop", "go", "jog"})
 
     def test_held(self) -> None:
-        """Within a block: it goes on, is ended, or its outputs go off."""
+        """Within a block: it goes on, is ended, or its outputs go off. No place is told while there are lines in hand."""
         held = Standing()
         held.status = replace(held.status, does="held", half="program")
         held.report = replace(held.report, received=12, is_held=True, outputs=Switch(1, 5, False, False, 0, 0))
-        self.check(held, self.ALWAYS, self.CHOICES, {"run", "stop", "off", "go", "quit", "reference", "resume",
-                                                     "recover", "drop", "abandon"})
+        taken = {"run", "stop", "off", "go", "quit", "resume", "recover", "drop", "abandon"}
+        self.check(held, self.ALWAYS, self.CHOICES, taken)
+        held.report = replace(held.report, received=held.report.carried)
+        self.check(held, self.ALWAYS, self.CHOICES, taken | {"reference"})
 
     def test_alarm(self) -> None:
         """Home comes first, and a place may be told."""

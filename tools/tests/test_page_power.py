@@ -467,7 +467,6 @@ class KilledWithRamps(ServerKilled):
         page.agree(page.asked())
         page.until("they go on", lambda now: float(now["motors"][0]) > float(state["motors"][0]))
 
-
     def test_last_lines(self) -> None:
         """Where all of the job was handed out, `Go on` has its last lines made, and then it has run to its end."""
         page, state = self.begun_again("G21 G90 G94\nG1 X0.6 F10\nM2\n")

@@ -1,6 +1,8 @@
 """What goes wrong amid a job, by touch, in a browser over a simulated machine: a tool that breaks, a limit, a player
 that is gone, and power that is lost. What moves is told by the machine's model. In Chromium, or in Firefox where
 NGC_BROWSER says so."""
+import os
+import signal
 import sys
 import unittest
 from itertools import pairwise
@@ -273,6 +275,51 @@ class Lost(OverBodies):
         self.assertIn("Not given back, since the player doesn\u2019t take it: feed 50 %.", browser.js(WORDS))
         self.assertEqual(browser.js("ngc.state.percent"), 100)
         self.no_complaints()
+
+
+class InHand(Lost):
+    """Motors are held within that cut, with lines in hand, over a file; the page's server and `ngc` are killed."""
+
+    OUT = "out"
+    test_straight = test_given_back = None
+
+    def begin_player(self) -> None:
+        """There is one as long as it isn't killed."""
+        if not Path("progress").exists():
+            super().begin_player()
+
+    def test_comes_first(self) -> None:
+        """While there are some the line can't be given up, which would be refused, and it is said why; Stop can end it.
+        """
+        browser = self.browser
+        self.cuts()
+        browser.press("Hold", "#hold")
+        browser.wait("ngc.state.held_motors && ngc.state.behind > 0")
+        for pid in (*self.children(), self.server.pid):
+            os.kill(pid, signal.SIGKILL)
+        self.server.wait()
+        self.begin_again()
+        browser.wait("ngc.state?.yours && ngc.state.half === 'program' && ngc.state.held_motors && ngc.state.behind > 0")
+        self.to_choice()
+        ways = "[...document.querySelectorAll('#over .foot button:enabled')].map(one => one.textContent).join()"
+        self.assertEqual(browser.js(ways), "Back,Go along the path")
+        self.assertRegex(browser.js("document.querySelector('#over .words').textContent"), r"have [\d,]+ lines in hand")
+        browser.press("Stop", "#stop")
+        browser.press("Yes", "#over .go")
+        browser.wait("ngc.state.behind === 0 && ngc.state.half === 'none' && !ngc.state.busy")
+        self.no_complaints()
+
+    def to_choice(self) -> None:
+        """Through the steps to the last one: the motors stand where they are shown."""
+        browser = self.browser
+        browser.wait("document.querySelector('#over .facts')?.textContent.includes('It begins at')")
+        browser.press("Next", "#over button")
+        for _ in "XYZ":
+            browser.press("Confirm", "#over button")
+        browser.press("Next", "#over button")
+        browser.wait("document.querySelector('#over details')")
+        browser.press("Next", "#over button")
+        browser.wait("document.querySelector('#over .words')?.textContent.includes('Give up')")
 
 
 class Nowhere(test_page_browser.InBrowser):

@@ -549,7 +549,7 @@ class Walk:
     # pages
 
     def _do_reload(self) -> None:
-        """The page is loaded anew; once more where Chromium refuses that, since it isn't through with another page."""
+        """The page is loaded anew; once more where Chromium refuses that."""
         try:
             self.tabs.call("Page.reload")
         except Failed:

@@ -162,7 +162,7 @@ class Replay:
     def _compare(self, run: Run, again: Device) -> None:
         """Raises OtherMoves if the copy's log isn't the session's; for a copy of before, if its end isn't."""
         if run.record < 0:
-            if recovered(again.state) != recovered(self.device.state):
+            if as_powered_on(again.state) != as_powered_on(self.device.state):
                 raise OtherMoves()
             return
         for mine, record in zip(again.records, self.device.records[run.record:]):
@@ -170,7 +170,7 @@ class Replay:
                 raise OtherMoves()
 
 
-def recovered(state: State) -> State:
+def as_powered_on(state: State) -> State:
     """The state as a power on leaves it, without what was told since of where the machine stands."""
     return replace(state, opened=0, half_known=0, half_point_nm=(0, 0, 0), point_known=0)
 

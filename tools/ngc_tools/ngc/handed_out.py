@@ -18,7 +18,7 @@ from ngc_tools.formats.out import LONGEST_LINE, Switch, end_of_lines, read_line
 from ngc_tools.formats.out_note import OutNote
 from ngc_tools.formats.position import nanometres, rounded
 from ngc_tools.formats.settings import Settings
-from ngc_tools.ngc.carried import CannotTell, Run, is_within, recovered, runs
+from ngc_tools.ngc.carried import CannotTell, Run, as_powered_on, is_within, runs
 from ngc_tools.ngc.console import Ended, Status
 from ngc_tools.ngc.copies import Copy, CommandRefused, first
 from ngc_tools.link.out_file import born_ns
@@ -478,7 +478,7 @@ def _is_as_logged(again: Device, device: Device, begin: int) -> bool:
     """Whether what was done again is what the log of a device has from a record on; where it began before the log,
     whether it ends as the device does."""
     if begin < 0:
-        return recovered(again.state) == recovered(device.state) and again.parameters == device.parameters
+        return as_powered_on(again.state) == as_powered_on(device.state) and again.parameters == device.parameters
     return all(mine.state == record.state for mine, record in zip(again.records, device.records[begin:]))
 
 

@@ -85,6 +85,8 @@ class Needs(Flag):
     """`ngc` is idle or stopped."""
     NOTHING_LEFT = auto()
     """No line stands in OUT that no motor carried out, since the last session."""
+    NOTHING_IN_HAND = auto()
+    """The player has no line that it was given and hasn't carried out."""
     ONE_PLACE = auto()
     """The motors rest where `ngc` takes them to be."""
     MAKES_MOVES = auto()
@@ -245,7 +247,8 @@ COMMANDS = (
     OperatorCommand("reference", lambda operator, typed: operator.reference(typed),
                     (("reference X Y Z", "the machine stands there, in mm"),
                      ("reference player", "the machine stands where the player says")),
-                    taken=Taken.IN_ALARM | Taken.BROKEN_OFF, asked=Asked.AWAITED, needs=_THERE | Needs.NOT_BUSY),
+                    taken=Taken.IN_ALARM | Taken.BROKEN_OFF, asked=Asked.AWAITED,
+                    needs=_THERE | Needs.NOT_BUSY | Needs.NOTHING_IN_HAND),
     OperatorCommand("tool", lambda operator, typed: operator.tool(typed),
                     (("tool N LENGTH", "a tool's length, in mm"),), brings=Brings.ENTRY, asked=Asked.AWAITED,
                     needs=_SETTING),

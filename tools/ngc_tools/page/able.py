@@ -57,7 +57,7 @@ def _of_player(session: PageSession, status: Status, report: Report | None) -> N
     stands = report is not None and (report.is_held or report.waits or not report.behind
                                      or report.word == WAITS_SPINDLE)
     runs = status.does in ("running", "held") or session.under is not None and session.under.word in MOVES
-    return _those(SOMETHING_ON=is_on, MOTORS_STAND=stands,
+    return _those(SOMETHING_ON=is_on, MOTORS_STAND=stands, NOTHING_IN_HAND=report is None or not report.behind,
                   SOMETHING_TO_STOP=runs or is_on or report is not None and report.behind > 0)
 
 

@@ -1,7 +1,7 @@
 // After a loss of power: what was stored, where the machine is, a rehearsal, and then step by step. Nothing moves and
 // nothing is switched before the last step.
 import {
-  AXES, byRecord, counted, el, grouped, lasting, micrometres, mm, numbered, own, point, text,
+  AXES, byRecord, counted, el, grouped, lasting, may, micrometres, mm, numbered, own, point, text,
   typedNumber, zeroOf,
 } from './dom.js';
 import * as question from './question.js';
@@ -335,7 +335,7 @@ export class Recovery {
   }
 
   choice() {
-    const { recover, player, can, yours, player_gone: isGone } = this.app.state;
+    const { recover, player, behind, player_gone: isGone } = this.app.state;
     const canResume = Boolean(this.plan?.approach) && !recover?.left;
     const isAlong = this.along && (this.along.way || this.along.there);
     const offered = isAlong ? ['along'] : this.along || player ? ['legs'] : [];
@@ -343,11 +343,15 @@ export class Recovery {
     const recovers = () => this.asks('recover', { at: this.at, shown: this.shown });
     const does = { along: recovers, legs: recovers, straight: () => this.resume(),
       own: () => this.resume() };
+    const canRecover = may(this.app.state, 'recover'), canTell = may(this.app.state, 'reference');
+    const can = { along: canRecover, legs: canRecover, straight: canRecover && canTell, own: canRecover && canTell };
     const buttons = offered.map((name, i) => (i === (this.along ? 0 : offered.length - 1) ? sheet.go : sheet.button)(
-      CHOICES[name][0], does[name], yours && can.recover));
+      CHOICES[name][0], does[name], can[name]));
     this.put([sheet.title('Take the line up, or give it up'),
       ...[...offered, 'giveUp'].map(name => sheet.said(el('b', {}, CHOICES[name][0]), ` ${CHOICES[name][1]}`)),
       sheet.said('Before anything moves, spindle and coolant are switched on as they were, and you look.'),
+      behind && sheet.warning(`The motors have ${counted(behind, 'line')} in hand. The way there carries them out first, `
+        + 'and Stop lets go of them. Until then the line can\'t be given up.'),
       isGone ? sheet.warning('The player is gone. Start it, then Start ngc again.', 'bad')
         : sheet.warning('Keep a hand at Hold, and the other at the emergency stop.')],
     [this.back(2), sheet.gap(), this.giveUp(), ...buttons]);
@@ -359,7 +363,7 @@ export class Recovery {
       button.onclick = () => this.abandon();
       text(button, 'Yes, give it up');
       button.className = 'danger';
-    }, this.app.state.yours && this.app.state.can.abandon);
+    }, may(this.app.state, 'abandon') && may(this.app.state, 'reference'));
     return button;
   }
 
