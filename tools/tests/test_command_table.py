@@ -177,12 +177,33 @@ class Buttons(unittest.TestCase):
         held.report = replace(held.report, received=held.report.carried)
         self.check(held, self.ALWAYS, self.CHOICES, taken | {"reference"})
 
+    def test_nowhere(self) -> None:
+        """Where nobody told where the machine stands no line is taken; it is homed, or told."""
+        nowhere = Standing()
+        nowhere.status = replace(nowhere.status, known=False)
+        self.check(nowhere, self.ALWAYS, self.CHOICES, self.MOVES - {"probe", "measure"},
+                   {"load", "tool", "run", "go", "reference", "resume", "recover", "drop", "abandon", "quit", "rewind"})
+
+    def test_in_hand(self) -> None:
+        """Motors that are held with lines in hand, behind the program's end: these come first, or are let go of."""
+        held = Standing()
+        held.report = replace(held.report, received=12, is_held=True)
+        self.check(held, self.ALWAYS, self.CHOICES, {"load", "tool", "run", "stop", "go", "quit", "resume", "recover",
+                                                     "drop", "abandon", "rewind"})
+
     def test_alarm(self) -> None:
         """Home comes first, and a place may be told."""
         alarm = Standing(machine=MoveReport("stands", alarm="limits"))
         alarm.report = replace(alarm.report, word="alarm")
-        self.check(alarm, self.ALWAYS, {"home", "run", "go", "reference", "resume", "recover", "drop", "abandon",
-                                        "quit"})
+        self.check(alarm, {"hold", "home", "reference", "quit"})
+
+    def test_broken_off(self) -> None:
+        """The player carries out no more line: moves alone, and Stop, which begins another session."""
+        broken = Standing()
+        broken.report = replace(broken.report, word="broken", outputs=Switch(1, 5, False, False, 0, 0))
+        self.check(broken, {"hold", "jog", "reference", "stop", "off", "quit"})
+        broken.report = replace(broken.report, outputs=OFF)
+        self.check(broken, {"hold", "jog", "reference", "home", "seek", "quit"})
 
     def test_moves(self) -> None:
         """None while the door is open, none but a jog while something turns, none of a player that makes none."""

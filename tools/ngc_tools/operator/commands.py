@@ -87,6 +87,10 @@ class Needs(Flag):
     """No line stands in OUT that no motor carried out, since the last session."""
     NOTHING_IN_HAND = auto()
     """The player has no line that it was given and hasn't carried out."""
+    MOTORS_FREE = auto()
+    """The motors aren't held with lines in hand."""
+    PLACE_KNOWN = auto()
+    """`ngc` knows where the machine stands."""
     ONE_PLACE = auto()
     """The motors rest where `ngc` takes them to be."""
     MAKES_MOVES = auto()
@@ -106,7 +110,8 @@ class Needs(Flag):
 _THERE = Needs.SESSION | Needs.PLAYER
 _SOUND = _THERE | Needs.DEVICE | Needs.NO_ALARM
 _WELL = _SOUND | Needs.CARRIES
-_LINE = _WELL | Needs.NOT_BUSY | Needs.NOTHING_HALF | Needs.NOTHING_LEFT
+_ENTRY = _WELL | Needs.NOT_BUSY | Needs.NOTHING_HALF | Needs.NOTHING_LEFT
+_LINE = _ENTRY | Needs.MOTORS_FREE | Needs.PLACE_KNOWN
 _SETTING = _LINE | Needs.IDLE
 _FROM_PLACE = _SETTING | Needs.ONE_PLACE
 _MOVE = _THERE | Needs.MAKES_MOVES | Needs.TAKES_MOVES | Needs.DOOR_SHUT
@@ -144,7 +149,7 @@ _TAKES_UP = Brings.LINES | Brings.PROGRAM | Brings.TAKES_UP | Brings.FROM_TOLD
 COMMANDS = (
     OperatorCommand("load", lambda operator, typed: operator.load_file(typed.rest),
                     (("load FILE", "try a program by a dry run, and store it"),), brings=Brings.ENTRY,
-                    asked=Asked.AWAITED, needs=_SETTING),
+                    asked=Asked.AWAITED, needs=_ENTRY | Needs.IDLE),
     OperatorCommand("run", lambda operator, typed: operator.run(typed),
                     (("run, start", "start it; run goes on with it too"),), brings=_GOES_ON, asked=Asked.GIVEN,
                     needs=_THERE | Needs.NOT_BUSY | Needs.NOTHING_BUT_HELD),
@@ -251,7 +256,7 @@ COMMANDS = (
                     needs=_THERE | Needs.NOT_BUSY | Needs.NOTHING_IN_HAND),
     OperatorCommand("tool", lambda operator, typed: operator.tool(typed),
                     (("tool N LENGTH", "a tool's length, in mm"),), brings=Brings.ENTRY, asked=Asked.AWAITED,
-                    needs=_SETTING),
+                    needs=_ENTRY | Needs.IDLE),
     OperatorCommand("runs", lambda operator, _: operator.runs.show(),
                     (("runs", "the record of runs: when each began, how it ended"),)),
     OperatorCommand("rehearse", lambda operator, typed: operator.rehearse(typed.rest),

@@ -1,7 +1,7 @@
 """Which commands do something now: what each of them needs, beside how all stands. Buttons are enabled by it."""
 from ngc_tools.formats.out import Switch
 from ngc_tools.ngc.console import Status
-from ngc_tools.operator.commands import COMMANDS, Asked, Needs
+from ngc_tools.operator.commands import COMMANDS, Asked, Needs, OperatorCommand, Taken
 from ngc_tools.operator.display import on_words
 from ngc_tools.operator.session import ALARM, BROKEN, WAITS_SPINDLE
 from ngc_tools.page.session import MOVES, PageSession
@@ -26,8 +26,16 @@ def able(session: PageSession, status: Status, report: Report | None, machine: M
         holds |= Needs.ONE_PLACE
     if session.operator.session.program.text and status.place > 0:
         holds |= Needs.BEGUN
-    return {command.word: command.needs in holds for command in COMMANDS
+    return {command.word: command.needs in holds and not is_refused(command, report) for command in COMMANDS
             if command.asked is not Asked.NEVER or command.word == "hold"}
+
+
+def is_refused(command: OperatorCommand, report: Report | None) -> bool:
+    """Whether it isn't taken in an alarm, or where the player carries out no more line of this session. A page's `hold`
+    always holds the motors."""
+    if report is None or command.word == "hold" or command.taken & Taken.IN_ALARM:
+        return False
+    return report.word == ALARM or report.word == BROKEN and not command.taken & Taken.BROKEN_OFF
 
 
 def _those(**holding: bool) -> Needs:
@@ -49,7 +57,7 @@ def _of_session(session: PageSession, is_busy: bool) -> Needs:
 def _of_ngc(status: Status) -> Needs:
     is_whole = status.half == "none"
     return _those(DEVICE=status.does != "broken", NOTHING_HALF=is_whole, IDLE=status.does in ("idle", "stopped"),
-                  NOTHING_BUT_HELD=is_whole or status.does == "held")
+                  NOTHING_BUT_HELD=is_whole or status.does == "held", PLACE_KNOWN=status.known)
 
 
 def _of_player(session: PageSession, status: Status, report: Report | None) -> Needs:
@@ -67,5 +75,5 @@ def _of_moves(session: PageSession, status: Status, report: Report | None, machi
     is_alarm = report is not None and report.word == ALARM or machine is not None and bool(machine.alarm)
     is_broken_off = report is not None and report.word == BROKEN and status.does != "broken"
     takes = status.does in ("idle", "stopped") and not has_rest or is_alarm or is_broken_off
-    return _those(NO_ALARM=not is_alarm, MAKES_MOVES=machine is not None, TAKES_MOVES=takes,
+    return _those(NO_ALARM=not is_alarm, MAKES_MOVES=machine is not None, TAKES_MOVES=takes, MOTORS_FREE=not has_rest,
                   DOOR_SHUT=not session.operator.session.is_door_open, ALL_OFF=not on_words(outputs))
