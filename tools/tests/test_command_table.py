@@ -168,7 +168,7 @@ class Buttons(unittest.TestCase):
         self.check(Standing(under="jog"), self.ALWAYS, self.CHOICES, {"stop", "go", "jog"})
 
     def test_held(self) -> None:
-        """Within a block: it goes on, is ended, or its outputs go off. No place is told while there are lines in hand."""
+        """Within a block: it goes on, is ended, or its outputs go off; with lines in hand no place is told."""
         held = Standing()
         held.status = replace(held.status, does="held", half="program")
         held.report = replace(held.report, received=12, is_held=True, outputs=Switch(1, 5, False, False, 0, 0))

@@ -299,7 +299,7 @@ class InHand(Lost):
             os.kill(pid, signal.SIGKILL)
         self.server.wait()
         self.begin_again()
-        browser.wait("ngc.state?.yours && ngc.state.half === 'program' && ngc.state.held_motors && ngc.state.behind > 0")
+        browser.wait("ngc.state?.yours && ngc.state.half !== 'none' && ngc.state.held_motors && ngc.state.behind > 0")
         self.to_choice()
         ways = "[...document.querySelectorAll('#over .foot button:enabled')].map(one => one.textContent).join()"
         self.assertEqual(browser.js(ways), "Back,Go along the path")

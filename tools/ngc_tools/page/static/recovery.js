@@ -350,8 +350,8 @@ export class Recovery {
     this.put([sheet.title('Take the line up, or give it up'),
       ...[...offered, 'giveUp'].map(name => sheet.said(el('b', {}, CHOICES[name][0]), ` ${CHOICES[name][1]}`)),
       sheet.said('Before anything moves, spindle and coolant are switched on as they were, and you look.'),
-      behind && sheet.warning(`The motors have ${counted(behind, 'line')} in hand. The way there carries them out first, `
-        + 'and Stop lets go of them. Until then the line can\'t be given up.'),
+      behind && sheet.warning(`The motors have ${counted(behind, 'line')} in hand. The way there carries them out `
+        + 'first, and Stop lets go of them. Until then the line can\u2019t be given up.'),
       isGone ? sheet.warning('The player is gone. Start it, then Start ngc again.', 'bad')
         : sheet.warning('Keep a hand at Hold, and the other at the emergency stop.')],
     [this.back(2), sheet.gap(), this.giveUp(), ...buttons]);
