@@ -18,6 +18,12 @@ _NOT_TAKEN = ("the player doesn't take that: all axes have to be homed that can 
               " has them, and the emergency stop has to be off")
 
 
+def is_forbidden(word: str, said: str) -> bool:
+    """Whether a command isn't taken, by what the player says of itself: in an alarm, or once it broke off."""
+    return said == ALARM and not is_taken(word, Taken.IN_ALARM) or said == BROKEN and not is_taken(
+        word, Taken.IN_ALARM | Taken.BROKEN_OFF)
+
+
 class Alarm:
     """What is said of one, and what isn't taken until it is over. `came_by` is what the last one came by, in words."""
 
@@ -30,12 +36,13 @@ class Alarm:
         if not self.session.meter or is_taken(word, Taken.IN_ALARM):
             return False
         self._look()
-        if self.session.is_in(ALARM):
-            self._say_forbidden()
-        elif self.session.is_in(BROKEN) and not is_taken(word, Taken.BROKEN_OFF):
-            self.session.face.say(_BROKEN, REFUSED)
-        else:
+        said = self.session.seen.word if self.session.seen else ""
+        if not is_forbidden(word, said):
             return False
+        if said == ALARM:
+            self._say_forbidden()
+        else:
+            self.session.face.say(_BROKEN, REFUSED)
         return True
 
     def _say_forbidden(self) -> None:

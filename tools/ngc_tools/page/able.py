@@ -1,7 +1,8 @@
 """Which commands do something now: what each of them needs, beside how all stands. Buttons are enabled by it."""
 from ngc_tools.formats.out import Switch
 from ngc_tools.ngc.console import Status
-from ngc_tools.operator.commands import COMMANDS, Asked, Needs, OperatorCommand, Taken
+from ngc_tools.operator.alarm import is_forbidden
+from ngc_tools.operator.commands import COMMANDS, Asked, Needs
 from ngc_tools.operator.display import on_words
 from ngc_tools.operator.session import ALARM, BROKEN, WAITS_SPINDLE
 from ngc_tools.page.session import MOVES, PageSession
@@ -26,16 +27,10 @@ def able(session: PageSession, status: Status, report: Report | None, machine: M
         holds |= Needs.ONE_PLACE
     if session.operator.session.program.text and status.place > 0:
         holds |= Needs.BEGUN
-    return {command.word: command.needs in holds and not is_refused(command, report) for command in COMMANDS
-            if command.asked is not Asked.NEVER or command.word == "hold"}
-
-
-def is_refused(command: OperatorCommand, report: Report | None) -> bool:
-    """Whether it isn't taken in an alarm, or where the player carries out no more line of this session. A page's `hold`
-    always holds the motors."""
-    if report is None or command.word == "hold" or command.taken & Taken.IN_ALARM:
-        return False
-    return report.word == ALARM or report.word == BROKEN and not command.taken & Taken.BROKEN_OFF
+    said = report.word if report else ""
+    enabled = {command.word: command.needs in holds and not is_forbidden(command.word, said) for command in COMMANDS
+               if command.asked is not Asked.NEVER}
+    return enabled | {"hold": Needs.SESSION in holds}  # a page holds the motors whatever the player says
 
 
 def _those(**holding: bool) -> Needs:
