@@ -139,7 +139,7 @@ class Buttons(unittest.TestCase):
     """Which buttons are enabled."""
 
     SETTING_UP = {"load", "mdi", "tool", "zero", "touch", "undo", "offset", "restore", "above", "park", "macro",
-                  "from"}
+                  "turn", "from"}
     MOVES = {"home", "jog", "seek", "probe", "measure"}
     ALWAYS = {"hold", "release", "rehearse"}
     CHOICES = {"single", "optional", "delete", "measures", "percent", "spindle"}
@@ -155,9 +155,13 @@ class Buttons(unittest.TestCase):
         first = Standing()
         first.status = replace(first.status, place=0)
         self.check(first, self.ALWAYS, self.CHOICES, self.SETTING_UP, self.MOVES, going - {"rewind"})
-        apart = told(Standing(is_apart=True))
-        self.assertFalse(any(apart[word] for word in ("zero", "above", "park", "probe", "measure", "from")))
-        self.assertTrue(apart["load"] and apart["macro"])
+
+    def test_apart(self) -> None:
+        """Where two places are told no line goes from either of them but by a person's own words; M5 and M9, which
+        `mdi` takes, go from none."""
+        self.check(Standing(is_apart=True), self.ALWAYS, self.CHOICES, self.MOVES - {"probe", "measure"},
+                   {"load", "mdi", "tool", "offset", "run", "go", "reference", "resume", "recover", "drop", "abandon",
+                    "quit", "rewind"})
 
     def test_while_it_runs(self) -> None:
         """What is taken meanwhile; a jog goes on by its own button."""

@@ -39,7 +39,8 @@ from ngc_tools.page.jog import HeldJog, Wish
 from ngc_tools.page.pages import LOST_S
 from ngc_tools.page.rehearse import RehearsalRequest, rehearsed
 from ngc_tools.page.session import SessionCommand, PageSession
-from ngc_tools.page.state import Pictured
+from ngc_tools.page.stand import Stand
+from ngc_tools.page.state import Pictured, state_of
 from ngc_tools.link.progress import MoveReport, NoAnswer
 
 EXAMPLES = TOOLS.parent / "examples"
@@ -1189,6 +1190,42 @@ class Shown(unittest.TestCase):
 
 class Moments(unittest.TestCase):
     """When a state was so."""
+
+    def test_of_one(self) -> None:
+        """Where a command begins or ends, or somebody is asked, while a state is put together, no part of it is of
+        before and another of after; where that goes on and on a page sees something all the same."""
+        session = PageSession.__new__(PageSession)
+        session.face, session._wake, session._next, session._stops = PageFace(), threading.Condition(), None, False
+        session.under, session.stand, session.ended = SimpleNamespace(word="run"), Stand(None), ""
+        changes = []
+
+        def pictured(*_: object) -> SimpleNamespace:
+            """It reads how all stands first, and what is under way last."""
+            stand = session.stand
+            if changes:
+                changes.pop()()
+            asked = session.face.question
+            return SimpleNamespace(plain=lambda: (stand.gone, session.is_busy, asked and asked.text))
+
+        def ends() -> None:
+            """As the session's thread does."""
+            session.stand, session.under = Stand(None, gone="it ended"), None
+
+        def begins() -> None:
+            """As a page's request does."""
+            session._next = SimpleNamespace(word="run")
+
+        def asks() -> None:
+            """As the core does, once the spindle turns."""
+            session.stand, session.face.question = Stand(None, gone="it turns"), Question(1, "look", "yes")
+
+        with patch("ngc_tools.page.state.Pictured", pictured):
+            for change, said in ((ends, ("it ended", False, None)), (begins, ("it ended", True, None)),
+                                 (asks, ("it turns", True, "look"))):
+                changes.append(change)
+                self.assertEqual(state_of(session), said)
+            changes.extend([session.face.publish] * 1000)
+            self.assertEqual(state_of(session), ("it turns", True, "look"))
 
     def test_now(self) -> None:
         """What a state says is at least as new as its `now`, however long the computer took to put it together."""

@@ -97,7 +97,7 @@ class InBrowser(test_page_browser.InBrowser):
         self.load(PART, 10)
         browser.wait("document.querySelectorAll('#program .row').length > 9")
         self.assertTrue(browser.js("document.getElementById('from').hidden"))
-        browser.press("Y5", "#program .row")
+        self.touch_row("Y5")
         browser.press("From line 7", "#from")
         for asked, answer in (("Up to which Z", "8"), ("How fast", "600")):
             browser.wait(f"document.querySelector('#over .asked').textContent.includes('{asked}')")
@@ -114,6 +114,15 @@ class InBrowser(test_page_browser.InBrowser):
         self.assertEqual(set(rows[:-4]), {"\u2193"})
         self.assertEqual(browser.js("document.getElementById('run').textContent"), "Run from 7")
         self.no_complaints()
+
+    def touch_row(self, says: str) -> None:
+        """A finger comes down on a line, and goes up once the rows were drawn anew, as where another line is under way.
+        """
+        at = self.browser.place(says, "#program .row")
+        self.browser.down(*at)
+        self.browser.js("void ngc.program.draw()")
+        self.browser.frame()
+        self.browser.up(*at)
 
 
 if __name__ == "__main__":

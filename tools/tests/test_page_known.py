@@ -401,9 +401,13 @@ class Known(Served):
         self.pull()
         self.begin()
         page = self.page(OTHER)
-        for ends in ("hold", "home"):
+        for ends, name, more in (("hold", "flood", 0), ("home", "coolant off", 1)):
             state = page.until("two places are told", lambda state: state["word"] == "Two places")
             self.assertEqual((float(state["past_mm"] or 0) > 0, state["past_axes"]), (True, [True] * 3))
+            self.assertEqual((state["can"]["turn"], state["can"]["mdi"]), (False, True))
+            self.assertEqual(page.post("turn", {"name": name}), (200, {}))
+            page.until("it is looked at", lambda now, more=state["entries"] + more: now["entries"] == more
+                       and not now["busy"] and page.said().count("mm apart. Nothing is done") == 1)
             self.assertEqual(page.post("home", {}), (200, {}))
             state = page.until("it homes", lambda state: state["does_move"].startswith("home "))
             self.assertEqual((state["word"], state["stale"] and state["stale"]["why"]), ("Homing", "power"))

@@ -148,6 +148,9 @@ class Fingers(test_page_browser.Moves):
         browser.wait("ngc.state.word === 'Two places' && ngc.state.apart[2]")
         enabled = browser.js("[...document.querySelectorAll('#tab-setup .four button')].map(one => !one.disabled)")
         self.assertEqual(enabled, [True] * 4 + [False] * 4)  # home, but no zero
+        enabled = browser.js("[...document.querySelectorAll('.three button')].filter(one => !one.disabled)"
+                             ".map(one => one.textContent)")
+        self.assertEqual(enabled, ["Off M5", "Off M9"])
         browser.press("Where is it?", "#run")
         self.look("two places")
         browser.press("Where the player counts", "#over button")

@@ -114,6 +114,8 @@ _ENTRY = _WELL | Needs.NOT_BUSY | Needs.NOTHING_HALF | Needs.NOTHING_LEFT
 _LINE = _ENTRY | Needs.MOTORS_FREE | Needs.PLACE_KNOWN
 _SETTING = _LINE | Needs.IDLE
 _FROM_PLACE = _SETTING | Needs.ONE_PLACE
+LINE_FROM_PLACE = _LINE | Needs.ONE_PLACE
+"""What a line of G-code needs that a button stands for, but for M5 and M9, which are taken at two places too."""
 _MOVE = _THERE | Needs.MAKES_MOVES | Needs.TAKES_MOVES | Needs.DOOR_SHUT
 _TOWARDS = _MOVE | Needs.ALL_OFF | Needs.NOT_BUSY
 _ROUTINE = _TOWARDS | _FROM_PLACE
@@ -158,8 +160,7 @@ COMMANDS = (
                     (("G0 X1 ..", "a line of G-code of your own"),), brings=_OWN_LINES, asked=Asked.GIVEN, needs=_LINE),
     OperatorCommand("restore", lambda operator, _: operator.restore(),
                     (("restore", "put back what lines of your own left in force"),), brings=_OWN_LINES,
-                    asked=Asked.GIVEN,
-                    needs=_LINE),
+                    asked=Asked.GIVEN, needs=LINE_FROM_PLACE),
     OperatorCommand("home", lambda operator, typed: operator.moves.home(typed.rest),
                     (("home, home X Z", "to the switches; then ngc knows where the machine is"),),
                     usage="home, or home X Z: these axes alone", taken=Taken.IN_ALARM, brings=Brings.MOVES,
@@ -207,7 +208,7 @@ COMMANDS = (
                     asked=Asked.GIVEN, needs=_FROM_PLACE),
     OperatorCommand("macro", lambda operator, typed: operator.macros.do(typed.rest),
                     (("macro NAME", "the lines of a macro; macro says which there are"),), brings=_OWN_LINES,
-                    asked=Asked.GIVEN, needs=_SETTING),
+                    asked=Asked.GIVEN, needs=_FROM_PLACE),
     OperatorCommand("offsets", lambda operator, _: operator.offsets.show(),
                     (("offsets", "G54 to G59.3, G92, the tool length, the place in each"),)),
     OperatorCommand("offset", lambda operator, typed: operator.offsets.set(typed.rest, typed.anyway),

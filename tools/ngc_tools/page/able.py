@@ -2,7 +2,7 @@
 from ngc_tools.formats.out import Switch
 from ngc_tools.ngc.console import Status
 from ngc_tools.operator.alarm import is_forbidden
-from ngc_tools.operator.commands import COMMANDS, Asked, Needs
+from ngc_tools.operator.commands import COMMANDS, LINE_FROM_PLACE, Asked, Needs
 from ngc_tools.operator.display import on_words
 from ngc_tools.operator.session import ALARM, BROKEN, WAITS_SPINDLE
 from ngc_tools.page.session import MOVES, PageSession
@@ -17,9 +17,9 @@ def is_given_before(session: PageSession, status: Status, report: Report | None)
 
 def able(session: PageSession, status: Status, report: Report | None, machine: MoveReport | None, outputs: Switch,
          is_apart: bool) -> dict[str, bool]:
-    """Of each command that a page may ask for, and of `hold`, whether all holds that it needs. `machine` is what the
-    player says of moves without lines, None where it makes none; `outputs` are those that are shown; `is_apart` says
-    that the motors rest elsewhere than `ngc` takes them to be."""
+    """Of each command that a page may ask for, of `hold`, and of `turn`, which switches spindle or coolant on, whether
+    all holds that it needs. `machine` is what the player says of moves without lines, None where it makes none;
+    `outputs` are those that are shown; `is_apart` says that the motors rest elsewhere than `ngc` takes them to be."""
     is_busy = session.is_busy or is_given_before(session, status, report)
     holds = (_of_session(session, is_busy) | _of_ngc(status) | _of_player(session, status, report) |
              _of_moves(session, status, report, machine, outputs))
@@ -30,7 +30,8 @@ def able(session: PageSession, status: Status, report: Report | None, machine: M
     said = report.word if report else ""
     enabled = {command.word: command.needs in holds and not is_forbidden(command.word, said) for command in COMMANDS
                if command.asked is not Asked.NEVER}
-    return enabled | {"hold": Needs.SESSION in holds}  # a page holds the motors whatever the player says
+    # a page holds the motors whatever the player says
+    return enabled | {"hold": Needs.SESSION in holds, "turn": enabled["mdi"] and LINE_FROM_PLACE in holds}
 
 
 def _those(**holding: bool) -> Needs:

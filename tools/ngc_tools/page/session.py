@@ -238,6 +238,12 @@ class PageSession:
         """Whether a command is under way."""
         return self.under is not None or self._next is not None or self._stops
 
+    def moment(self) -> tuple[object, ...]:
+        """What changes as a command begins or ends, or somebody is asked. Where it is the same before and after
+        something was read, all that was read is of one moment."""
+        with self._wake:
+            return (self.under, self._next, self._stops, self.stand, self.ended, self.face.question, self.face.version)
+
     @property
     def _is_stopping(self) -> bool:
         """Whether Stop is under way, or comes next."""

@@ -31,6 +31,8 @@ _TAKE_UP = words_that_bring(Brings.TAKES_UP)
 _CONFIRMED = words_that_bring(Brings.FROM_TOLD)
 _OLD_S = 0.6
 """A place that was told so long ago isn't shown as the place now, while something is under way."""
+_MOST_READINGS = 10
+"""So often at most a state is read, until it is of one moment."""
 HERE = "here"
 """What holds the motors, where that was one of the pages."""
 
@@ -332,5 +334,10 @@ class Pictured:
 
 
 def state_of(session: PageSession, page: str = "") -> dict:
-    """All that a page shows and that changes."""
-    return Pictured(session, page).plain()
+    """All that a page shows and that changes. Where something begins or ends meanwhile it is read anew, so that no state
+    has one part of before and another of after; but not for ever, since a page has to see something."""
+    for _ in range(_MOST_READINGS):
+        moment, state = session.moment(), Pictured(session, page).plain()
+        if session.moment() == moment:
+            break
+    return state

@@ -10,6 +10,7 @@ export class Program {
     this.box = $('program');
     this.space = $('program-space');
     this.lines = [];
+    this.rows = new Map();   // those in sight, by their place among the lines
     this.here = 0;           // the line that is under way, or comes next
     this.isRunning = false;
     this.followed = 0;       // the line that was brought into sight last
@@ -31,6 +32,7 @@ export class Program {
       : 'No program is stored');
     this.followed = 0;
     this.chosen = null;
+    this.rows.clear();
     this.draw();
   }
 
@@ -71,15 +73,29 @@ export class Program {
     const last = Math.min(lines.length, Math.ceil((top + seen) / height) + MORE);
     const rows = Array.from({ length: Math.max(0, last - first) }, (_, i) => this.row(first + i));
     rows.forEach((row, i) => { row.style.top = `${box.scrollTop + (first + i) * height - top}px`; });
-    this.space.replaceChildren(...rows);
+    this.put(rows);
   }
 
-  row(i) {
-    const number = i + 1, here = this.isRunning ? 'here' : 'next';
+  // Rows that are there stay: one that goes under a finger, and comes again, would never hear of the touch.
+  put(rows) {
+    const kept = new Set(rows);
+    for (const one of [...this.space.children]) if (!kept.has(one)) one.remove();
+    rows.forEach((row, i) => {
+      if (this.space.children[i] !== row) this.space.insertBefore(row, this.space.children[i] ?? null);
+    });
+    this.rows = new Map(rows.map(row => [row.line, row]));
+  }
+
+  row(line) {
+    const number = line + 1, here = this.isRunning ? 'here' : 'next';
     const kind = number < this.here ? 'past' : number === this.here ? here : '';
     const [way, first] = this.way, named = number > way ? number - way + first - 1 : 0;
     const chosen = named && named === this.chosen ? 'chosen' : '';
-    return el('div', { class: `row ${kind} ${chosen}`, translate: 'no', 'data-number': named },
-      el('span', {}, named ? String(named) : '\u2193'), this.lines[i]);
+    const row = this.rows.get(line) ?? el('div', { translate: 'no' }, el('span', {}), this.lines[line]);
+    row.line = line;
+    row.className = `row ${kind} ${chosen}`;
+    row.dataset.number = named;
+    text(row.firstChild, named ? String(named) : '\u2193');
+    return row;
   }
 }

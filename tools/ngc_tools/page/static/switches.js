@@ -36,8 +36,10 @@ export class Switches {
     if (!s) return;
     const speed = Number(typedNumber(this.speed.value) ?? -1), isSpeed = Number.isInteger(speed) && speed > 0;
     this.speed.classList.toggle('wrong', !isSpeed);
-    this.turns.forEach((one, i) => { one.disabled = !may(s, 'mdi') || i < 2 && !isSpeed; });
-    for (const one of this.coolant) one.disabled = !may(s, 'mdi');
+    // M5 and M9, the last of each, are taken where two places are told too
+    const isOff = i => i === TURNS.length - 1;
+    this.turns.forEach((one, i) => { one.disabled = isOff(i) ? !may(s, 'mdi') : !may(s, 'turn') || !isSpeed; });
+    this.coolant.forEach((one, i) => { one.disabled = !may(s, isOff(i) ? 'mdi' : 'turn'); });
     this.above.disabled = !may(s, 'above');
     this.park.disabled = !may(s, 'park');
     this.park.hidden = !s.has_park;
