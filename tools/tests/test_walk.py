@@ -117,6 +117,13 @@ class WaysOn(unittest.TestCase):
         seen = Seen(0.0, {"isLost": False, "entries": [], "buttons": named})
         self.assertEqual(Walk._way_on(SimpleNamespace(done=[]), seen), ("touch", "Stopends the job"))
 
+    def test_at_work(self) -> None:
+        """What somebody is at work on is waited for; a sheet with a button that opens another one is there at once."""
+        file = {"says": "A file of this device\u2026"}
+        for sheet, is_at_work in (("Load\npart.ngc\nBack\nA file of this device\u2026", False),
+                                  ("Load part.ngc\nngc looks at each line\u2026\nBack", True), ("", False)):
+            self.assertEqual(Seen(0.0, {"sheet": sheet, "buttons": [file]}).is_at_work, is_at_work, sheet)
+
 
 class Killed(InFolder):
     """What comes of kills, by hand."""

@@ -647,7 +647,7 @@ class Walk:
             self.do(step)
         until, ways = time.monotonic() + ANSWERS_S, 0
         while ways < WAYS:
-            self._until(lambda seen: "\u2026" not in seen.sheet, until - time.monotonic())  # `ngc` is at work on it
+            self._until(lambda seen: not seen.is_at_work, until - time.monotonic())
             seen = self.seen
             if any(one["id"] == "load" for one in seen.buttons) and not seen.sheet:
                 return

@@ -121,6 +121,13 @@ class Seen:
         return self.said["tone"] == "run"
 
     @property
+    def is_at_work(self) -> bool:
+        """Whether a sheet says that somebody is at work on what it shows. A button that opens something says no such
+        thing, though it ends in the same dots."""
+        opening = {one["says"] for one in self.buttons}
+        return any("\u2026" in line and line not in opening for line in self.sheet.split("\n"))
+
+    @property
     def all_words(self) -> str:
         """All that stands where the person works: not what Log has alone."""
         return "\n".join(str(self.said[name]) for name in ("header", "toast", "sheet", "place", "share"))
