@@ -169,6 +169,31 @@ class FromFolder(Served):
         self.assertEqual(self.page().get("jobs")[0], 422)
 
 
+class ToMachine(Served):
+    """A page of a folder, of a machine whose motors are known."""
+
+    JOBS = "jobs"
+    MACHINE = "[motion]\naccel_mm_s2 = [500, 500, 500]\n"
+
+    def begin_player(self) -> None:
+        """A cut of 10 mm at 10 mm a second."""
+        Path("jobs").mkdir(exist_ok=True)
+        Path("jobs/cut.ngc").write_text("G17 G21 G90 G94\nG1 X10 F600\nM2\n")
+        super().begin_player()
+
+    def test_ramps(self) -> None:
+        """The list has its time with ramps: a second, and a fiftieth in which its motors come to 10 mm a second."""
+        page, found = self.page(), {}
+
+        def is_known() -> bool:
+            found.update(json.loads(page.get("jobs")[1])["jobs"][0])
+            return not found["pending"]
+
+        self.wait_for("its time is known", is_known)
+        self.assertTrue(found["ramps"])
+        self.assertAlmostEqual(found["us"], 1_020_000, delta=1_000)
+
+
 class WithRamps(unittest.TestCase):
     """Times."""
 

@@ -34,7 +34,7 @@ from ngc_tools.page import server as server_module
 from ngc_tools.page.aside import Aside, NotDone
 from ngc_tools.page.band import Standing
 from ngc_tools.page.drawing import SWITCH, DrawingRequest, draw, draw_exactly, job_of
-from ngc_tools.page.face import PageFace, Question
+from ngc_tools.page.face import LOOKS, PageFace, Question
 from ngc_tools.page.jog import HeldJog, Wish
 from ngc_tools.page.pages import LOST_S
 from ngc_tools.page.rehearse import RehearsalRequest, rehearsed
@@ -570,7 +570,7 @@ class Moves(Served):
         self.assertIn("Not homed: Y.", state["detail"])
         for at in (None, {}, ["1", "2", "3"], {"A": "1"}, {"Y": "player"}, {"Y": 8.5}, {"Y": "8\nquit"}):
             self.assertEqual(page.post("stands", {"at": at})[0], 422, at)
-        for at, says in (({"Z": "-2"}, "player stands for the number of an axis that is homed (X Z)"),
+        for at, says in (({"Z": "-2"}, "Write where each axis is that isn't homed, in mm: the player counts X"),
                          ({"X": "1", "Y": "8.5"}, "the player doesn't take that")):
             self.assertIn(says, page.post("stands", {"at": at})[1]["refused"])
         state = page.rested()
@@ -863,6 +863,16 @@ class PageWords(unittest.TestCase):
             face = PageFace()
             face.say(said, REFUSED)
             self.assertEqual((face.log[-1].text, face.refusal), (shown, shown))
+
+    def test_questions(self) -> None:
+        """What is asked names them too; a look at the machine stays the question that it is."""
+        for said, shown in (("No move leaves that; measure from Z within MM says it otherwise\nyes measures: ",
+                             "No move leaves that; Keep both heights says it otherwise\nyes measures:"),
+                            *((text, text) for text in LOOKS)):
+            face, asked = PageFace(), []
+            face.look = lambda: asked.append(face.question.text) or face.leave()
+            self.assertFalse(face.agrees(said))
+            self.assertEqual(asked, [shown])
 
 
 class Bands(unittest.TestCase):

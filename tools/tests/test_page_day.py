@@ -225,6 +225,11 @@ class Day(Walk):
         self.press("Yes: sets it", "#over button")
         self.rests("s.tools[0] === '50.000000' && s.touched === null")  # its place counts once
         self.assertTrue(self.is_dead("Tool 1 stands on the setter"))
+        self.browser.fill("input[aria-label='Work coordinate of what the tool stands on, in mm']", "-47.5")
+        self.press("Tool 1 stands on the work", "#tab-setup button")
+        self.rests("Math.abs(s.tools[0] - s.at[2] - 47.5) < 1e-6 && s.tools[0] !== '50.000000'")
+        self.press("Undo: tool 1 50", "#tab-setup button")
+        self.rests("s.tools[0] === '50.000000'")
         self.done.append("Tools")
 
     def is_dead(self, says: str) -> bool:

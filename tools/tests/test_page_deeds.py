@@ -8,6 +8,7 @@ from pathlib import Path
 sys.path.insert(0, str(Path(__file__).resolve().parent))
 
 from browser_support import Chromium
+from test_jobs import MOCKED
 from test_moves import X_LOW, Y_LOW, Z_HIGH
 from test_page_day import SOON
 from test_page_probing import MM, OverBodies
@@ -27,6 +28,14 @@ M2
 """Its line 6 goes along Y, within the work."""
 UNSET = "G21 G90 G17 G54 G94\nG0 X1\nG0 Z2\nM2\n"
 """Its line 3 moves Z by the length that is in force before."""
+CHANGE = """G21 G90 G17 G54 G94
+G1 X1 F60
+T2 M6
+G43 H2
+G1 X2 F60
+M2
+"""
+"""Tool 2 comes in its line 3, between cuts of a second."""
 PRESSES = 50
 WORDS = "document.querySelector('#over .words').textContent"
 GAUGES = "[...document.querySelectorAll('#gauges dd')].slice(1, 3).map(one => one.textContent).join()"
@@ -240,6 +249,50 @@ class Asked(OverBodies):
             self.rests(f"s.distance === {distance}")
             self.assertEqual((self.world.place, self.world.reached[1:]), (place, (place, (MM, 2 * MM, 3 * MM))))
         self.no_complaints()
+
+
+class Called(OverBodies):
+    """By the clock. Somebody who isn't at the page, whose browser tells what it is asked to tell."""
+
+    WORDS: list[str] = []
+    EXTRA = ""
+    BEFORE = "tool 1 0\ntool 2 3\n"
+
+    def test_change(self) -> None:
+        """Of a tool change amid a job the browser tells, once, by the band's words, and the screen stays on; then of
+        the job's end."""
+        browser = self.browser
+        browser.js(MOCKED)
+        browser.press("Setup", "nav button")
+        browser.press("Tell me at a stop", "#tab-setup button")
+        browser.wait("Notification.permission === 'granted'")
+        self.load(CHANGE, CHANGE.count("\n"))
+        self.assertEqual(browser.js("window.calls"), [])
+        browser.press("Run", "#run")
+        browser.wait("ngc.state.waits && window.calls.length")
+        self.assertEqual(browser.js("[ngc.state.word, ngc.state.detail]"), ["Tool change", "Put in tool 2"])
+        self.assertEqual(browser.js("[window.calls, window.kept]"), [[["Tool change", "Put in tool 2"]], ["screen"]])
+        browser.press("Tool 2 is in", "#run")
+        self.rests("s.finished")
+        browser.wait("window.calls.length > 1 && window.kept.length > 1")
+        self.assertEqual(browser.js("[window.calls.slice(1), window.kept]"),
+                         [[["The job is done", "part.ngc"]], ["screen", "released"]])
+        self.assertEqual(self.world.place, (2 * MM, 0, 0))
+        self.no_complaints()
+
+    def test_change_at_once(self) -> None:
+        """So it does of one with which a job begins, before it was seen to run."""
+        browser = self.browser
+        browser.js(MOCKED)
+        browser.js("Notification.requestPermission()")
+        self.load(CHANGE.replace("G1 X1 F60\n", ""), CHANGE.count("\n") - 1)
+        browser.press("Run", "#run")
+        browser.wait("ngc.state.waits && window.calls.length")
+        self.assertEqual(browser.js("window.calls"), [["Tool change", "Put in tool 2"]])
+        browser.press("Tool 2 is in", "#run")
+        self.rests("s.finished")
+        browser.wait("window.calls.length > 1")
+        self.assertEqual(browser.js("window.calls[1][0]"), "The job is done")
 
 
 if __name__ == "__main__":

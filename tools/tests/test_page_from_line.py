@@ -97,6 +97,10 @@ class InBrowser(test_page_browser.InBrowser):
         self.load(PART, 10)
         browser.wait("document.querySelectorAll('#program .row').length > 9")
         self.assertTrue(browser.js("document.getElementById('from').hidden"))
+        browser.press("G54", "#program .row")
+        browser.wait("ngc.program.chosen === 1")
+        browser.js("new Promise(done => setTimeout(done, 500))")  # some states come
+        self.assertTrue(browser.js("document.getElementById('from').hidden"))  # Run begins with it
         self.touch_row("Y5")
         browser.press("From line 7", "#from")
         for asked, answer in (("Up to which Z", "8"), ("How fast", "600")):

@@ -103,6 +103,20 @@ class AtChange(AtMachine):
         depth, least, greatest = self.world.reached
         self.assertTrue(depth < 110 and least[2] >= -1_110 and greatest == (8_000, 6_000, 8_000), (depth, least))
 
+    def test_not_measured(self) -> None:
+        """A no: the job waits, with the length by the table, and jog, seek, touch and measure are offered; a jog moves
+        the motors."""
+        question = self.asked()["question"]["id"]
+        self.assertEqual(self.seen.post("answer", {"question": question, "yes": False}), (200, {"taken": True}))
+        state = self.seen.until("it waits", lambda s: not s["busy"] and not s["question"])
+        self.assertEqual((state["does"], state["word"], state["tools"][1]), ("stopped", "Stopped", "3.000000"))
+        self.assertEqual({word: state["can"][word] for word in ("jog", "seek", "touch", "measure")},
+                         {"jog": True, "seek": True, "touch": True, "measure": True})
+        self.assertEqual(self.world.place, (1_000, 0, 0))
+        self.assertEqual(self.seen.post("jog", {"axis": "Z", "sign": 1, "rate": "600", "length": "2"}), (200, {}))
+        state = self.seen.until("it is jogged", lambda s: not s["busy"] and s["motors"][2] == "2.000000")
+        self.assertEqual((state["does"], self.world.place), ("stopped", (1_000, 0, 2_000)))
+
     def test_heights(self) -> None:
         """From where the setter is sought is said anew; what can't be gone isn't kept."""
         self.assertEqual(self.seen.post("measurefrom", {"down": "x", "within": "1"})[0], 422)
@@ -149,7 +163,7 @@ class Held(AtChange):
     """By the clock."""
 
     WORDS: list[str] = []
-    test_measured = test_heights = test_off = test_switches = None
+    test_measured = test_not_measured = test_heights = test_off = test_switches = None
 
     def test_held(self) -> None:
         """Hold amid the way: it comes to rest there, the job waits, and the length stays."""

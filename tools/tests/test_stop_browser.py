@@ -7,12 +7,14 @@ from pathlib import Path
 sys.path.insert(0, str(Path(__file__).resolve().parent))
 
 from firefox_support import MISSING, PATH, started
-from test_moves import STOP
-from test_page_day import Walk
+from test_moves import DOOR, STOP
+from test_page_day import MILL, Walk
 
 JOB = "G17 G21 G90 G94\nM3 S1000\nG0 X1\nG1 X4 F60\nM5\nM2\n"
 """Its line 4 is a cut of three seconds."""
 SHOWN = "document.getElementById('{}').checkVisibility()"
+RUN = "[document.getElementById('run').textContent, document.getElementById('run').disabled]"
+"""What the large button says, and whether it is dead."""
 
 
 @unittest.skipUnless(PATH, MISSING)
@@ -69,13 +71,17 @@ class ByTouch(Walk):
         self.rests("s.finished")
 
     def test_way_back(self) -> None:
-        """The alarm's sheet opens by itself, with its cause; home is enabled once the emergency stop is released; then
-        the line is half-done, and the page leads on, with the player that was there."""
+        """The alarm's sheet opens by itself, with its cause, which the band names too; home is enabled once the
+        emergency stop is released; then the line is half-done, and the page leads on, with the player that was there.
+        """
         self.load(JOB)
         self.cuts()
         self.world.put(STOP, False)
         self.wait("s.alarm && !s.busy")
         self.browser.wait("document.querySelector('#over .lead')?.textContent === 'emergency stop'")
+        self.wait("s.detail.startsWith('Emergency stop. ')")
+        self.browser.wait("document.getElementById('detail').textContent.startsWith('Emergency stop. ')")
+        self.assertEqual(self.browser.js("document.getElementById('word').textContent"), "ALARM")
         self.browser.wait("document.querySelector('#over .warn')?.textContent.startsWith('The emergency stop is on')")
         self.assertTrue(self.browser.js("document.querySelector('#over .go').disabled"))
         self.world.put(STOP, True)
@@ -95,6 +101,37 @@ class ByTouch(Walk):
         self.browser.wait("ngc.state.homes === ''")
         self.assertFalse(self.browser.js("[...document.querySelectorAll('#tab-setup button')].some(one =>"
                                          " one.textContent === 'Home all' && !one.closest('section').hidden)"))
+
+
+class AtDoor(ByTouch):
+    """The machine has a door."""
+
+    mill = MILL.replace("probe = 6\n", "door = 4\nprobe = 6\n")
+    test_stop = test_way_back = test_no_home = None
+
+    def says(self, says: str, is_dead: bool) -> None:
+        """The large button says that, and is dead or isn't."""
+        self.browser.wait(f"{RUN}.join() === '{says},{str(is_dead).lower()}'")
+
+    def test_door(self) -> None:
+        """It opens amid a cut: the large button says that it is to be closed, and is dead. Once it is closed nothing
+        moves before that button is touched, which says `Go on`; then the job goes on, to its end."""
+        self.load(JOB)
+        self.cuts()
+        self.world.put(DOOR, True)
+        self.wait("s.door_open && s.held_by === 'door' && s.busy")
+        self.says("Close the door", is_dead=True)
+        self.wait("s.held_motors && s.word === 'Held'")
+        stood = self.world.place
+        self.assertTrue(1_200 < stood[0] < 4_000 and stood[1:] == (0, 0), stood)
+        self.world.put(DOOR, False)
+        self.wait("!s.door_open")
+        self.says("Go on", is_dead=False)
+        self.assertEqual((self.world.place, self.browser.js("ngc.state.held_by")), (stood, "door"))
+        self.press("Go on", "#run")
+        self.wait("s.held_by === '' && (s.word === 'Running' || s.finished)")
+        self.rests("s.finished && s.motors[0] === '4.000000'")
+        self.assertEqual(self.world.place, (4_000, 0, 0))
 
 
 if __name__ == "__main__":

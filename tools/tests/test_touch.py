@@ -222,6 +222,25 @@ class Tool(Core):
         self.do("touch tool 2 -6 anyway")
         self.assertEqual((self.face.asked, self.lengths()), ([], [10_000_000, 6_000_000]))
 
+    def test_on_the_work(self) -> None:
+        """On the work a length is the machine's Z less where the work has that coordinate, by the offsets in force and
+        whatever length is; nobody asks for a setter."""
+        self.begin()
+        self.do("tool 1 50", "G43 H1", "G10 L2 P1 Z-30", "G0 G53 Z-20.5")
+        self.assertEqual(self.do("touch tool 2 work 1.5", answers=("yes",))[:2], [
+            "machine Z is -20.5, and the work there is at -28.5", "tool 2 8"])
+        self.assertEqual(self.face.asked, ["tool 2 has no length yet, and gets 8 mm if it stands on the work now\n"
+                                           "yes sets it: "])
+        self.do("touch tool 2 work 0.1in")
+        self.assertEqual((self.face.asked, self.lengths()), ([], [50_000_000, 6_960_000]))
+        self.do("G92 Z5")  # Z was -40.5: the work's zero is 45.5 mm lower by that
+        self.do("touch tool 2 work 0", answers=("yes",))
+        self.assertEqual(self.face.asked, ["tool 2 has 6.96 mm, and would get 55 mm, 48.040 mm longer\nyes sets it: "])
+        self.assertEqual((self.lengths(), self.operator.stored().state.tool_length_nm),
+                         ([50_000_000, 55_000_000], 50_000_000))
+        self.do("undo")
+        self.assertEqual(self.lengths(), [50_000_000, 6_960_000])
+
     def test_no_gaps(self) -> None:
         """The slots below one that gets a length have 0 then, which is told; not where that isn't taken."""
         self.begin()
@@ -241,10 +260,13 @@ class Tool(Core):
         self.assertEqual(self.do("touch tool 1"), [
             "at which machine Z does the bare spindle reach the setter's top? touch tool 1 HEIGHT, or height_um of"
             " [setter] in the file of --machine"])
-        which = "touch tool N: which slot's tool stands on the setter? touch tool 3, or touch tool 3 HEIGHT"
-        for typed in ("touch", "touch 1", "touch tool", "touch tool x -1", "touch tool 1 2 3"):
+        which = ("touch tool N: which slot's tool stands on the setter? touch tool 3, or touch tool 3 HEIGHT;"
+                 " touch tool 3 work 0 where it stands on the work at Z0")
+        for typed in ("touch", "touch 1", "touch tool", "touch tool x -1", "touch tool 1 2 3", "touch tool 1 work",
+                      "touch tool 1 work 2 3"):
             self.assertEqual(self.do(typed), [which], typed)
-        self.assertEqual(self.do("touch tool 1 up"), ["not a number: up"])
+        for typed in ("touch tool 1 up", "touch tool 1 work up"):
+            self.assertEqual(self.do(typed), ["not a number: up"])
         self.assertIn("refused E3 OutOfRange", self.do("touch tool 1 5 anyway")[2])
         self.assertEqual(self.lengths(), [])
         self.do("touch tool 1 -5 anyway", "tool 1 6")
@@ -339,6 +361,11 @@ class ByProbe(Core):
         self.assertEqual(self.do("touch tool 1 probe"), [refused])
         self.do("jog Z+ 600 for 2.02", "touch tool 1 anyway")
         self.assertEqual(self.operator.stored().tools_nm, [6_000_000])
+        self.do("touch tool 1 work -8")  # the work is no setter: machine Z is -3
+        self.assertEqual(self.operator.stored().tools_nm, [5_000_000])
+        self.seek()
+        self.do("jog Z+ 600 for 1", "touch tool 1 work -8 probe")
+        self.assertEqual(self.operator.stored().tools_nm, [5_000_000])  # it moved since it was touched
 
 
 class Setter(InFolder):

@@ -1,5 +1,5 @@
-"""The walk by chance over the page, at seeds that are always the same, for a minute and a half, or for so many seconds
-as NGC_WALK_S says; and that it finds faults that are planted. Skipped where there is no Chromium."""
+"""The walk by chance over the page, at seeds that are always the same, for two minutes, or for so many seconds as
+NGC_WALK_S says; and that it finds faults that are planted. Skipped where there is no Chromium."""
 import os
 import signal
 import sys
@@ -19,7 +19,7 @@ from walk_late import Lateness
 from walk_page import Seen, Tabs
 from walk_rules import Judge, Truth, Wrong
 
-WALK_S = float(os.environ.get("NGC_WALK_S", "90"))
+WALK_S = float(os.environ.get("NGC_WALK_S", "120"))
 SHORTEN_S = 60.0
 """So long a walk that failed is shortened; its seed and all of its steps are told before that."""
 STEPS = 40

@@ -1,6 +1,8 @@
 """The lines of a stored program, by the place that `status` tells; shown to people, and nothing more."""
 import re
+from collections.abc import Iterable
 from dataclasses import dataclass
+from io import BytesIO
 
 from ngc_tools.shown import shown, shown_line
 
@@ -49,6 +51,13 @@ class Program:
     def named_at(self, place: int) -> str:
         """The line that begins at byte `place`, for people."""
         return self.named(self.number(place))
+
+    @property
+    def second(self) -> int:
+        """The number of the line behind the program's first one, from which on another beginning than `run` has a
+        meaning. A percent program begins behind its percent sign, a rest of a program with its first line."""
+        way, first = self.way
+        return max(first, percent_lines(BytesIO(self.text)) + 1 - way + first)
 
     @property
     def last(self) -> int:
@@ -102,7 +111,7 @@ def program_lines(text: bytes) -> list[bytes]:
     return [*lines, last] if last else lines
 
 
-def percent_lines(lines: list[bytes]) -> int:
+def percent_lines(lines: Iterable[bytes]) -> int:
     """How many lines a percent program has up to its first percent sign; 0 of any other program."""
     for number, line in enumerate(lines, 1):
         words = line.removesuffix(b"\n").removesuffix(b"\r").replace(b" ", b"").replace(b"\t", b"")

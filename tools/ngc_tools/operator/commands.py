@@ -183,8 +183,10 @@ COMMANDS = (
                     brings=Brings.HANDS_OUT, asked=Asked.GIVEN, needs=_FROM_PLACE),
     OperatorCommand("touch", lambda operator, typed: operator.touch.tool(typed.rest, typed.anyway),
                     (("touch tool N", "slot N has the length of the tool on the setter"),
+                     ("touch tool N work 0", "of the tool on the work, where that has Z0"),
                      ("probe", "behind zero and touch: where it was touched")),
-                    usage="touch tool N: which slot's tool stands on the setter? touch tool 3, or touch tool 3 HEIGHT",
+                    usage="touch tool N: which slot's tool stands on the setter? touch tool 3, or touch tool 3 HEIGHT;"
+                    " touch tool 3 work 0 where it stands on the work at Z0",
                     brings=Brings.ENTRY, asked=Asked.GIVEN, needs=_FROM_PLACE),
     OperatorCommand("probe", lambda operator, typed: operator.probing.do(typed.rest),
                     (("probe edge X+", "until the probe touches an edge; also outside,\n"

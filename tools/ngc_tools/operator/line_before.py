@@ -113,7 +113,7 @@ class LineSearch:
             raise NotFromLine(f"the lines before line {first} aren't stored any more: load the whole program first")
         if index >= program.count:
             raise NotFromLine(f"the program has {program.last} lines")
-        if index <= percent_lines(program_lines(program.text)):
+        if number < program.second:
             raise NotFromLine(f"line {number} is the program's first: run begins with it")
         return index
 

@@ -27,6 +27,9 @@ from ngc_tools.operator.units import NoLength
 Point = tuple[int, int, int]
 
 _AXES, _PROBE = "XYZ", "probe"
+_STANDS = re.compile(r"tool\s+(?P<slot>[0-9]{1,3})(?:\s+work\s+(?P<work>\S+)|\s+(?P<height>(?!work\b)\S+))?\s*",
+                     re.IGNORECASE)
+"""What stands on what: a slot, and a coordinate of the work, or the setter's height where that is typed."""
 _AXIS = re.compile(r"([xyz])\s*([-+.\d]*(?:mm|in)?)\s*", re.IGNORECASE)
 _HEIGHT = ("at which machine Z does the bare spindle reach the setter's top? touch tool {slot} HEIGHT, or height_um of"
            " [setter] in the file of --machine")
@@ -192,23 +195,26 @@ class Touch:
     def _tool(self, rest: str, anyway: bool) -> None:
         """Raises CannotTouch."""
         named, by_probe = _parted(rest)
-        words = named.lower().split()
-        if len(words) not in (2, 3) or words[0] != "tool" or not is_slot(words[1]):
+        match = _STANDS.fullmatch(named)
+        if match is None:
             raise CannotTouch(BY_WORD["touch"].usage)
-        slot, height = int(words[1]), self._height(words)
-        status, device = self._found()
+        slot, on_work, (status, device) = int(match["slot"]), match["work"], self._found()
+        height = self._work(on_work, device.state) if on_work else self._height(slot, match["height"])
         if status.does not in ("idle", "stopped"):
             raise CannotTouch(busy(self.session, status, "touch"))
-        if self.has_probe and not anyway and self.moves.touched_now() is None:
+        is_on_setter = self.has_probe and not on_work and not anyway
+        if is_on_setter and self.moves.touched_now() is None:
             raise CannotTouch(_NO_SETTER.format(slot=slot))
-        by_probe = by_probe or self.has_probe and not anyway
+        by_probe = by_probe or is_on_setter
         _, _, z = self._at("touch", status, device, by_probe)
         if not anyway and not (self.places.agree(status, f"touch {rest} {ANYWAY}") and self._is_in(slot, device)):
             return
         what = "the probe was touched at machine Z" if by_probe else "machine Z is"
-        self.session.face.say(f"{what} {trimmed(z)}, and the setter's top is at {trimmed(height)}", WHERE)
+        self.session.face.say(f"{what} {trimmed(z)}, and the work there is at {trimmed(height)}" if on_work else
+                              f"{what} {trimmed(z)}, and the setter's top is at {trimmed(height)}", WHERE)
         before = length_in(device, slot)
-        if not anyway and (question := _far_length(slot, z - height, before, by_probe)) and not self.agrees(question):
+        question = _far_length(slot, z - height, before, by_probe, bool(on_work))
+        if not anyway and question and not self.agrees(question):
             return
         self._set_length(slot, z - height, before, by_probe)
 
@@ -221,7 +227,7 @@ class Touch:
         nm = at - self.setter_nm
         self.session.face.say(f"the setter was touched at machine Z {trimmed(at)}, and its top is at"
                               f" {trimmed(self.setter_nm)}", WHERE)
-        if (question := _far_length(slot, nm, before, True)) and not self.agrees(question):
+        if (question := _far_length(slot, nm, before, True, False)) and not self.agrees(question):
             return False
         self._set_length(slot, nm, before, False)
         return length_in(self.device(), slot) == (nm,)
@@ -304,16 +310,17 @@ class Touch:
             self.session.face.say("nothing is set")
         return agrees
 
-    def _height(self, words: list[str]) -> int:
-        """The setter's height in nm. Raises CannotTouch."""
-        height = self.setter_nm
-        if len(words) == 3:
-            height = length_of(words[2])
-            if height is None:
-                raise CannotTouch(f"not a number: {words[2]}")
+    def _height(self, slot: int, typed: str | None) -> int:
+        """The setter's height in nm, which may be typed. Raises CannotTouch."""
+        height = self.setter_nm if typed is None else length_of(typed)
         if height is None:
-            raise CannotTouch(_HEIGHT.format(slot=words[1]))
+            raise CannotTouch(_HEIGHT.format(slot=slot) if typed is None else f"not a number: {typed}")
         return height
+
+    def _work(self, typed: str, state: State) -> int:
+        """The machine Z, in nm, at which a tool of length 0 would stand on the work where that has a Z coordinate, by
+        the offsets in force. Raises NoLength."""
+        return in_force_on(state).origin[2] + self.session.unit.length(typed, state.unit)
 
     def _is_in(self, slot: int, device: Device) -> bool:
         """Whether no other tool is in the spindle, as far as `ngc` knows, or a person says that it is right."""
@@ -348,9 +355,12 @@ def _far_zero(state: State, origin_nm: dict[int, int]) -> str:
     return f"the zero of {SYSTEMS[state.system - 1]} would move in {moves}: to machine {at} from {was}\nyes moves it: "
 
 
-def _far_length(slot: int, nm: int, before: tuple[int, ...], by_probe: bool) -> str:
-    """What is asked where a length would be far from the one before, or is the first one, of a setter that nothing says
-    was touched; nothing else."""
+def _far_length(slot: int, nm: int, before: tuple[int, ...], by_probe: bool, is_on_work: bool) -> str:
+    """What is asked where a length would be far from the one before, or is the first one, of a setter or a work that
+    nothing says was touched; nothing else."""
+    if not before and is_on_work:
+        return "" if by_probe else (f"tool {slot} has no length yet, and gets {trimmed(nm)} mm if it stands on the"
+                                    " work now\nyes sets it: ")
     if not before:
         return "" if by_probe else (f"tool {slot} has no length yet, and gets {trimmed(nm)} mm if it stands on the"
                                     " setter now\nyes sets it: ")

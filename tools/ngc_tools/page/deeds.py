@@ -271,8 +271,13 @@ def _turn(given: Given) -> None:
 
 
 def _touch_words(given: Given) -> str:
-    height = f" {given.number('height')}mm" if given.words.get("height") is not None else ""
-    return f"tool {given.count('slot', SLOTS)}{height}{_by_probe(given)}"
+    """A slot, and what its tool stands on: the work at a coordinate of it, or the setter, whose height may be said."""
+    words = ["tool", str(given.count("slot", SLOTS))]
+    if given.words.get("work") is not None:
+        words += ["work", f"{given.number('work')}mm"]
+    elif given.words.get("height") is not None:
+        words += [f"{given.number('height')}mm"]
+    return " ".join(words) + _by_probe(given)
 
 
 def _by_probe(given: Given) -> str:

@@ -153,7 +153,7 @@ class PageFace:
         with self._lock:
             self._count += 1
             self._answer = None
-            self.question = Question(self._count, shown_lines(text.strip()), kind)
+            self.question = Question(self._count, page_words(shown_lines(text.strip())), kind)
         self.publish()
         try:
             while not self._is_answered():

@@ -297,7 +297,7 @@ class Pictured:
         session, setter_nm = self.session, self.operator.touch.setter_nm
         return {"session": session.ident, "ended": session.ended, "over": session.over.is_set(),
                 "program": {"id": session.program_id, "name": session.name, "lines": self.program.count,
-                            "way": self.program.way},
+                            "way": self.program.way, "second": self.program.second},
                 "job": session.drawer.count + session.never_cut.count,
                 "finished": self.is_finished, "started": session.started,
                 "given_back": self.operator.choices.given, "not_given_back": self.operator.choices.lost,

@@ -1,5 +1,5 @@
-"""What the operator's core refuses and warns of, in the page's words: the core names what is typed at a console, and a
-page has buttons."""
+"""What the operator's core refuses, warns of and asks, in the page's words: the core names what is typed at a console,
+and a page has buttons."""
 import re
 
 _WORDS = tuple((re.compile(pattern), said) for pattern, said in (
@@ -40,6 +40,10 @@ _WORDS = tuple((re.compile(pattern), said) for pattern, said in (
      "Recover goes on with it"),
     (r"puts them back for recover\b", "puts them back for Recover"),
     (r"restore puts it back", "Restore puts it back"),
+    (r"; measure from Z within MM says it otherwise", "; Keep both heights says it otherwise"),
+    (r"is the program's first: run begins with it", "is the program's first: Run begins with it"),
+    (r"reference X Y Z, in mm: the player counts (.*); player stands for the number of an axis that is homed \(.*\)$",
+     r"Write where each axis is that isn't homed, in mm: the player counts \1"),
     (r"run goes on", "Continue goes on"),
     (r"\bngc isn't told\b", "it isn't stored"),
 ))

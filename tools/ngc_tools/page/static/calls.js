@@ -9,6 +9,7 @@ const SAYS = { granted: 'This browser tells you of stops, tool changes and the e
 export class Calls {
   constructor() {
     this.ran = false;        // a job was seen to run, and nobody was called since
+    this.wanted = true;      // somebody is wanted, as the last state said
     this.lock = null;
     this.ask = el('button', { class: 'wide', onclick: () => this.allow() });
     this.why = el('p', { class: 'hint' });
@@ -35,7 +36,9 @@ export class Calls {
     const isWanted = s.tone === 'ask' || s.tone === 'fail' || s.finished && !s.busy;
     const said = s.finished ? [say('The job is done'), s.program.name]
       : [say(s.word), s.detail === s.message ? s.message : say(s.detail)];
-    if (this.ran && isWanted) this.tell(...said);
+    // a job may come to its first stop before any state says that it runs
+    if (isWanted && !this.wanted && (this.ran || s.moving && !s.does_move)) this.tell(...said);
+    this.wanted = isWanted;
     this.ran = s.tone === 'run' && !s.does_move || this.ran && !isWanted && s.busy;
   }
 

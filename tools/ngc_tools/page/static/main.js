@@ -136,9 +136,9 @@ function showControls(s) {
   $('run').onclick = does;
 }
 
-// A line that was touched may be the one to go on from.
+// A line that was touched may be the one to go on from; with the first one Run begins.
 function showFrom(s) {
-  $('from').hidden = !program.chosen || !s.yours;
+  $('from').hidden = !program.chosen || program.chosen < s.program.second || !s.yours;
   $('from').disabled = !may(s, 'from') || !$('over').hidden;
   text($('from'), `From line ${program.chosen}\u2026`);
 }

@@ -38,6 +38,10 @@ export class Setup {
     this.length = el('p', { class: 'hint' });
     this.setter = el('label', { class: 'entry-row' }, 'Setter at machine Z', this.height, unitName());
     this.touch = button('', () => this.touchOff());
+    this.top = lengthEntry('0', 'Work coordinate of what the tool stands on', changed);
+    this.workRow = el('label', { class: 'entry-row' }, 'Or the work, at Z', this.top, unitName());
+    this.workLength = el('p', { class: 'hint' });
+    this.onWork = button('', () => asks('touch', { slot: this.slot, work: typed(this.top) }));
     this.measure = button('', () => asks('measure', {}));
     this.down = lengthEntry('', 'Machine Z from which the setter is sought', changed);
     this.deep = lengthEntry('', 'How far at most, from there', changed);
@@ -53,7 +57,7 @@ export class Setup {
     this.table = button('Offsets\u2026', () => this.offsets.open());
     this.inches = toggle('Inches, read and typed', () => choose(!unit.isInch));
     this.loss = toggle('Job goes on if this page is lost', () => asks('loss', { goes: !isChosen(this.loss) }));
-    for (const one of [this.touch, this.undo, this.table, this.work, this.measure, this.keep]) one.className = 'wide';
+    for (const one of [this.touch, this.onWork, this.undo, this.table, this.work, this.measure, this.keep]) one.className = 'wide';
     this.why = el('p', { class: 'hint why' });
     this.parts = {
       home: part('Home', this.homed, el('div', { class: 'four' }, ...this.home)),
@@ -65,7 +69,7 @@ export class Setup {
         el('label', { class: 'entry-row' }, 'At most', this.within, unitName()),
         el('div', { class: 'five' }, ...this.seeks), this.work),
       tool: part('Touch off a tool', null, this.setter, this.length, this.touch,
-        this.measure, this.from, this.measures),
+        this.workRow, this.workLength, this.onWork, this.measure, this.from, this.measures),
       switches: part('Switches', null, ...this.switches.box),
       macros: part('Macros', null, ...this.switches.macros),
       page: part('This page', null, this.loss, this.inches, languageChoice(), ...calls.box),
@@ -138,6 +142,20 @@ export class Setup {
     means(this.touch, this.touch.textContent);
     this.showMeasure(s);
     this.showLength(s);
+    this.showOnWork(s);
+  }
+
+  // The length that a tool would get which stands on the work, at a coordinate of it.
+  showOnWork(s) {
+    const top = typedNanometres(this.top.value), at = nanometres(s.at[2]), zero = nanometres(s.origin[2]);
+    for (const one of [this.workRow, this.workLength, this.onWork]) one.hidden = !s.slot;
+    this.top.disabled = !may(s, 'touch');
+    this.top.classList.toggle('wrong', top === null);
+    this.onWork.disabled = !may(s, 'touch') || top === null;
+    text(this.onWork, `Tool ${s.slot} stands on the work`);
+    means(this.onWork, this.onWork.textContent);
+    text(this.workLength, top === null ? 'Which Z of the work does it stand on?'
+      : `Length ${shown(at - zero - top)} ${unit.name}: machine Z is ${shown(at)}, the work there at ${shown(zero + top)}`);
   }
 
   // The setter is gone to by itself, where the machine's file says where it is.
