@@ -2,11 +2,12 @@
 use Rattle.std.proofs.Common.{◌≡◌, ℕ, List, Option, None, Some, Result, sym, ◌∙◌, subst, take, length, arith}
 use Rattle.std.proofs.lemmas.List.{take_all}
 use Rattle.std.specs.Io.KnownBytes.{Appends, Keeps}
-use Rattle.ng_dialogue.specs.Telling.{Sends}
+use Rattle.ng_streams.specs.Writing.{WritesOrBeginning}
 use Rattle.ng_dialogue.specs.declared.telling.OutputError.{OutputError}
 
-pub sends_as : {T : Type 0} (a b : Option (List ℕ)) (line text : List ℕ) (r : Result T OutputError) → line ≡ text → Sends a b line r → Sends a b text r
-sends_as a b line text r e h = subst (λ (l : List ℕ). Sends a b l r) e h
+pub sends_as : {T : Type 0} (a b : Option (List ℕ)) (line text : List ℕ) (r : Result T OutputError) → line ≡ text
+    → WritesOrBeginning a b line r → WritesOrBeginning a b text r
+sends_as a b line text r e h = subst (λ (l : List ℕ). WritesOrBeginning a b l r) e h
 
 -- a flush doesn't change what was written
 pub appends_still : (a b c : Option (List ℕ)) (line : List ℕ) → Appends a b line → Keeps b c → Appends a c line

@@ -1,4 +1,3 @@
 pub mod Waiting
 pub mod Reading
 pub mod Hearing
-pub mod Telling

@@ -1,10 +1,11 @@
 //! Writing the lines of replies. An operator waits for each of them, so nothing is buffered.
 ghost use Rattle.ng_commands.specs.Replies.{refused_line, reply_line, tick_line, ticks_line};
-ghost use Rattle.ng_dialogue.specs.Telling.{Sends};
+ghost use Rattle.ng_streams.specs.Writing.{WritesOrBeginning};
 
 use ng_commands::{push_refusal, push_reply, push_tick, push_ticks};
 use ng_num::Fault;
 use ng_session::Reply;
+use ng_streams::write_out;
 use std::alloc::Allocator;
 use std::io::Write;
 
@@ -17,31 +18,16 @@ pub enum OutputError {
     Memory,
 }
 
-/// Writes all bytes.
-fn write_out<W: Write>(writer: &mut W, bytes: &[u8]) -> Result<(), OutputError>
-    ensures { Sends (W.contents writer.old) (W.contents writer.new) bytes.now result }
-{
-    let mut written: usize = 0;
-    while written < bytes.len() {
-        match writer.write(&bytes[written..]) {
-            Ok(0) => return Err(OutputError::Writer),
-            Ok(n) => written += n,
-            Err(_) => return Err(OutputError::Writer),
-        }
-    }
-    Ok(())
-}
-
-/// Writes a line, and flushes it.
+/// Writes a line, and flushes it. After `OutputError::Writer` a beginning of it has been written.
 fn send<W: Write>(writer: &mut W, line: &[u8]) -> Result<(), OutputError>
-    ensures { Sends (W.contents writer.old) (W.contents writer.new) line.now result }
+    ensures { WritesOrBeginning (W.contents writer.old) (W.contents writer.new) line.now result }
 {
     match write_out(writer, line) {
         Ok(()) => match writer.flush() {
             Ok(()) => Ok(()),
             Err(_) => Err(OutputError::Writer),
         },
-        Err(fault) => Err(fault),
+        Err(_) => Err(OutputError::Writer),
     }
 }
 
@@ -51,7 +37,7 @@ pub fn tell_reply<W: Write, A: Allocator + Copy + Drop>(
     writer: &mut W,
     reply: &Reply,
 ) -> Result<(), OutputError>
-    ensures { Sends (W.contents writer.old) (W.contents writer.new) (reply_line reply.now) result }
+    ensures { WritesOrBeginning (W.contents writer.old) (W.contents writer.new) (reply_line reply.now) result }
 {
     let mut line = Vec::new(alloc);
     match push_reply(&mut line, reply) {
@@ -66,7 +52,7 @@ pub fn tell_refusal<W: Write, A: Allocator + Copy + Drop>(
     writer: &mut W,
     fault: Fault,
 ) -> Result<(), OutputError>
-    ensures { Sends (W.contents writer.old) (W.contents writer.new) (refused_line fault) result }
+    ensures { WritesOrBeginning (W.contents writer.old) (W.contents writer.new) (refused_line fault) result }
 {
     let mut line = Vec::new(alloc);
     match push_refusal(&mut line, fault) {
@@ -82,7 +68,7 @@ pub fn tell_tick<W: Write, A: Allocator + Copy + Drop>(
     writer: &mut W,
     reply: &Reply,
 ) -> Result<(), OutputError>
-    ensures { Sends (W.contents writer.old) (W.contents writer.new) (tick_line reply.now) result }
+    ensures { WritesOrBeginning (W.contents writer.old) (W.contents writer.new) (tick_line reply.now) result }
 {
     let mut line = Vec::new(alloc);
     match push_tick(&mut line, reply) {
@@ -98,7 +84,7 @@ pub fn tell_ticks<W: Write, A: Allocator + Copy + Drop>(
     writer: &mut W,
     count: u32,
 ) -> Result<(), OutputError>
-    ensures { Sends (W.contents writer.old) (W.contents writer.new) (ticks_line count) result }
+    ensures { WritesOrBeginning (W.contents writer.old) (W.contents writer.new) (ticks_line count) result }
 {
     let mut line = Vec::new(alloc);
     match push_ticks(&mut line, count) {

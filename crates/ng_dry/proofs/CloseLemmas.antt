@@ -5,7 +5,7 @@ use Rattle.std.specs.Str.Lines.{lines}
 use Rattle.std.specs.Io.KnownBytes.{Appends, Consumes, IsAtEnd}
 use Rattle.ng_block.specs.Program.{TermsModel}
 use Rattle.ng_dry.specs.Dry.{Output, onto, DryRunSpec, output_from}
-use Rattle.ng_dry.specs.Flush.{Wrote}
+use Rattle.ng_streams.specs.Waiting.{Wrote}
 use Rattle.ng_dry.specs.Private.Parts.{DryRunModel, begun, outcome_by, due, rest_of, Goes, EndsRun, Breaks}
 use Rattle.ng_text.specs.Split.{HasNoNewline}
 use Rattle.ng_dry.specs.declared.ending.Ended.{Ended}

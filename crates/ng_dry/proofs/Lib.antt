@@ -1,5 +1,4 @@
 pub mod OutcomeLemmas
 pub mod RunLemmas
 pub mod RunPartLemmas
-pub mod FlushLemmas
 pub mod CloseLemmas

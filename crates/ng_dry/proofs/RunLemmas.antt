@@ -7,7 +7,7 @@ use Rattle.ng_block.specs.Effects.{Done}
 use Rattle.ng_block.specs.Program.{is_end, executed_after}
 use Rattle.ng_text.specs.Percent.{kind_before}
 use Rattle.ng_dry.specs.Dry.{Output, onto, after_line, commands_text, refused, DryRunSpec}
-use Rattle.ng_dry.specs.Flush.{FlushSpec}
+use Rattle.ng_streams.specs.Waiting.{FlushSpec}
 use Rattle.ng_dry.specs.Private.Parts.{DryRunModel, outcome_by, due, Goes, Breaks}
 use Rattle.ng_dry.specs.declared.ending.Ended.{Ended}
 use Rattle.ng_dry.specs.declared.ending.Ended.TheVariants as ended
@@ -69,7 +69,7 @@ due-begins here start line done more same is = due-begins_at (is_end done.stop) 
 
 -- what waits was written or still waits, and then the run ended
 pub DryRunSpec-drained : {T : Type 0} (a b c : Option (List ℕ)) (waiting left : List ℕ) (end : Ended) (x : T)
-    (r : Result Ended DryFault) → FlushSpec a b waiting left (Ok x)
+    (r : Result Ended DryFault) → FlushSpec {E = DryFault} a b waiting left (Ok x)
     → DryRunSpec b c (record { text = left; ended = end }) r
     → DryRunSpec a c (record { text = waiting; ended = end }) r
 DryRunSpec-drained a b c waiting left end x (Ok e) w f = (subst (Appends a c) (sym w.2) (Appends-trans a b c w.0 left w.1 f.0), f.1)
@@ -82,7 +82,7 @@ DryRunSpec-drained a b c waiting left end x (Err fault) w f = (
 
 -- what waits was written or still waits
 pub Goes-drained : {X T : Type 0} (a b : Option (List ℕ)) (f : X → Output) (waiting left : List ℕ) (o : X → Output)
-    (x : T) → ((more : X) → f more ≡ onto waiting (o more)) → FlushSpec a b waiting left (Ok x)
+    (x : T) → ((more : X) → f more ≡ onto waiting (o more)) → FlushSpec {E = DryFault} a b waiting left (Ok x)
     → Goes a b f (λ more. onto left (o more))
 Goes-drained a b f waiting left o x e w = record {
   text = w.0;

@@ -1,3 +1,2 @@
 pub mod Dry
-pub mod Flush
 pub mod Private

@@ -3,8 +3,7 @@ ghost use Rattle.std.specs.Prelude.{◌≡◌, ◌++◌, ◌∷◌, [], map, OnO
 ghost use Rattle.std.specs.Fmt.{decimal};
 ghost use Rattle.ng_canon.specs.Printing.{StaysWithin, canonical, canonical_text, command_text, numeric};
 ghost use Rattle.ng_dry.specs.Dry.{commands_text, refusal_text};
-ghost use Rattle.ng_dry.specs.Flush.{Wrote, FlushSpec};
-ghost use Rattle.ng_dry.specs.Private.Parts.{WritesOrBeginning};
+ghost use Rattle.ng_streams.specs.Waiting.{Wrote, FlushSpec};
 ghost use Rattle.ng_block.specs.Effects.{commands_by};
 ghost use Rattle.ng_block.specs.Path.{pace_command};
 ghost use Rattle.ng_block.specs.Plan.{feed_commands};
@@ -19,21 +18,6 @@ use ng_num::{Fault, print_whole};
 use std::alloc::{AllocError, Allocator};
 use std::io::Write;
 
-/// Writes all bytes. After a fault a beginning of them has been written.
-pub(crate) fn write_out<W: Write>(writer: &mut W, bytes: &[u8]) -> Result<(), DryFault>
-    ensures { WritesOrBeginning (W.contents writer.old) (W.contents writer.new) bytes.now result }
-{
-    let mut written: usize = 0;
-    while written < bytes.len() {
-        match writer.write(&bytes[written..]) {
-            Ok(0) => return Err(DryFault::Writer),
-            Ok(n) => written += n,
-            Err(_) => return Err(DryFault::Writer),
-        }
-    }
-    Ok(())
-}
-
 /// The text that waits is written once it has this many bytes.
 const FULL: usize = 8192;
 
@@ -42,8 +26,7 @@ const FULL: usize = 8192;
 /// text.
 pub(crate) const CAPACITY: usize = FULL + 512;
 
-/// Writes the text that waits. It isn't inlined, since few lines come here.
-#[inline(never)]
+/// Writes the text that waits. After `DryFault::Writer` a beginning of it has been written.
 pub(crate) fn flush<W: Write, A: Allocator + Copy + Drop>(
     text: &mut Vec<u8, A>,
     writer: &mut W,
@@ -51,16 +34,13 @@ pub(crate) fn flush<W: Write, A: Allocator + Copy + Drop>(
     ensures moves { FlushSpec (W.contents writer.old) (W.contents writer.new) text.old.items text.new.items result }
     ensures empty { OnOk result (text.new.items ≡ []) }
 {
-    match write_out(writer, text.as_slice()) {
-        Ok(()) => {
-            text.clear();
-            Ok(())
-        }
-        Err(fault) => Err(fault),
+    match ng_streams::flush(text, writer) {
+        Ok(()) => Ok(()),
+        Err(_) => Err(DryFault::Writer),
     }
 }
 
-/// Writes the text that waits if it is long.
+/// Writes the text that waits if it is long. After `DryFault::Writer` a beginning of it has been written.
 #[inline]
 fn relieve<W: Write, A: Allocator + Copy + Drop>(
     text: &mut Vec<u8, A>,
@@ -68,10 +48,10 @@ fn relieve<W: Write, A: Allocator + Copy + Drop>(
 ) -> Result<(), DryFault>
     ensures { FlushSpec (W.contents writer.old) (W.contents writer.new) text.old.items text.new.items result }
 {
-    if text.len() < FULL {
-        return Ok(());
+    match ng_streams::relieve(text, writer, FULL) {
+        Ok(()) => Ok(()),
+        Err(_) => Err(DryFault::Writer),
     }
-    flush(text, writer)
 }
 
 /// Writes the text that waits before a run is aborted. If the writer fails, that fault is returned instead.

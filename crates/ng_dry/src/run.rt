@@ -2,7 +2,7 @@
 ghost use Rattle.std.specs.Prelude.{◌≡◌, ◌+◌, ◌<◌, ◌≤◌, ◌^◌, ◌∷◌, [], Ok, Err, IfOk};
 ghost use Rattle.ng_block.specs.Program.{is_end};
 ghost use Rattle.ng_dry.specs.Dry.{DryRunSpec, onto, refused};
-ghost use Rattle.ng_dry.specs.Flush.{Wrote};
+ghost use Rattle.ng_streams.specs.Waiting.{Wrote};
 ghost use Rattle.ng_dry.specs.Private.Parts.{due, begun, LineStepSpec};
 
 use crate::ending::{DryFault, Ended};

@@ -2,7 +2,6 @@ mod StoragePromiseLemmas
 pub mod SectorLemmas
 pub mod ReadingLemmas
 pub mod RewriteLemmas
-pub mod ByteAppendLemmas
 pub mod ZeroAppendLemmas
 mod StopLemmas
 pub mod HandOutLemmas

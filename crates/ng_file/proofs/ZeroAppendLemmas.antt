@@ -1,12 +1,18 @@
 -- Lengthening a file with zeros.
-use Rattle.std.proofs.Common.{◌≡◌, ◌∙◌, ℕ, ◌+◌, ◌≤◌, List, Option, Result, Ok, Err, OnErr, ap, sym, subst, replicate, take, min, arith}
+use Rattle.std.proofs.Common.{◌≡◌, ◌∙◌, ℕ, ◌+◌, ◌*◌, ◌≤◌, List, ◌++◌, Option, Result, Ok, Err, OnErr, ap, sym, subst, replicate, take, min, arith}
 use Rattle.std.proofs.lemmas.List.{length-replicate, replicate-append-replicate, take-replicate, take_min}
 use Rattle.std.specs.Io.KnownBytes.{Appends}
 use Rattle.ng_file.specs.Bytes.{AppendsBeginning}
-use Rattle.ng_file.proofs.ByteAppendLemmas.{Appends-trans}
+use Rattle.ng_streams.proofs.WrittenBytesLemmas.{Appends-trans}
 
 abbrev zeros : ℕ → List ℕ
 zeros n = replicate n 0
+
+-- one more sector of zeros
+pub zeros_more : (k : ℕ) → zeros (512 * k) ++ zeros 512 ≡ zeros (512 * (k + 1))
+zeros_more k =
+    let sum : 512 * k + 512 ≡ 512 * (k + 1) = omega arith in
+    replicate-append-replicate (512 * k) 512 0 ∙ ap zeros sum
 
 -- one more piece
 pub zeros-joined : (old between new : Option (List ℕ)) (n m : ℕ) → Appends old between (zeros n)

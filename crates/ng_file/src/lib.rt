@@ -27,7 +27,6 @@ mod rig;
 mod same_file;
 mod sectors;
 mod storage;
-mod writing;
 
 pub use copying::copied;
 pub use device::{NoDevice, is_pipe, make_device, open_device, open_device_to_read};

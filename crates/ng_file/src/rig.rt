@@ -1,10 +1,10 @@
 //! A device whose sectors are those of a file.
 use crate::sectors::Sectors;
 use crate::storage::Storage;
-use crate::writing::write_out;
 use ng_canon::Item;
 use ng_lines::push_item;
 use ng_rig::{Failed, Rig};
+use ng_streams::write_out;
 use std::alloc::Allocator;
 use std::io;
 use std::io::{ErrorKind, Write};

@@ -7,7 +7,7 @@ use Rattle.ng_rig.specs.Rig.{Device}
 use Rattle.ng_commands.specs.Replies.{refused_line, reply_line, ticks_line}
 use Rattle.ng_session.specs.declared.event.Event.{Event}
 use Rattle.ng_session.specs.declared.reply.Reply.{Reply}
-use Rattle.ng_dialogue.specs.Telling.{Sends}
+use Rattle.ng_streams.specs.Writing.{WritesOrBeginning}
 use Rattle.ng_dialogue.specs.declared.order.Order.TheVariants.{Give, Ticks, Refuse}
 use Rattle.ng_dialogue.specs.declared.telling.OutputError.{OutputError}
 use Rattle.ng_core.specs.Model.{ControllerModel}
@@ -18,7 +18,8 @@ use Rattle.ng_core.proofs.ExchangeLemmas.{exchanges_one}
 
 -- the lines before the last are written; then the last is written, or it is broken off
 told_after : {A T : Type 0} (x : Exchange A) (result : Result T OutputError) (old mid new : Option (List ℕ))
-    → IsAnswered x → Appends old mid (earlier_lines x.order x.replies) → Sends mid new (last_line x.order x.replies) result → Told x result old new
+    → IsAnswered x → Appends old mid (earlier_lines x.order x.replies)
+    → WritesOrBeginning mid new (last_line x.order x.replies) result → Told x result old new
 told_after x (Ok done) old mid new answered p q = (answered, Appends-trans old mid new (earlier_lines x.order x.replies) (last_line x.order x.replies) p q)
 told_after x (Err fault) old mid new answered p q =
     let lines = earlier_lines x.order x.replies in
@@ -27,16 +28,17 @@ told_after x (Err fault) old mid new answered p q =
 
 pub answers_event : {A R T : Type 0} (seen : R → Device) (event : Event A) (r : Reply)
     (result : Result T OutputError) (old new : Option (List ℕ)) (before after : ControllerModel R)
-    → IsAnsweredEvent seen event r before after → Sends old new (reply_line r) result → AnswerSpec seen (Give event) result old new before after
+    → IsAnsweredEvent seen event r before after → WritesOrBeginning old new (reply_line r) result
+    → AnswerSpec seen (Give event) result old new before after
 answers_event {A} seen event r result old new before after t p = record {
   replies = r ∷ [];
   given = exchanges_one seen event r before after t;
   tells = told_after {A = A} (record { order = Give event; replies = r ∷ [] }) result old old new refl (Appends-nil old)
-      (subst (λ (l : List ℕ). Sends old new l result) (sym (append-nil (reply_line r))) p);
+      (subst (λ (l : List ℕ). WritesOrBeginning old new l result) (sym (append-nil (reply_line r))) p);
 }
 
 pub answers_refusal : {A R T : Type 0} (seen : R → Device) (fault : Fault) (result : Result T OutputError) (old new : Option (List ℕ)) (c : ControllerModel R)
-    → Sends old new (refused_line fault) result → AnswerSpec {A = A} seen (Refuse fault) result old new c c
+    → WritesOrBeginning old new (refused_line fault) result → AnswerSpec {A = A} seen (Refuse fault) result old new c c
 answers_refusal {A} seen fault result old new c p = record {
   replies = [];
   given = refl;
@@ -46,13 +48,13 @@ answers_refusal {A} seen fault result old new c p = record {
 -- after the lines of ticks, how many were made
 pub answers_ticks : {A R T : Type 0} (seen : R → Device) (most made : ℕ) (result : Result T OutputError)
     (old mid new : Option (List ℕ)) (before after : ControllerModel R)
-    → TickOnSpec A seen most (Ok made) old mid before after → Sends mid new (ticks_line made) result
+    → TickOnSpec A seen most (Ok made) old mid before after → WritesOrBeginning mid new (ticks_line made) result
     → AnswerSpec {A = A} seen (Ticks most) result old new before after
 answers_ticks {A} seen most made result old mid new before after p q = record {
   replies = p.replies;
   given = p.given;
   tells = told_after {A = A} (record { order = Ticks most; replies = p.replies }) result old mid new p.makes.0 p.makes.2
-      (subst (λ (n : ℕ). Sends mid new (ticks_line n) result) p.makes.1 q);
+      (subst (λ (n : ℕ). WritesOrBeginning mid new (ticks_line n) result) p.makes.1 q);
 }
 
 pub answers_ticks_broken : {A R T : Type 0} (seen : R → Device) (most : ℕ) (fault told : OutputError)

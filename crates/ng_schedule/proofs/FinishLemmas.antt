@@ -9,7 +9,7 @@ use Rattle.ng_pace.specs.declared.limits.Limits.{Limits}
 use Rattle.ng_pace.specs.Calls.{IsEmpty}
 use Rattle.ng_pace.specs.Stream.{Timed as Waited, all_items, items_of, items_waiting}
 use Rattle.ng_pace.specs.declared.line.Line.{Line}
-use Rattle.ng_schedule.specs.Flush.{FlushSpec, Wrote}
+use Rattle.ng_streams.specs.Waiting.{FlushSpec, Wrote}
 use Rattle.ng_schedule.specs.Schedule.{ArePaced, BeginsNoLine, ScheduleSpec, Timed, end_text, lines_of, not_a_line_text}
 use Rattle.ng_schedule.specs.Schedule.{capacity, span, timed_text, too_late_text}
 use Rattle.ng_schedule.specs.Private.Parts.{HasGiven, IsAt, IsCut, IsTooLate, IsUnderWay, item_lines}
@@ -38,7 +38,7 @@ AllWritten shown timed last old new = (written : List ℕ) × Appends old new wr
 
 all_written : {percent : ℕ} (shown : Shown) (start w v : Option (List ℕ)) (timed : List Timed)
     (text last left : List ℕ) → HasGiven percent shown start w timed text
-    → FlushSpec {T = Unit {0}} w v (text ++ last) left (Ok tt) → left ≡ [] → AllWritten shown timed last start v
+    → FlushSpec {T = Unit {0}} {E = ScheduleFault} w v (text ++ last) left (Ok tt) → left ≡ [] → AllWritten shown timed last start v
 all_written shown start w v timed text last left given flushed none = (
   given.out ++ flushed.0,
   Appends-trans start w v given.out flushed.0 given.written flushed.1,
@@ -77,7 +77,7 @@ module _ {Z : Type 0} (limits : Limits) (start w v : Option (List ℕ)) (s : Sch
 
   -- the next line would be over too late
   pub late_done : (bytes more left : List ℕ) → IsTooLate limits start w bytes s
-      → FlushSpec {T = Unit {0}} w v (s.text.items ++ too_late_text s.number) left (Ok tt) → left ≡ []
+      → FlushSpec {T = Unit {0}} {E = ScheduleFault} w v (s.text.items ++ too_late_text s.number) left (Ok tt) → left ≡ []
       → ScheduleSpec limits s.shown (bytes ++ more) start v (Ok (TooLate s.number))
   late_done bytes more left late flushed none =
       let all = all_written s.shown start w v late.timed s.text.items (too_late_text s.number) left late.given flushed none in (
@@ -115,7 +115,7 @@ module _ {Z : Type 0} (limits : Limits) (start w v : Option (List ℕ)) (s : Sch
 
   -- all lines are given
   pub whole_done : (bytes left : List ℕ) → IsAt true limits start w bytes [] s → all_items s.stream ≡ []
-      → FlushSpec {T = Unit {0}} w v (s.text.items ++ end_text s.shown s.due_ns) left (Ok tt) → left ≡ []
+      → FlushSpec {T = Unit {0}} {E = ScheduleFault} w v (s.text.items ++ end_text s.shown s.due_ns) left (Ok tt) → left ≡ []
       → ScheduleSpec limits s.shown bytes start v (Ok Done)
   whole_done bytes left here none flushed empty =
       let all = all_written s.shown start w v here.timed s.text.items (end_text s.shown s.due_ns) left here.given flushed empty in (
@@ -143,7 +143,7 @@ module _ {Z : Type 0} (limits : Limits) (start w v : Option (List ℕ)) (s : Sch
 
   -- all lines before another are given
   pub other_done : (bytes rest left : List ℕ) → IsAt true limits start w bytes [] s → all_items s.stream ≡ [] → rest ≢ [] → BeginsNoLine rest
-      → FlushSpec {T = Unit {0}} w v (s.text.items ++ not_a_line_text s.number) left (Ok tt) → left ≡ []
+      → FlushSpec {T = Unit {0}} {E = ScheduleFault} w v (s.text.items ++ not_a_line_text s.number) left (Ok tt) → left ≡ []
       → ScheduleSpec limits s.shown (bytes ++ rest) start v (Ok (NotALine s.number))
   other_done bytes rest left here none some other flushed empty =
       let all = all_written s.shown start w v here.timed s.text.items (not_a_line_text s.number) left here.given flushed empty in (

@@ -1,4 +1,3 @@
-pub mod FlushLemmas
 pub mod StreamLemmas
 pub mod ScheduleRunLemmas
 pub mod EndedLineLemmas

@@ -8,12 +8,13 @@ use Rattle.ng_pace.specs.Due.{due_ns, least_ns}
 use Rattle.ng_pace.specs.declared.stepping.Given.{Given}
 use Rattle.ng_pace.specs.Stream.{all_items}
 use Rattle.ng_pace.specs.Calls.{IsPut, IsEnded, IsFlowGiven}
-use Rattle.ng_schedule.specs.Flush.{FlushSpec, Wrote}
+use Rattle.ng_streams.specs.Waiting.{FlushSpec, Wrote}
 use Rattle.ng_schedule.specs.Schedule.{AreNeverSooner, Timed, due_text, lines_of, span, timed_text}
 use Rattle.ng_schedule.specs.Private.Parts.{HasGiven, HaltSpec, IsAt, IsCut, IsFull, IsStreamed, IsTooLate, IsUnderWay, item_lines}
 use Rattle.ng_schedule.specs.declared.ending.Halt.{Halt}
 use Rattle.ng_schedule.specs.declared.ending.Halt.TheVariants as halt
 use Rattle.ng_schedule.specs.declared.ending.Shown.{Shown}
+use Rattle.ng_schedule.specs.declared.ending.ScheduleFault.{ScheduleFault}
 use Rattle.ng_schedule.specs.declared.giving.Schedule.{Schedule}
 use Rattle.ng_schedule.proofs.StreamLemmas.{are_paced, ends, gives_out, puts, tells}
 use Rattle.ng_text.proofs.KnownBytesLemmas.{Appends-trans}
@@ -73,7 +74,7 @@ pub gives : {Z : Type 0} {ended : Bool} (limits : Limits) (start w v : Option (L
     → (IsFalse ended → IsFull s) → IsFlowGiven s.stream t.stream (2 ^ 64 - 1) g
     → due_ns s.stream.motion.percent g.line.item ≤ g.ns → t.shown ≡ s.shown → t.due_ns ≡ s.due_ns + g.ns
     → t.number ≡ s.number + 1
-    → FlushSpec {T = Unit {0}} w v (s.text.items ++ due_text s.shown s.due_ns g.line.item) t.text.items (Ok tt) → IsAt ended limits start v bytes partial t
+    → FlushSpec {T = Unit {0}} {E = ScheduleFault} w v (s.text.items ++ due_text s.shown s.due_ns g.line.item) t.text.items (Ok tt) → IsAt ended limits start v bytes partial t
 gives {Z} {ended} limits start w v bytes partial s t g here full h least shown_is due_is number_is flushed =
     let item = g.line.item in
     let ns = g.ns in

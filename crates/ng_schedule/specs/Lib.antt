@@ -1,3 +1,2 @@
 pub mod Schedule
-pub mod Flush
 pub mod Private

@@ -1,7 +1,7 @@
 //! The end of a run.
 ghost use Rattle.std.specs.Prelude.{◌≡◌, ◌≢◌, ◌++◌, [], IfErr, List, OnOk, Option, ℕ};
 ghost use Rattle.ng_pace.specs.declared.limits.Limits.{Limits};
-ghost use Rattle.ng_schedule.specs.Flush.{FlushSpec};
+ghost use Rattle.ng_streams.specs.Waiting.{FlushSpec};
 ghost use Rattle.ng_schedule.specs.Schedule.{BeginsNoLine, ScheduleSpec, end_text};
 ghost use Rattle.ng_text.specs.Split.{HasNoNewline};
 ghost use Rattle.ng_schedule.specs.Private.Parts.{HaltSpec, IsUnderWay, StopSpec};

@@ -4,7 +4,7 @@ ghost use Rattle.ng_canon.specs.declared.item.Item.{Item};
 ghost use Rattle.ng_lines.specs.Lines.{IsItem, item_line};
 ghost use Rattle.ng_pace.specs.Stream.{all_items};
 ghost use Rattle.ng_pace.specs.declared.limits.Limits.{Limits};
-ghost use Rattle.ng_schedule.specs.Flush.{FlushSpec};
+ghost use Rattle.ng_streams.specs.Waiting.{FlushSpec};
 ghost use Rattle.ng_schedule.specs.Schedule.{due_text};
 ghost use Rattle.ng_schedule.specs.Private.Parts.{GiveSpec, IsNotFull, IsAt, IsFull, IsUnderWay};
 

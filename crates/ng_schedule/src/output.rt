@@ -2,7 +2,7 @@
 ghost use Rattle.std.specs.Prelude.{◌≡◌, ◌≢◌, ◌++◌, ◌∷◌, [], IfErr, OnOk, OnErr, codes};
 ghost use Rattle.std.specs.Fmt.{decimal};
 ghost use Rattle.ng_lines.specs.Lines.{item_line};
-ghost use Rattle.ng_schedule.specs.Flush.{FlushSpec, WritesOrBeginning};
+ghost use Rattle.ng_streams.specs.Waiting.{FlushSpec};
 
 use crate::ending::ScheduleFault;
 use ng_canon::Item;
@@ -11,30 +11,13 @@ use ng_num::print_whole;
 use std::alloc::{AllocError, Allocator};
 use std::io::Write;
 
-/// Writes all bytes. After a fault a beginning of them has been written.
-fn write_out<W: Write>(writer: &mut W, bytes: &[u8]) -> Result<(), ScheduleFault>
-    ensures writes { WritesOrBeginning (W.contents writer.old) (W.contents writer.new) bytes.now result }
-    ensures limits { IfErr result (λ fault. fault ≢ ScheduleFault.Limits) }
-{
-    let mut written: usize = 0;
-    while written < bytes.len() {
-        match writer.write(&bytes[written..]) {
-            Ok(0) => return Err(ScheduleFault::Writer),
-            Ok(n) => written += n,
-            Err(_) => return Err(ScheduleFault::Writer),
-        }
-    }
-    Ok(())
-}
-
 /// The text that waits is written once it has this many bytes.
 const FULL: usize = 65_536;
 
 /// A capacity for all text that ever waits, so that no line allocates: text that isn't long yet, and one line.
 pub(crate) const CAPACITY: usize = FULL + 128;
 
-/// Writes the text that waits.
-#[inline(never)]
+/// Writes the text that waits. After `ScheduleFault::Writer` a beginning of it has been written.
 pub(crate) fn flush<W: Write, A: Allocator + Copy + Drop>(
     text: &mut Vec<u8, A>,
     writer: &mut W,
@@ -43,16 +26,13 @@ pub(crate) fn flush<W: Write, A: Allocator + Copy + Drop>(
     ensures empty { OnOk result (text.new.items ≡ []) }
     ensures limits { IfErr result (λ fault. fault ≢ ScheduleFault.Limits) }
 {
-    match write_out(writer, text.as_slice()) {
-        Ok(()) => {
-            text.clear();
-            Ok(())
-        }
-        Err(fault) => Err(fault),
+    match ng_streams::flush(text, writer) {
+        Ok(()) => Ok(()),
+        Err(_) => Err(ScheduleFault::Writer),
     }
 }
 
-/// Writes the text that waits if it is long.
+/// Writes the text that waits if it is long. After `ScheduleFault::Writer` a beginning of it has been written.
 #[inline(always)]
 fn relieve<W: Write, A: Allocator + Copy + Drop>(
     text: &mut Vec<u8, A>,
@@ -61,10 +41,10 @@ fn relieve<W: Write, A: Allocator + Copy + Drop>(
     ensures moves { FlushSpec (W.contents writer.old) (W.contents writer.new) text.old.items text.new.items result }
     ensures limits { IfErr result (λ fault. fault ≢ ScheduleFault.Limits) }
 {
-    if text.len() < FULL {
-        return Ok(());
+    match ng_streams::relieve(text, writer, FULL) {
+        Ok(()) => Ok(()),
+        Err(_) => Err(ScheduleFault::Writer),
     }
-    flush(text, writer)
 }
 
 /// Prints the line of an item behind the nanosecond at which it is due, and writes the text if it is long.

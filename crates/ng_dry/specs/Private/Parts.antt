@@ -1,5 +1,5 @@
 -- What the parts of a dry run do, each for every continuation of the program; only for private functions and proofs.
-use Rattle.std.specs.Prelude.{ℕ, ◌+◌, ◌≡◌, List, [], ◌∷◌, ◌++◌, Option, None, Some, Result, Ok, Err, take}
+use Rattle.std.specs.Prelude.{ℕ, ◌+◌, ◌≡◌, List, [], ◌∷◌, ◌++◌, Option, None, Some, Result, Ok, Err}
 use Rattle.std.specs.Str.Lines.{lines}
 use Rattle.std.specs.Io.KnownBytes.{Appends}
 use Rattle.ng_words.specs.Start.{kind_of}
@@ -62,8 +62,3 @@ abbrev pub LineStepSpec : {X : Type 0} → Option (List ℕ) → Option (List �
 LineStepSpec old new f g (Ok None) = Goes old new f g
 LineStepSpec old new f g (Ok (Some end)) = EndsRun old new f end
 LineStepSpec old new f g (Err fault) = Breaks old new f
-
--- the text is written, or after a fault a beginning of it
-abbrev pub WritesOrBeginning : {T : Type 0} → Option (List ℕ) → Option (List ℕ) → List ℕ → Result T DryFault → Type 0
-WritesOrBeginning old new text (Ok x) = Appends old new text
-WritesOrBeginning old new text (Err fault) = (n : ℕ) × Appends old new (take n text)

@@ -1,7 +1,7 @@
 use Rattle.std.proofs.Common.{List, ◌++◌, ap}
 use Rattle.ng_canon.specs.Printing.{CanonModel}
 use Rattle.ng_dry.specs.Dry.{commands_text}
-use Rattle.ng_dry.proofs.FlushLemmas.{FlushSpec-from}
+use Rattle.ng_streams.proofs.WaitingLemmas.{FlushSpec-from}
 use Rattle.ng_dry.proofs.output.put_effect.Goals as goal
 
 pub returns-in-Some : goal.returns-in-Some

@@ -5,7 +5,7 @@ use Rattle.ng_canon.specs.declared.command.CanonicalCommand.TheVariants.{FeedRat
 use Rattle.ng_dry.specs.Dry.{commands_text}
 use Rattle.ng_block.specs.Path.{pace_command}
 use Rattle.ng_block.specs.Plan.{feed_commands}
-use Rattle.ng_dry.proofs.FlushLemmas.{FlushSpec-from, FlushSpec-after, FlushSpec-short}
+use Rattle.ng_streams.proofs.WaitingLemmas.{FlushSpec-from, FlushSpec-after, FlushSpec-short}
 use Rattle.ng_dry.proofs.output.put_move.Goals as goal
 
 abbrev moved : Option ℤ → CanonicalCommand → List CanonModel

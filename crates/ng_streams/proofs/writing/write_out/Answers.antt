@@ -1,7 +1,7 @@
 use Rattle.std.proofs.Common.{arith, length-drop}
 use Rattle.std.proofs.Math.Seq.{take-add}
-use Rattle.ng_text.proofs.KnownBytesLemmas.{Appends-trans, rest_is}
-use Rattle.ng_dialogue.proofs.telling.write_out.Goals as goal
+use Rattle.ng_streams.proofs.WrittenBytesLemmas.{Appends-trans, rest_is}
+use Rattle.ng_streams.proofs.writing.write_out.Goals as goal
 
 pub loop-written-preserved : goal.loop-written-preserved
 loop-written-preserved g c =

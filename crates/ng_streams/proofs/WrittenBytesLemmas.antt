@@ -1,7 +1,12 @@
--- Appending bytes piece by piece.
-use Rattle.std.proofs.Common.{◌≡◌, ℕ, ◌+◌, ◌*◌, List, ◌++◌, Option, None, Some, ap, ◌∙◌, append_assoc, replicate, take, drop, length, ◌-◌, arith, length-drop}
-use Rattle.std.proofs.lemmas.List.{replicate-append-replicate, take_all}
+-- Known bytes of writers, piece by piece.
+use Rattle.std.proofs.Common.{◌≡◌, ℕ, List, [], ◌++◌, Option, None, Some, sym, ap, ◌∙◌, append_assoc}
+use Rattle.std.proofs.Common.{append-nil, take, drop, length, ◌-◌, arith, length-drop}
+use Rattle.std.proofs.lemmas.List.{take_all}
 use Rattle.std.specs.Io.KnownBytes.{Appends}
+
+pub Appends-nil : (a : Option (List ℕ)) → Appends a a []
+Appends-nil None = tt
+Appends-nil (Some x) = sym (append-nil x)
 
 pub Appends-trans : (a b c : Option (List ℕ)) (bs cs : List ℕ) → Appends a b bs → Appends b c cs → Appends a c (bs ++ cs)
 Appends-trans None b c bs cs p q = tt
@@ -12,12 +17,3 @@ Appends-trans (Some x) (Some y) (Some z) bs cs p q = q ∙ ap (λ l. l ++ cs) p 
 -- what is left of a slice after its first i elements
 pub rest_is : {A : Type 0} (i : ℕ) (xs : List A) → take (length xs - i) (drop i xs) ≡ drop i xs
 rest_is i xs = take_all (length xs - i) (drop i xs) (omega (arith, length-drop i xs))
-
-abbrev zeros : ℕ → List ℕ
-zeros n = replicate n 0
-
--- one more sector of zeros
-pub zeros_more : (k : ℕ) → zeros (512 * k) ++ zeros 512 ≡ zeros (512 * (k + 1))
-zeros_more k =
-    let sum : 512 * k + 512 ≡ 512 * (k + 1) = omega arith in
-    replicate-append-replicate (512 * k) 512 0 ∙ ap zeros sum

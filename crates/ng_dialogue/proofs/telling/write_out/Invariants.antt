@@ -1,9 +1,0 @@
-use Rattle.std.proofs.Common.{◌-◌, ◌≤◌, length, take}
-use Rattle.std.specs.Io.KnownBytes.{Appends}
-use Rattle.ng_dialogue.proofs.telling.write_out.Given as goal
-
-abbrev pub invariant-loop-written : goal.invariant-loop-written
-invariant-loop-written g l = Appends (g.W.Write.contents l.fn.writer) (g.W.Write.contents l.writer) (take l.written l.bytes) × (l.written ≤ length l.bytes)
-
-abbrev pub decreases-loop-written : goal.decreases-loop-written
-decreases-loop-written g l = length l.bytes - l.written

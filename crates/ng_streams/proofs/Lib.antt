@@ -1,0 +1,2 @@
+pub mod WrittenBytesLemmas
+pub mod WaitingLemmas
