@@ -8,9 +8,9 @@ use Rattle.ng_layout.specs.Stored.{StoredModel}
 use Rattle.ng_journal.specs.Journal.{JournalModel}
 use Rattle.ng_journal.specs.Storing.{ledger_of}
 use Rattle.ng_session.specs.Entries.{after_load}
-use Rattle.ng_session.specs.Session.{CurrentBlockModel, SessionModel, Transition, answers, tick, end, item_of}
-use Rattle.ng_session.specs.Session.{handed, is_running, rest, committed, load, load_unless, load_refusal, loaded}
-use Rattle.ng_session.specs.Session.{session_status}
+use Rattle.ng_session.specs.Session.{CurrentBlockModel, SessionModel, Transition, answers, is_running}
+use Rattle.ng_session.specs.Operator.{load, load_unless, load_refusal, loaded, session_status}
+use Rattle.ng_session.specs.Ticking.{tick, end, item_of, handed, rest, committed}
 use Rattle.ng_session.specs.declared.reply.Reply.{Reply}
 use Rattle.ng_session.specs.declared.reply.Reply.TheVariants as reply
 use Rattle.ng_core.specs.Model.{ControllerModel}

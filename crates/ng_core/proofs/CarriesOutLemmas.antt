@@ -9,9 +9,10 @@ use Rattle.ng_canon.specs.declared.item.Item.{Item}
 use Rattle.ng_rig.specs.Rig.{Device}
 use Rattle.ng_journal.specs.Journal.{JournalModel, JournalCall}
 use Rattle.ng_journal.specs.Storing.{Ledger, ledger_of}
-use Rattle.ng_session.specs.Session.{CurrentBlockModel, SessionModel, Transition, IsBetweenLines, has_work}
-use Rattle.ng_session.specs.Session.{is_running, refuses, answers, tick, open_next, item_of, handed, opening_of}
-use Rattle.ng_session.specs.Session.{session_status}
+use Rattle.ng_session.specs.Session.{CurrentBlockModel, SessionModel, Transition, is_running, refuses, answers}
+use Rattle.ng_session.specs.Operator.{session_status}
+use Rattle.ng_session.specs.Ticking.{tick, open_next, item_of, handed, opening_of}
+use Rattle.ng_session.specs.Step.{IsBetweenLines, has_work}
 use Rattle.ng_session.specs.declared.reply.Reply.{Reply}
 use Rattle.ng_session.specs.declared.reply.Reply.TheVariants as reply
 use Rattle.ng_core.specs.Model.{ControllerModel}

@@ -11,7 +11,8 @@ use Rattle.ng_layout.specs.Stored.{DurableState}
 use Rattle.ng_journal.specs.AtRest.{IsEither}
 use Rattle.ng_journal.specs.Journal.{JournalModel, IsDurablyAt, StandsFor, CommitSpec, JournalHandOutSpec}
 use Rattle.ng_session.specs.Planned.{KnownModel, IsKnownOf}
-use Rattle.ng_session.specs.Session.{SessionModel, Transition, session_status}
+use Rattle.ng_session.specs.Session.{SessionModel, Transition}
+use Rattle.ng_session.specs.Operator.{session_status}
 use Rattle.ng_session.specs.Runs.{crash_in, session_of_transition}
 use Rattle.ng_session.specs.declared.reply.Reply.{Reply}
 use Rattle.ng_core.specs.Model.{ControllerModel, IsAtRestWith, durable_state_of}

@@ -16,11 +16,12 @@ use Rattle.ng_journal.specs.Storing.{Ledger, Storing, Commit, Open, Load, UsesUp
 use Rattle.ng_num.specs.declared.point.Point.{Point}
 use Rattle.ng_canon.specs.declared.geometry.Geometry.{Geometry}
 use Rattle.ng_session.specs.Entries.{done_of, done_again, after_load, after_reference, after_abandon, after_tool}
-use Rattle.ng_session.specs.Session.{CurrentBlockModel, SessionModel, Transition, end, begin, begin_by, load}
-use Rattle.ng_session.specs.Session.{load_unless, load_refusal, reference, reference_unless, reference_refusal}
-use Rattle.ng_session.specs.Session.{abandon, abandon_unless, abandon_refusal, tool, tool_unless, tool_refusal}
-use Rattle.ng_session.specs.Session.{refuses, resume, resume_half, resume_from, resume_by, is_at_rest}
-use Rattle.ng_session.specs.Session.{IsBetweenLines, opening_of, opening_reply, entry_on, committed}
+use Rattle.ng_session.specs.Session.{CurrentBlockModel, SessionModel, Transition, refuses, is_at_rest}
+use Rattle.ng_session.specs.Operator.{load, load_unless, load_refusal, reference, reference_unless, reference_refusal}
+use Rattle.ng_session.specs.Operator.{abandon, abandon_unless, abandon_refusal, tool, tool_unless, tool_refusal}
+use Rattle.ng_session.specs.Operator.{resume, resume_half, resume_from, resume_by}
+use Rattle.ng_session.specs.Ticking.{end, begin, begin_by, opening_of, opening_reply, entry_on, committed}
+use Rattle.ng_session.specs.Step.{IsBetweenLines}
 use Rattle.ng_session.specs.declared.stage.Stage.{Stage}
 use Rattle.ng_session.specs.declared.stage.Stage.TheVariants as stage
 use Rattle.ng_core.specs.Causes.{UsesUpCounter, IsCausedBy, stored_for, with_entry}

@@ -7,7 +7,9 @@ use Rattle.ng_rig.specs.Rig.{Device}
 use Rattle.ng_journal.specs.Journal.{CountsFailure}
 use Rattle.ng_journal.specs.Storing.{Ledger, ledger_of}
 use Rattle.ng_text.specs.Programs.{ProgramLineModel}
-use Rattle.ng_session.specs.Session.{Transition, begin, is_running, TakesMemory, AsksDevice, NeedsProgramLine}
+use Rattle.ng_session.specs.Session.{Transition, is_running}
+use Rattle.ng_session.specs.Ticking.{begin}
+use Rattle.ng_session.specs.Step.{TakesMemory, AsksDevice, NeedsProgramLine}
 use Rattle.ng_session.specs.declared.event.Event.{Event}
 use Rattle.ng_session.specs.declared.reply.Reply.{Reply}
 use Rattle.ng_session.specs.declared.reply.Reply.TheVariants as reply

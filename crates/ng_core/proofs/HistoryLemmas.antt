@@ -5,7 +5,8 @@ use Rattle.ng_rig.specs.Rig.{Device}
 use Rattle.ng_rig.specs.Trace.{moment}
 use Rattle.ng_journal.specs.Journal.{IsBrokenBy}
 use Rattle.ng_journal.specs.Storing.{ledger_of}
-use Rattle.ng_session.specs.Session.{Transition, TakesMemory, AsksDevice}
+use Rattle.ng_session.specs.Session.{Transition}
+use Rattle.ng_session.specs.Step.{TakesMemory, AsksDevice}
 use Rattle.ng_session.specs.declared.event.Event.{Event}
 use Rattle.ng_session.specs.declared.reply.Reply.{Reply}
 use Rattle.ng_core.specs.Model.{ControllerModel}

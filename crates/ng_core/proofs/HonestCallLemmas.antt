@@ -12,7 +12,8 @@ use Rattle.ng_journal.specs.Journal.{JournalModel}
 use Rattle.ng_journal.specs.Loads.{StoresLoad}
 use Rattle.ng_journal.specs.Storing.{Ledger, Storing, Commit, Open, Load, StoresRecord, IsLedgerAfter, with_program, ledger_of}
 use Rattle.ng_session.specs.Entries.{after_load}
-use Rattle.ng_session.specs.Session.{Transition, load, load_unless, load_refusal}
+use Rattle.ng_session.specs.Session.{Transition}
+use Rattle.ng_session.specs.Operator.{load, load_unless, load_refusal}
 use Rattle.ng_session.specs.declared.reply.Reply.{Reply}
 use Rattle.ng_core.specs.Causes.{stored_for}
 use Rattle.ng_core.specs.Model.{ControllerModel}

@@ -8,7 +8,8 @@ use Rattle.ng_rig.specs.Calls.{IfHonest}
 use Rattle.ng_layout.specs.Stored.{DurableState}
 use Rattle.ng_journal.specs.Journal.{JournalModel, IsDurablyAt, CommitSpec, JournalHandOutSpec}
 use Rattle.ng_session.specs.Planned.{IsKnownOf}
-use Rattle.ng_session.specs.Session.{Transition, session_status}
+use Rattle.ng_session.specs.Session.{Transition}
+use Rattle.ng_session.specs.Operator.{session_status}
 use Rattle.ng_session.specs.declared.reply.Reply.{Reply}
 use Rattle.ng_core.specs.Model.{ControllerModel, IsAtRestWith, durable_state_of}
 use Rattle.ng_core.specs.Events.{IsCarriedOutIfHonest, TouchesNothing}

@@ -16,7 +16,9 @@ use Rattle.ng_journal.specs.Program.{FirstKindSpec, ProgramLineSpec}
 use Rattle.ng_text.specs.LinesBefore.{IsTrueOf, IsLineBetween}
 use Rattle.ng_session.specs.Planned.{KnownModel, IsKnownOf}
 use Rattle.ng_journal.specs.Storing.{ledger_of}
-use Rattle.ng_session.specs.Session.{Transition, begin, is_running, session_status}
+use Rattle.ng_session.specs.Session.{Transition, is_running}
+use Rattle.ng_session.specs.Operator.{session_status}
+use Rattle.ng_session.specs.Ticking.{begin}
 use Rattle.ng_text.specs.declared.lines_before.LinesBefore.{LinesBefore}
 use Rattle.ng_session.specs.declared.reply.Reply.{Reply}
 use Rattle.ng_core.specs.Model.{ControllerModel, durable_state_of}

@@ -10,7 +10,8 @@ use Rattle.ng_layout.specs.Stored.{StoredModel, DurableState}
 use Rattle.ng_journal.specs.Journal.{JournalModel, IsDurablyAt, CommitSpec}
 use Rattle.ng_session.specs.Entries.{after_load}
 use Rattle.ng_session.specs.Planned.{IsKnownOf}
-use Rattle.ng_session.specs.Session.{load, load_unless, load_refusal, loaded, step, IsQuiet}
+use Rattle.ng_session.specs.Operator.{load, load_unless, load_refusal, loaded}
+use Rattle.ng_session.specs.Step.{step, IsQuiet}
 use Rattle.ng_session.specs.declared.event.Event.{Event}
 use Rattle.ng_session.specs.declared.reply.Reply.{Reply}
 use Rattle.ng_session.specs.declared.reply.Reply.TheVariants as reply

@@ -17,8 +17,9 @@ use Rattle.ng_journal.specs.Storing.{ledger_of}
 use Rattle.ng_journal.proofs.ProgramHeldLemmas.{holds_same, holds_handed}
 use Rattle.ng_session.specs.Entries.{after_load}
 use Rattle.ng_session.specs.Planned.{KnownModel, IsKnownOf}
-use Rattle.ng_session.specs.Session.{CurrentBlockModel, SessionModel, Transition, begin, end, committed, tick}
-use Rattle.ng_session.specs.Session.{item_of, handed, load, load_unless, load_refusal, loaded, session_status}
+use Rattle.ng_session.specs.Session.{CurrentBlockModel, SessionModel, Transition}
+use Rattle.ng_session.specs.Operator.{load, load_unless, load_refusal, loaded, session_status}
+use Rattle.ng_session.specs.Ticking.{begin, end, committed, tick, item_of, handed}
 use Rattle.ng_session.specs.declared.reply.Reply.{Reply}
 use Rattle.ng_session.specs.declared.reply.Reply.TheVariants as reply
 use Rattle.ng_core.specs.Model.{ControllerModel, HasInForce}

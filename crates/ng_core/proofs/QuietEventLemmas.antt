@@ -8,9 +8,10 @@ use Rattle.ng_layout.specs.Stored.{StoredModel}
 use Rattle.ng_layout.specs.declared.half.Source.TheVariants as source
 use Rattle.ng_canon.specs.declared.geometry.Geometry.{Geometry}
 use Rattle.ng_session.specs.Entries.{done_of}
-use Rattle.ng_session.specs.Session.{SessionModel, Transition, is_running, is_idle, accepts_load, refuses_mdi}
-use Rattle.ng_session.specs.Session.{answers, start, hold, idleness, resume_held, mdi, mdi_by, begin, begin_by}
-use Rattle.ng_session.specs.Session.{rest, step, IsQuiet, NeedsProgramLine}
+use Rattle.ng_session.specs.Session.{SessionModel, Transition, is_running, is_idle, accepts_load, answers, idleness}
+use Rattle.ng_session.specs.Operator.{refuses_mdi, start, hold, resume_held, mdi, mdi_by}
+use Rattle.ng_session.specs.Ticking.{begin, begin_by, rest}
+use Rattle.ng_session.specs.Step.{step, IsQuiet, NeedsProgramLine}
 use Rattle.ng_session.specs.declared.event.Event.{Event}
 use Rattle.ng_session.specs.declared.activity.Activity.{Activity}
 use Rattle.ng_session.specs.declared.activity.Activity.TheVariants as activity

@@ -17,7 +17,10 @@ use Rattle.ng_journal.specs.Journal.{JournalModel, JournalCall, IsDurablyAt, IsB
 use Rattle.ng_journal.specs.Storing.{Ledger, ledger_of}
 use Rattle.ng_canon.specs.declared.geometry.Geometry.{Geometry}
 use Rattle.ng_session.specs.Entries.{done_of}
-use Rattle.ng_session.specs.Session.{SessionModel, Transition, step, begin, begin_by, is_running, session_status, TakesMemory, AsksDevice, NeedsProgramLine}
+use Rattle.ng_session.specs.Session.{SessionModel, Transition, is_running}
+use Rattle.ng_session.specs.Operator.{session_status}
+use Rattle.ng_session.specs.Ticking.{begin, begin_by}
+use Rattle.ng_session.specs.Step.{step, TakesMemory, AsksDevice, NeedsProgramLine}
 use Rattle.ng_session.specs.Planned.{PlannedModel, KnownModel, IsKnownOf, IsLineOf, AreLinesOf, IsBegunAhead, forgotten_for, forgotten, drops_plan}
 use Rattle.ng_session.specs.declared.event.Event.{Event}
 use Rattle.ng_session.specs.declared.reply.Reply.{Reply}

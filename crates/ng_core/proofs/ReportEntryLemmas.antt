@@ -13,7 +13,8 @@ use Rattle.ng_layout.specs.Limits.{greatest_count}
 use Rattle.ng_layout.specs.Stored.{HalfModel, StoredModel}
 use Rattle.ng_journal.specs.Journal.{JournalModel, CommitSpec}
 use Rattle.ng_session.specs.Entries.{Entry, referenced, after_reference, abandoned, after_abandon, after_tool}
-use Rattle.ng_session.specs.Session.{SessionModel, commits, is_running, is_at_rest, accepts_load, abandon_refusal}
+use Rattle.ng_session.specs.Session.{SessionModel, commits, is_running, is_at_rest, accepts_load}
+use Rattle.ng_session.specs.Operator.{abandon_refusal}
 use Rattle.ng_session.specs.declared.reply.Reply.{Reply}
 use Rattle.ng_session.specs.declared.reply.Reply.TheVariants as reply
 use Rattle.ng_core.specs.Model.{ControllerModel, durable_state_of}

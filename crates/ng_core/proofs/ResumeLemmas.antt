@@ -19,9 +19,10 @@ use Rattle.ng_journal.specs.Journal.{JournalModel, IsDurablyAt, HoldsProgram}
 use Rattle.ng_journal.specs.Storing.{ledger_of}
 use Rattle.ng_canon.specs.declared.geometry.Geometry.{Geometry}
 use Rattle.ng_session.specs.Entries.{done_again}
-use Rattle.ng_session.specs.Session.{SessionModel, Transition, refuses, resume, resume_half, resume_from, resume_by}
-use Rattle.ng_session.specs.Session.{resume_refusal, waiting_refusal, is_at_rest, is_running, session_status}
-use Rattle.ng_session.specs.Session.{next_place_after, IsProgramsLine}
+use Rattle.ng_session.specs.Session.{SessionModel, Transition, refuses, is_at_rest, is_running}
+use Rattle.ng_session.specs.Operator.{resume, resume_half, resume_from, resume_by, resume_refusal, waiting_refusal}
+use Rattle.ng_session.specs.Operator.{session_status, next_place_after}
+use Rattle.ng_session.specs.Step.{IsProgramsLine}
 use Rattle.ng_session.specs.declared.reply.Reply.{Reply}
 use Rattle.ng_session.specs.declared.reply.Reply.TheVariants as reply
 use Rattle.ng_session.proofs.RefusalLemmas.{refused_again}

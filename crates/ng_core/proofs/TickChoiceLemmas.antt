@@ -12,8 +12,8 @@ use Rattle.ng_rig.proofs.GuaranteeLemmas.{meaning}
 use Rattle.ng_text.specs.Programs.{program_line_at}
 use Rattle.ng_layout.specs.Stored.{HalfModel}
 use Rattle.ng_canon.specs.declared.geometry.Geometry.{Geometry}
-use Rattle.ng_session.specs.Session.{CurrentBlockModel, SessionModel, Transition, tick, end, begin, item_of, handed}
-use Rattle.ng_session.specs.Session.{opening_of, opening_on, segment_open, is_running}
+use Rattle.ng_session.specs.Session.{CurrentBlockModel, SessionModel, Transition, is_running}
+use Rattle.ng_session.specs.Ticking.{tick, end, begin, item_of, handed, opening_of, opening_on, segment_open}
 use Rattle.ng_session.specs.declared.reply.Reply.{Reply}
 use Rattle.ng_session.specs.declared.stage.Stage.{Stage}
 use Rattle.ng_session.specs.declared.stage.Stage.TheVariants as stage

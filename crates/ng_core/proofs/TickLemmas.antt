@@ -12,9 +12,10 @@ use Rattle.ng_layout.specs.declared.half.Opened.TheVariants as open_part
 use Rattle.ng_journal.specs.Journal.{JournalModel, IsDurablyAt, CommitSpec, JournalHandOutSpec}
 use Rattle.ng_canon.specs.declared.geometry.Geometry.{Geometry}
 use Rattle.ng_session.specs.Planned.{KnownModel, IsKnownOf}
-use Rattle.ng_session.specs.Session.{CurrentBlockModel, SessionModel, Transition, answers, tick, open_next, end}
-use Rattle.ng_session.specs.Session.{item_of, handed, opening_of, opening_reply, opened, committed, is_running}
-use Rattle.ng_session.specs.Session.{rest, session_status}
+use Rattle.ng_session.specs.Session.{CurrentBlockModel, SessionModel, Transition, answers, is_running}
+use Rattle.ng_session.specs.Operator.{session_status}
+use Rattle.ng_session.specs.Ticking.{tick, open_next, end, item_of, handed, opening_of, opening_reply, opened}
+use Rattle.ng_session.specs.Ticking.{committed, rest}
 use Rattle.ng_session.specs.declared.reply.Reply.{Reply}
 use Rattle.ng_session.specs.declared.reply.Reply.TheVariants as reply
 use Rattle.ng_core.specs.Model.{ControllerModel, durable_state_of}

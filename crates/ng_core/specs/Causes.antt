@@ -6,7 +6,8 @@ use Rattle.ng_num.specs.declared.fault.Fault.TheVariants.{DeviceFailed, Counters
 use Rattle.ng_layout.specs.Stored.{StoredModel}
 use Rattle.ng_journal.specs.Storing.{Ledger, Storing, Commit, Open, Load, UsesUp}
 use Rattle.ng_session.specs.Entries.{Entry, Block, Loaded, Referenced, Approached, Abandoned, Tooled}
-use Rattle.ng_session.specs.Session.{Transition, step}
+use Rattle.ng_session.specs.Session.{Transition}
+use Rattle.ng_session.specs.Step.{step}
 use Rattle.ng_session.specs.declared.event.Event.{Event}
 use Rattle.ng_session.specs.declared.reply.Reply.{Reply}
 use Rattle.ng_session.specs.declared.reply.Reply.TheVariants as reply

@@ -12,7 +12,9 @@ use Rattle.ng_journal.specs.Journal.{StandsFor, IsBrokenBy, CountsFailure}
 use Rattle.ng_journal.specs.Loads.{StoresLoad}
 use Rattle.ng_journal.specs.Storing.{Ledger, Storing, Commit, Open, Load, StoresRecord, IsLedgerAfter, with_program, ledger_of}
 use Rattle.ng_text.specs.Programs.{ProgramLineModel}
-use Rattle.ng_session.specs.Session.{SessionModel, Transition, begin, is_running, session_status}
+use Rattle.ng_session.specs.Session.{SessionModel, Transition, is_running}
+use Rattle.ng_session.specs.Operator.{session_status}
+use Rattle.ng_session.specs.Ticking.{begin}
 use Rattle.ng_session.specs.Runs.{ProgramSession, CrashState, crash_in, session_of_transition}
 use Rattle.ng_session.specs.declared.event.Event.{Event}
 use Rattle.ng_session.specs.declared.event.Event.TheVariants as event

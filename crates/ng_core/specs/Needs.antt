@@ -1,7 +1,8 @@
 -- What the answer to an event needs; if that fails, an error is returned instead (own).
 use Rattle.std.specs.Prelude.{◌≡◌, true}
 use Rattle.ng_canon.specs.declared.geometry.Geometry.{Geometry}
-use Rattle.ng_session.specs.Session.{SessionModel, IsBetweenLines, has_work, TakesMemory, AsksDevice, NeedsProgramLine}
+use Rattle.ng_session.specs.Session.{SessionModel}
+use Rattle.ng_session.specs.Step.{IsBetweenLines, has_work, TakesMemory, AsksDevice, NeedsProgramLine}
 use Rattle.ng_session.specs.declared.event.Event.{Event}
 
 -- when it needs memory, when it calls the device, and when it reads a line of the program

@@ -42,7 +42,8 @@ impl<R: Rig, A: Allocator + Copy + Drop> Model for Controller<R, A> {
 impl<R: Rig, A: Allocator + Copy + Drop> Controller<R, A> {
     ghost use Rattle.std.specs.Prelude.{None};
     ghost use Rattle.ng_session.specs.Entries.{Entry};
-    ghost use Rattle.ng_session.specs.Session.{IsQuiet, commits};
+    ghost use Rattle.ng_session.specs.Session.{commits};
+    ghost use Rattle.ng_session.specs.Step.{IsQuiet};
     ghost use Rattle.ng_session.specs.SessionInvariant.{IsNextEntry};
     ghost use Rattle.ng_session.specs.Planned.{drops_plan};
     ghost use Rattle.ng_core.specs.Private.Commits.{IsCommitted};

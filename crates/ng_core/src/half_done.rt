@@ -5,7 +5,7 @@ ghost use Rattle.ng_rig.specs.Calls.{IfHonest};
 ghost use Rattle.ng_layout.specs.Stored.{DurableState};
 ghost use Rattle.ng_journal.specs.Journal.{IsDurablyAt, HoldsProgram, JournalCall};
 ghost use Rattle.ng_journal.specs.Storing.{ledger_of};
-ghost use Rattle.ng_session.specs.Session.{IsProgramsLine};
+ghost use Rattle.ng_session.specs.Step.{IsProgramsLine};
 ghost use Rattle.ng_core.specs.Private.NextLines.{IsNextLineAt, NextLineSpec};
 
 use crate::controller::Controller;

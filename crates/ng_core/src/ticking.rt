@@ -82,7 +82,8 @@ fn lines_after<A: Allocator + Copy + Drop>(
 }
 
 impl<R: Rig, A: Allocator + Copy + Drop> Controller<R, A> {
-    ghost use Rattle.ng_session.specs.Session.{open_part_of, open_next, end, begin, opening_of, is_running};
+    ghost use Rattle.ng_session.specs.Session.{is_running};
+    ghost use Rattle.ng_session.specs.Ticking.{open_part_of, open_next, end, begin, opening_of};
     ghost use Rattle.ng_session.specs.declared.event.Event.TheVariants as event;
     ghost use Rattle.ng_text.specs.Programs.{program_line_at};
     ghost use Rattle.std.specs.Prelude.{None, []};

@@ -11,7 +11,8 @@ use Rattle.ng_layout.specs.Stored.{StoredModel}
 use Rattle.ng_session.specs.BareBlock.{BareBlock, block_on, left_of, IsReady}
 use Rattle.ng_session.specs.Entries.{place_after}
 use Rattle.ng_session.specs.Planned.{base_on, base_after}
-use Rattle.ng_session.specs.Session.{CurrentBlockModel, after_current_block, after_current_approach}
+use Rattle.ng_session.specs.Session.{CurrentBlockModel}
+use Rattle.ng_session.specs.Ticking.{after_current_block, after_current_approach}
 use Rattle.ng_session.specs.SessionInvariant.{IsSessionInvariant}
 use Rattle.ng_session.specs.declared.stage.Stage.{Stage}
 use Rattle.ng_session.specs.declared.stage.Stage.TheVariants as stage

@@ -12,7 +12,8 @@ use Rattle.ng_layout.specs.Stored.{HalfModel, StoredModel, DurableState}
 use Rattle.ng_layout.specs.declared.half.Opened.TheVariants as open_part
 use Rattle.ng_canon.specs.declared.geometry.Geometry.{Geometry}
 use Rattle.ng_session.specs.Entries.{Approached, done_again, place_after, after_block, reached, reached_by, motion_state_before, hand_approach}
-use Rattle.ng_session.specs.Session.{CurrentBlockModel, greatest_index, half_open, after_current_block, after_current_approach, is_idle}
+use Rattle.ng_session.specs.Session.{CurrentBlockModel, is_idle}
+use Rattle.ng_session.specs.Ticking.{greatest_index, half_open, after_current_block, after_current_approach}
 use Rattle.ng_session.specs.Fold.{first_to_do, still_to_do, approach_in, approach_to, approach_from, durable_state_reached, after, hand_all, IsBlock}
 use Rattle.ng_session.specs.Cuts.{number_after}
 use Rattle.ng_session.specs.declared.activity.Activity.{Activity}

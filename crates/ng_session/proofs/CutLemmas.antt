@@ -18,12 +18,14 @@ use Rattle.ng_layout.specs.declared.half.Opened.{Opened}
 use Rattle.ng_layout.specs.declared.half.Opened.TheVariants as open_part
 use Rattle.ng_canon.specs.declared.geometry.Geometry.{Geometry}
 use Rattle.ng_session.specs.Entries.{Entry, Block, Approached, done_of, done_again}
-use Rattle.ng_session.specs.Session.{CurrentBlockModel, SessionModel, Transition, answers, entry_on, idleness}
-use Rattle.ng_session.specs.Session.{is_running, is_idle, accepts_load, is_at_rest, refuses_mdi, mdi_by}
-use Rattle.ng_session.specs.Session.{load_unless, load_refusal, reference_unless, reference_refusal, abandon_unless}
-use Rattle.ng_session.specs.Session.{abandon_refusal, tool_unless, tool_refusal, resume_by, resume_from}
-use Rattle.ng_session.specs.Session.{resume_half, opening_reply, begin, begin_by, end, open_next, opening_of}
-use Rattle.ng_session.specs.Session.{hand_next, first_of, item_of, step}
+use Rattle.ng_session.specs.Session.{CurrentBlockModel, SessionModel, Transition, answers, idleness, is_running}
+use Rattle.ng_session.specs.Session.{is_idle, accepts_load, is_at_rest}
+use Rattle.ng_session.specs.Operator.{refuses_mdi, mdi_by, load_unless, load_refusal, reference_unless}
+use Rattle.ng_session.specs.Operator.{reference_refusal, abandon_unless, abandon_refusal, tool_unless, tool_refusal}
+use Rattle.ng_session.specs.Operator.{resume_by, resume_from, resume_half}
+use Rattle.ng_session.specs.Ticking.{entry_on, opening_reply, begin, begin_by, end, open_next, opening_of, hand_next}
+use Rattle.ng_session.specs.Ticking.{first_of, item_of}
+use Rattle.ng_session.specs.Step.{step}
 use Rattle.ng_session.specs.Fold.{after, items, after_all, items_all, IsBlock, FollowsFold, FollowFold}
 use Rattle.ng_session.specs.Runs.{ProgramSession, CrashState, session_at_power_on, leads_to, session_of_transition}
 use Rattle.ng_session.specs.Runs.{replies_of, items_of, entries_of, entry_of, under_way, session_after, crash_in}

@@ -19,7 +19,8 @@ use Rattle.ng_layout.specs.Update.{UpdateModel, updated}
 use Rattle.ng_session.specs.Entries.{abandoned, after_abandon, after_tool}
 use Rattle.ng_session.specs.BareBlock.{BareBlock, block_on, IsReady}
 use Rattle.ng_session.specs.Planned.{base_on}
-use Rattle.ng_session.specs.Session.{CurrentBlockModel, SessionModel, after_current_block, after_current_approach, committed_on}
+use Rattle.ng_session.specs.Session.{CurrentBlockModel, SessionModel}
+use Rattle.ng_session.specs.Ticking.{after_current_block, after_current_approach, committed_on}
 use Rattle.ng_session.specs.SessionInvariant.{IsNextEntry}
 use Rattle.ng_session.specs.declared.stage.Stage.{Stage}
 use Rattle.ng_session.specs.declared.stage.Stage.TheVariants as stage

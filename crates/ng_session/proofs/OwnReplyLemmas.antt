@@ -18,12 +18,14 @@ use Rattle.ng_layout.specs.declared.half.Opened.TheVariants as open_part
 use Rattle.ng_layout.specs.declared.half.Source.TheVariants as source
 use Rattle.ng_canon.specs.declared.geometry.Geometry.{Geometry}
 use Rattle.ng_session.specs.Entries.{done_of, done_again}
-use Rattle.ng_session.specs.Session.{SessionModel, Transition, step, start, hold, resume_held, mdi, mdi_by}
-use Rattle.ng_session.specs.Session.{refuses_mdi, load, load_unless, load_refusal, reference, reference_unless}
-use Rattle.ng_session.specs.Session.{reference_refusal, abandon, abandon_unless, abandon_refusal, tool, tool_unless}
-use Rattle.ng_session.specs.Session.{tool_refusal, resume, resume_half, resume_from, resume_by, tick, begin}
-use Rattle.ng_session.specs.Session.{begin_by, open_part_of, opening_of, opening_reply, item_of, commit, idleness}
-use Rattle.ng_session.specs.Session.{accepts_load, is_at_rest, is_idle, is_running, if_some, hand_out}
+use Rattle.ng_session.specs.Session.{SessionModel, Transition, idleness, accepts_load, is_at_rest, is_idle, is_running}
+use Rattle.ng_session.specs.Operator.{start, hold, resume_held, mdi, mdi_by, refuses_mdi, load, load_unless}
+use Rattle.ng_session.specs.Operator.{load_refusal, reference, reference_unless, reference_refusal, abandon}
+use Rattle.ng_session.specs.Operator.{abandon_unless, abandon_refusal, tool, tool_unless, tool_refusal, resume}
+use Rattle.ng_session.specs.Operator.{resume_half, resume_from, resume_by}
+use Rattle.ng_session.specs.Ticking.{tick, begin, begin_by, open_part_of, opening_of, opening_reply, item_of, commit}
+use Rattle.ng_session.specs.Ticking.{if_some, hand_out}
+use Rattle.ng_session.specs.Step.{step}
 use Rattle.ng_session.specs.declared.activity.Activity.{Activity}
 use Rattle.ng_session.specs.declared.activity.Activity.TheVariants as activity
 use Rattle.ng_session.specs.declared.event.Event.{Event}

@@ -22,8 +22,10 @@ use Rattle.ng_session.specs.declared.event.Event.TheVariants as event
 use Rattle.ng_session.specs.declared.reply.Reply.TheVariants as reply
 use Rattle.ng_session.specs.Entries.{terms_of, done_of}
 use Rattle.ng_session.specs.Session.{CurrentBlockModel, SessionModel, Transition, accepts_load, is_running, is_idle}
-use Rattle.ng_session.specs.Session.{step, answers, begin, begun, begin_by, IsQuiet, after_current_block, opened_on}
-use Rattle.ng_session.specs.Session.{next_opened, opened, handed, committed_on, committed}
+use Rattle.ng_session.specs.Session.{answers, begun}
+use Rattle.ng_session.specs.Ticking.{begin, begin_by, after_current_block, opened_on, next_opened, opened, handed}
+use Rattle.ng_session.specs.Ticking.{committed_on, committed}
+use Rattle.ng_session.specs.Step.{step, IsQuiet}
 use Rattle.ng_session.specs.BareBlock.{block_on, IsReady}
 use Rattle.ng_session.proofs.BareBlockLemmas.{block_storable}
 use Rattle.ng_session.specs.Planned.{PlannedModel, KnownModel, IsLineOf, AreLinesOf, Base, IsBegunAhead, base_on}

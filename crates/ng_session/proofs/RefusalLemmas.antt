@@ -7,8 +7,9 @@ use Rattle.ng_block.specs.Effects.{Done}
 use Rattle.ng_layout.specs.Stored.{HalfModel}
 use Rattle.ng_canon.specs.declared.geometry.Geometry.{Geometry}
 use Rattle.ng_session.specs.Entries.{done_again}
-use Rattle.ng_session.specs.Session.{SessionModel, refuses, resume, resume_half, resume_from, resume_by}
-use Rattle.ng_session.specs.Session.{resume_refusal, waiting_refusal, half_refusal, refusal_of, is_at_rest}
+use Rattle.ng_session.specs.Session.{SessionModel, refuses, is_at_rest}
+use Rattle.ng_session.specs.Operator.{resume, resume_half, resume_from, resume_by, resume_refusal, waiting_refusal}
+use Rattle.ng_session.specs.Operator.{half_refusal, refusal_of}
 
 by_done : (program : List ℕ) (s : SessionModel) (half : HalfModel) (from : Point) (done : Result Done Fault)
     (f : Fault) → Some f ≡ refusal_of done → resume_by program s half from done ≡ refuses program f s

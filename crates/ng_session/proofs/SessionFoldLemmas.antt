@@ -23,12 +23,14 @@ use Rattle.ng_canon.specs.declared.geometry.Geometry.{Geometry}
 use Rattle.ng_session.specs.Entries.{Entry, Block, Loaded, Referenced, Approached, Abandoned, Tooled, done_of}
 use Rattle.ng_session.specs.Entries.{done_again, place_after, after_block, after_load, after_reference, referenced}
 use Rattle.ng_session.specs.Entries.{after_abandon, abandoned, after_tool}
-use Rattle.ng_session.specs.Session.{CurrentBlockModel, SessionModel, Transition, answers, begun, next_place_after}
-use Rattle.ng_session.specs.Session.{is_running, is_idle, is_at_rest, accepts_load, refuses_mdi, start, hold}
-use Rattle.ng_session.specs.Session.{resume_held, mdi, mdi_by, load, load_unless, load_refusal, reference}
-use Rattle.ng_session.specs.Session.{reference_unless, reference_refusal, abandon, abandon_unless, abandon_refusal}
-use Rattle.ng_session.specs.Session.{tool, tool_unless, tool_refusal, resume, resume_by, resume_from, resume_half}
-use Rattle.ng_session.specs.Session.{begin, begin_by, end, hand_next, first_of, tick, step, session_status}
+use Rattle.ng_session.specs.Session.{CurrentBlockModel, SessionModel, Transition, answers, begun, is_running, is_idle}
+use Rattle.ng_session.specs.Session.{is_at_rest, accepts_load}
+use Rattle.ng_session.specs.Operator.{next_place_after, refuses_mdi, start, hold, resume_held, mdi, mdi_by, load}
+use Rattle.ng_session.specs.Operator.{load_unless, load_refusal, reference, reference_unless, reference_refusal}
+use Rattle.ng_session.specs.Operator.{abandon, abandon_unless, abandon_refusal, tool, tool_unless, tool_refusal}
+use Rattle.ng_session.specs.Operator.{resume, resume_by, resume_from, resume_half, session_status}
+use Rattle.ng_session.specs.Ticking.{begin, begin_by, end, hand_next, first_of, tick}
+use Rattle.ng_session.specs.Step.{step}
 use Rattle.ng_session.specs.Fold.{first_to_do, after, items, items_done, items_on_way, durable_state_after}
 use Rattle.ng_session.specs.Fold.{block_done, IsTextOf, IsGiven, IsLineAt, IsBlock, FollowsFold}
 use Rattle.ng_session.specs.Runs.{given_by}

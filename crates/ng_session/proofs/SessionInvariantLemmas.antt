@@ -8,7 +8,8 @@ use Rattle.ng_layout.specs.Storable.{IsStorableHalf}
 use Rattle.ng_layout.specs.Stored.{HalfModel, StoredModel}
 use Rattle.ng_layout.specs.Update.{UpdateModel, updated}
 use Rattle.ng_session.specs.BareBlock.{BareBlock, block_on, IsReady}
-use Rattle.ng_session.specs.Session.{CurrentBlockModel, SessionModel, after_current_approach, committed_on}
+use Rattle.ng_session.specs.Session.{CurrentBlockModel, SessionModel}
+use Rattle.ng_session.specs.Ticking.{after_current_approach, committed_on}
 use Rattle.ng_session.specs.SessionInvariant.{IsNextEntry, IsSessionInvariant}
 use Rattle.ng_session.specs.declared.stage.Stage.{Stage}
 use Rattle.ng_session.specs.declared.stage.Stage.TheVariants as stage

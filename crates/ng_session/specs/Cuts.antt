@@ -9,7 +9,7 @@ use Rattle.ng_layout.specs.declared.half.Source.{Source}
 use Rattle.ng_layout.specs.declared.half.Opened.TheVariants as open_part
 use Rattle.ng_canon.specs.declared.geometry.Geometry.{Geometry}
 use Rattle.ng_session.specs.Entries.{Entry, Block, Approached, hand_approach}
-use Rattle.ng_session.specs.Session.{greatest_index}
+use Rattle.ng_session.specs.Ticking.{greatest_index}
 use Rattle.ng_session.specs.Fold.{first_to_do, still_to_do, approach_in, IsBlock, FollowFold, after_all, items_all, hand_all}
 use Rattle.ng_session.specs.Runs.{CrashState, session_at_power_on, replies_of, entries_of, under_way, crash_after, dones, lines_given}
 use Rattle.ng_session.specs.declared.event.Event.{Event}

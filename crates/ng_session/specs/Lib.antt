@@ -1,5 +1,8 @@
 pub mod Entries
 pub mod Session
+pub mod Operator
+pub mod Ticking
+pub mod Step
 pub mod BareBlock
 pub mod SessionInvariant
 pub mod Fold

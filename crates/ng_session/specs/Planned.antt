@@ -13,7 +13,8 @@ use Rattle.ng_layout.specs.declared.half.Source.TheVariants as source
 use Rattle.ng_canon.specs.declared.geometry.Geometry.{Geometry}
 use Rattle.ng_session.specs.Entries.{terms_of}
 use Rattle.ng_session.specs.BareBlock.{BareBlock, block_on, IsReady}
-use Rattle.ng_session.specs.Session.{CurrentBlockModel, SessionModel, after_current_block, after_current_approach, begin, begun}
+use Rattle.ng_session.specs.Session.{CurrentBlockModel, SessionModel, begun}
+use Rattle.ng_session.specs.Ticking.{after_current_block, after_current_approach, begin}
 use Rattle.ng_session.specs.declared.event.Event.{Event}
 use Rattle.ng_session.specs.declared.event.Event.TheVariants as event
 use Rattle.ng_session.specs.declared.reply.Reply.{Reply}

@@ -4,7 +4,9 @@ use Rattle.ng_canon.specs.declared.item.Item.{Item}
 use Rattle.ng_layout.specs.Stored.{DurableState}
 use Rattle.ng_canon.specs.declared.geometry.Geometry.{Geometry}
 use Rattle.ng_session.specs.Entries.{Entry}
-use Rattle.ng_session.specs.Session.{CurrentBlockModel, SessionModel, Transition, resting, entry_on, step}
+use Rattle.ng_session.specs.Session.{CurrentBlockModel, SessionModel, Transition, resting}
+use Rattle.ng_session.specs.Ticking.{entry_on}
+use Rattle.ng_session.specs.Step.{step}
 use Rattle.ng_session.specs.declared.event.Event.{Event}
 use Rattle.ng_session.specs.declared.event.Event.TheVariants as event
 use Rattle.ng_session.specs.declared.reply.Reply.{Reply}

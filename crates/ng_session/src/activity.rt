@@ -1,6 +1,8 @@
 //! What a session is doing, apart from its block.
 ghost use Rattle.std.specs.Prelude.{◌≡◌, ◌&&◌, if◌then◌else◌};
-ghost use Rattle.ng_session.specs.Session.{activity_after, activity_again, condition_of, idleness, is_running, stopped_by};
+ghost use Rattle.ng_session.specs.Session.{idleness, is_running};
+ghost use Rattle.ng_session.specs.Operator.{activity_again, condition_of};
+ghost use Rattle.ng_session.specs.Ticking.{activity_after, stopped_by};
 
 use crate::reply::{Condition, Reply};
 use ng_block::ProgramFlow;

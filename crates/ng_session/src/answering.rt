@@ -8,7 +8,7 @@ use ng_canon::Geometry;
 use std::alloc::Allocator;
 
 impl<A: Allocator + Copy + Drop> Session<A> {
-    ghost use Rattle.ng_session.specs.Session.{step, IsQuiet};
+    ghost use Rattle.ng_session.specs.Step.{step, IsQuiet};
 
     /// Handles an event that neither writes to the device nor hands anything out: all but a Load, a Reference, a
     /// Resume, an Abandon, a Tool and a Tick. It doesn't allocate.

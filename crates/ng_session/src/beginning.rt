@@ -93,7 +93,8 @@ pub(crate) fn execute_after_lines<'p, A: Allocator + Copy + Drop>(
 }
 
 impl<A: Allocator + Copy + Drop> Session<A> {
-    ghost use Rattle.ng_session.specs.Session.{mdi, begin, break_off};
+    ghost use Rattle.ng_session.specs.Operator.{mdi};
+    ghost use Rattle.ng_session.specs.Ticking.{begin, break_off};
 
     /// Begins a line of the operator. If the session was held, the hold ends, and a program that ran waits. K1 if a
     /// block is current or half-done, or if the program runs and isn't held; K3 if the machine's point isn't known;

@@ -10,7 +10,7 @@ ghost use Rattle.ng_cycles.specs.Segments.{line_to};
 ghost use Rattle.ng_session.specs.Entries.{place_by, place_after, motion_state_before, hand_approach};
 ghost use Rattle.ng_layout.specs.Stored.{StoredModel};
 ghost use Rattle.ng_layout.specs.Update.{updated};
-ghost use Rattle.ng_session.specs.Session.{half_open, next_opened};
+ghost use Rattle.ng_session.specs.Ticking.{half_open, next_opened};
 ghost use Rattle.ng_session.specs.Planned.{base_on};
 
 use crate::stage::{Approach, Stage};
@@ -136,8 +136,10 @@ impl CurrentBlock {
     ghost use Rattle.ng_session.specs.declared.stage.Stage.TheVariants.{OnApproach, OnBlock};
     ghost use Rattle.ng_session.specs.BareBlock.{block_on, IsReady};
     ghost use Rattle.ng_session.specs.SessionInvariant.{IsNextEntry};
-    ghost use Rattle.ng_session.specs.Session.{SessionModel, after_current_block, after_current_approach, committed_on};
-    ghost use Rattle.ng_session.specs.Session.{begun, begun_again, first_of, rest_of, opening_on, opened_on};
+    ghost use Rattle.ng_session.specs.Session.{SessionModel, begun};
+    ghost use Rattle.ng_session.specs.Operator.{begun_again};
+    ghost use Rattle.ng_session.specs.Ticking.{after_current_block, after_current_approach, committed_on, first_of};
+    ghost use Rattle.ng_session.specs.Ticking.{rest_of, opening_on, opened_on};
 
     /// The block of a line, before its first segment, given its effect. The next line of the program begins at `next`.
     pub fn begun<A: Allocator + Copy + Drop>(

@@ -68,7 +68,7 @@ impl<A: Allocator + Copy + Drop> Session<A> {
     ghost use Rattle.std.specs.Option.{is_some};
     ghost use Rattle.ng_text.specs.Programs.{next_line_start};
     ghost use Rattle.ng_session.specs.Entries.{after_reference, after_abandon};
-    ghost use Rattle.ng_session.specs.Session.{reference_refusal, abandon_refusal};
+    ghost use Rattle.ng_session.specs.Operator.{reference_refusal, abandon_refusal};
 
     /// Why the machine's point, in nm of machine coordinates, is refused now: K1 if the session isn't at rest, X2 if
     /// the point is outside the travel.
@@ -166,7 +166,8 @@ impl<A: Allocator + Copy + Drop> Session<A> {
 
 impl<A: Allocator + Copy + Drop> Session<A> {
     ghost use Rattle.std.specs.Prelude.{IfSome, true};
-    ghost use Rattle.ng_session.specs.Session.{next_place_after, resume, resume_refusal, IsProgramsLine};
+    ghost use Rattle.ng_session.specs.Operator.{next_place_after, resume, resume_refusal};
+    ghost use Rattle.ng_session.specs.Step.{IsProgramsLine};
 
     /// Why a half-done block can't go on now: K1 if the session isn't at rest, K4 if no block is half-done, K3 if the
     /// point of its machine isn't known, then its line's own faults. The session stays as it is.

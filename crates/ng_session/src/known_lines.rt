@@ -44,7 +44,7 @@ impl<A: Allocator> Model for KnownLines<A> {
 impl<A: Allocator + Copy + Drop> KnownLines<A> {
     ghost use Rattle.ng_session.specs.BareBlock.{block_on};
     ghost use Rattle.ng_session.specs.Planned.{PlannedModel, IsKnownOf, base_after, forgotten, forgotten_for};
-    ghost use Rattle.ng_session.specs.Session.{after_current_block};
+    ghost use Rattle.ng_session.specs.Ticking.{after_current_block};
     ghost use Rattle.ng_session.specs.SessionInvariant.{IsSessionInvariant};
 
     /// What is known of every program, with memory for all lines that are read ahead and the table that they are

@@ -1,6 +1,6 @@
 //! A session: what a controller keeps between two events, and what each event leads to.
 //!
-//! `step` in `specs/Session.antt` defines for each event the reply, what is handed out and committed, and the session
+//! `step` in `specs/Step.antt` defines for each event the reply, what is handed out and committed, and the session
 //! after it. `specs/Fold.antt` defines what the plain interpreter makes of what was committed. `Session` has a method
 //! for each operation of which an event consists, and its contract says that it does what the definition says. The
 //! crate names no device. What is to be written is returned to the caller, and the session changes after that is

@@ -35,7 +35,8 @@ fn after_load<A: Allocator + Copy + Drop>(
 impl<A: Allocator + Copy + Drop> Session<A> {
     ghost use Rattle.std.specs.Prelude.{None, true, IfNone};
     ghost use Rattle.ng_session.specs.SessionInvariant.{IsSessionInvariant};
-    ghost use Rattle.ng_session.specs.Session.{accepts_load, load, load_refusal, loaded};
+    ghost use Rattle.ng_session.specs.Session.{accepts_load};
+    ghost use Rattle.ng_session.specs.Operator.{load, load_refusal, loaded};
 
     /// Why a program of these bytes can't be loaded now: K1 if the session isn't at rest or a block is half-done, J5 if
     /// the device takes fewer.

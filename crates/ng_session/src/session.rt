@@ -1,7 +1,7 @@
 //! A session: what a controller keeps between two events.
 ghost use Rattle.std.specs.Prelude.{◌≡◌, ◌≤◌, List, ℕ};
 ghost use Rattle.std.specs.Option.{option_map};
-ghost use Rattle.ng_session.specs.Session.{point_shown, point_known_shown, half_shown};
+ghost use Rattle.ng_session.specs.Operator.{point_shown, point_known_shown, half_shown};
 ghost use Rattle.ng_layout.specs.Limits.{greatest_count};
 
 use crate::activity::Activity;
@@ -52,7 +52,8 @@ impl<A: Allocator + Copy + Drop> Session<A> {
     ghost use Rattle.std.specs.Prelude.{None};
     ghost use Rattle.ng_layout.specs.Storable.{IsStorable};
     ghost use Rattle.ng_session.specs.SessionInvariant.{IsSessionInvariant};
-    ghost use Rattle.ng_session.specs.Session.{resting, is_at_rest, accepts_load, refuses_mdi, start, hold, resume_held, session_status};
+    ghost use Rattle.ng_session.specs.Session.{resting, is_at_rest, accepts_load};
+    ghost use Rattle.ng_session.specs.Operator.{refuses_mdi, start, hold, resume_held, session_status};
 
     /// A session at power on: at rest, over the stored state. Nothing is allocated.
     pub fn new(stored: Stored<A>) -> Session<A>

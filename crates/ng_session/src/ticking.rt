@@ -14,7 +14,9 @@ impl<A: Allocator + Copy + Drop> Session<A> {
     ghost use Rattle.ng_layout.specs.Storable.{IsStorableHalf};
     ghost use Rattle.ng_canon.specs.declared.geometry.Geometry.{Geometry};
     ghost use Rattle.ng_session.specs.SessionInvariant.{IsNextEntry};
-    ghost use Rattle.ng_session.specs.Session.{CurrentBlockModel, answers, tick, is_running, item_of, handed, opening_of, opening_reply, opened, committed, rest};
+    ghost use Rattle.ng_session.specs.Session.{CurrentBlockModel, answers, is_running};
+    ghost use Rattle.ng_session.specs.Ticking.{tick, item_of, handed, opening_of, opening_reply, opened, committed};
+    ghost use Rattle.ng_session.specs.Ticking.{rest};
 
     /// Whether the session is held. Then a Tick moves, opens, commits and begins nothing.
     pub fn is_held(&self) -> bool

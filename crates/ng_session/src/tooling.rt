@@ -27,7 +27,8 @@ fn is_tool_length(tool_length: Len) -> bool
 impl<A: Allocator + Copy + Drop> Session<A> {
     ghost use Rattle.std.specs.Prelude.{None, IfNone, true};
     ghost use Rattle.ng_layout.specs.Tools.{takes_slot};
-    ghost use Rattle.ng_session.specs.Session.{accepts_load, tool_refusal};
+    ghost use Rattle.ng_session.specs.Session.{accepts_load};
+    ghost use Rattle.ng_session.specs.Operator.{tool_refusal};
 
     /// Why a tool's length for a slot is refused now: K1 if the session isn't at rest or a block is half-done; B14 if
     /// the slot is neither in the table nor the one after its last, or is past the greatest; E3 if the length isn't

@@ -3,7 +3,8 @@ use Rattle.std.specs.Prelude.{◌≡◌, ℕ, List, Result, IfOk, IfSome}
 use Rattle.ng_rig.specs.Trace.{Trace}
 use Rattle.ng_layout.specs.Stored.{DurableState}
 use Rattle.ng_journal.specs.Journal.{JournalModel, IsDurablyAt}
-use Rattle.ng_session.specs.Session.{SessionModel, next_place_after}
+use Rattle.ng_session.specs.Session.{SessionModel}
+use Rattle.ng_session.specs.Operator.{next_place_after}
 
 -- the next line begins there
 abbrev pub IsNextLineAt : List ℕ → SessionModel → ℕ → Type 0

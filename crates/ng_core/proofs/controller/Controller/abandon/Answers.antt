@@ -6,7 +6,8 @@ use Rattle.ng_layout.specs.Stored.{StoredModel}
 use Rattle.ng_layout.specs.Update.{updated}
 use Rattle.ng_journal.specs.Storing.{ledger_of}
 use Rattle.ng_session.specs.Entries.{Abandoned, after_abandon}
-use Rattle.ng_session.specs.Session.{SessionModel, commits, abandon, abandon_unless, abandon_refusal}
+use Rattle.ng_session.specs.Session.{SessionModel, commits}
+use Rattle.ng_session.specs.Operator.{abandon, abandon_unless, abandon_refusal}
 use Rattle.ng_session.specs.SessionInvariant.{IsNextEntry}
 use Rattle.ng_core.specs.Causes.{IsCausedBy}
 use Rattle.ng_core.specs.Model.{ControllerModel}

@@ -1,7 +1,8 @@
 use Rattle.std.proofs.Common.{◌≡◌, ℕ, List, [], Ok, refl, ◌∙◌, ap, subst}
 use Rattle.ng_canon.specs.declared.geometry.Geometry.{Geometry}
 use Rattle.ng_session.proofs.PlannedLineLemmas.{plan_answered}
-use Rattle.ng_session.specs.Session.{SessionModel, step, TakesMemory, AsksDevice, NeedsProgramLine}
+use Rattle.ng_session.specs.Session.{SessionModel}
+use Rattle.ng_session.specs.Step.{step, TakesMemory, AsksDevice, NeedsProgramLine}
 use Rattle.ng_core.specs.Model.{ControllerModel}
 use Rattle.ng_core.specs.Events.{CarriesOutEvent}
 use Rattle.ng_core.proofs.QuietEventLemmas.{still_step, quiet_unread}

@@ -2,7 +2,8 @@ use Rattle.std.proofs.Common.{◌≡◌, ℕ, List, Ok, refl, ◌∙◌, ap}
 use Rattle.ng_text.specs.Programs.{program_line_at}
 use Rattle.ng_canon.specs.declared.geometry.Geometry.{Geometry}
 use Rattle.ng_session.specs.Planned.{IsBegunAhead}
-use Rattle.ng_session.specs.Session.{begin, is_running}
+use Rattle.ng_session.specs.Session.{is_running}
+use Rattle.ng_session.specs.Ticking.{begin}
 use Rattle.ng_core.specs.Model.{ControllerModel}
 use Rattle.ng_core.proofs.ReadAheadLemmas.{carried_ahead, stored_ahead}
 use Rattle.ng_core.proofs.CarriesOutLemmas.{carried_as}

@@ -2,7 +2,8 @@ use Rattle.std.proofs.Common.{ℕ, List, Ok, Err, sym, subst}
 use Rattle.std.proofs.lemmas.Result.{err_from_is_err_and}
 use Rattle.ng_num.specs.declared.fault.Fault.{Fault}
 use Rattle.ng_text.specs.Programs.{program_line_at}
-use Rattle.ng_session.specs.Session.{Transition, begin}
+use Rattle.ng_session.specs.Session.{Transition}
+use Rattle.ng_session.specs.Ticking.{begin}
 use Rattle.ng_session.specs.declared.reply.Reply.{Reply}
 use Rattle.ng_session.specs.declared.reply.Reply.TheVariants as reply
 use Rattle.ng_core.specs.Needs.{needs_line}

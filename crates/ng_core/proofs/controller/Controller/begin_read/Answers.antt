@@ -6,7 +6,8 @@ use Rattle.ng_journal.specs.Storing.{Ledger, ledger_of}
 use Rattle.ng_canon.specs.declared.geometry.Geometry.{Geometry}
 use Rattle.ng_session.specs.Planned.{KnownModel, IsKnownOf}
 use Rattle.ng_session.proofs.PlannedLineLemmas.{plan_none}
-use Rattle.ng_session.specs.Session.{SessionModel, begin, is_running}
+use Rattle.ng_session.specs.Session.{SessionModel, is_running}
+use Rattle.ng_session.specs.Ticking.{begin}
 use Rattle.ng_core.specs.Model.{ControllerModel}
 use Rattle.ng_core.proofs.LineBeginLemmas.{Reading, finding_both, does_begin, does_begin_unfound, does_begin_unread, begun_line, known_after}
 use Rattle.ng_core.proofs.CarriesOutLemmas.{carried_as, carried_lost}

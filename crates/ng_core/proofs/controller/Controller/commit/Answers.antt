@@ -8,7 +8,8 @@ use Rattle.ng_journal.specs.Storing.{ledger_of}
 use Rattle.ng_canon.specs.declared.geometry.Geometry.{Geometry}
 use Rattle.ng_session.specs.Planned.{base_of}
 use Rattle.ng_session.proofs.PlannedLineLemmas.{committed_base, plan_as}
-use Rattle.ng_session.specs.Session.{SessionModel, Transition, end}
+use Rattle.ng_session.specs.Session.{SessionModel, Transition}
+use Rattle.ng_session.specs.Ticking.{end}
 use Rattle.ng_session.specs.declared.reply.Reply.TheVariants as reply
 use Rattle.ng_core.specs.Model.{ControllerModel}
 use Rattle.ng_rig.proofs.GuaranteeLemmas.{meaning}

@@ -2,7 +2,9 @@ use Rattle.std.proofs.Common.{◌≡◌, ℕ, true, false, List, Option, Ok, ref
 use Rattle.std.specs.Option.{is_some}
 use Rattle.ng_text.specs.Programs.{program_line_at}
 use Rattle.ng_canon.specs.declared.geometry.Geometry.{Geometry}
-use Rattle.ng_session.specs.Session.{CurrentBlockModel, end, begin, is_running, rest, has_work, IsBetweenLines}
+use Rattle.ng_session.specs.Session.{CurrentBlockModel, is_running}
+use Rattle.ng_session.specs.Ticking.{end, begin, rest}
+use Rattle.ng_session.specs.Step.{has_work, IsBetweenLines}
 use Rattle.ng_core.specs.Model.{ControllerModel}
 use Rattle.ng_core.specs.Needs.{needs_of_work}
 use Rattle.ng_core.specs.Events.{CarriesOut}

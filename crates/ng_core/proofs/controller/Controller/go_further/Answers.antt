@@ -1,6 +1,8 @@
 use Rattle.std.proofs.Common.{◌≡◌, ℕ, true, List, Option, Some, None, sym, ◌∙◌, ap}
 use Rattle.ng_layout.specs.Stored.{HalfModel}
-use Rattle.ng_session.specs.Session.{open_next, end, opening_of, is_running, has_work, IsBetweenLines}
+use Rattle.ng_session.specs.Session.{is_running}
+use Rattle.ng_session.specs.Ticking.{open_next, end, opening_of}
+use Rattle.ng_session.specs.Step.{has_work, IsBetweenLines}
 use Rattle.ng_core.specs.Model.{ControllerModel}
 use Rattle.ng_core.proofs.CarriesOutLemmas.{carried_to}
 use Rattle.ng_core.proofs.TickChoiceLemmas.{segment_opens}

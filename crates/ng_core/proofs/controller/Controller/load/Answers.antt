@@ -7,7 +7,8 @@ use Rattle.ng_journal.specs.Journal.{with_own_limit}
 use Rattle.ng_journal.specs.Storing.{ledger_of}
 use Rattle.ng_canon.specs.declared.geometry.Geometry.{Geometry}
 use Rattle.ng_session.proofs.PlannedLineLemmas.{plan_none}
-use Rattle.ng_session.specs.Session.{SessionModel, load, load_unless, load_refusal, loaded}
+use Rattle.ng_session.specs.Session.{SessionModel}
+use Rattle.ng_session.specs.Operator.{load, load_unless, load_refusal, loaded}
 use Rattle.ng_session.specs.declared.reply.Reply.{Reply}
 use Rattle.ng_session.specs.declared.reply.Reply.TheVariants as reply
 use Rattle.ng_core.specs.Model.{ControllerModel}

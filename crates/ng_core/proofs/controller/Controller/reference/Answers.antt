@@ -6,7 +6,8 @@ use Rattle.ng_layout.specs.Update.{updated}
 use Rattle.ng_journal.specs.Storing.{ledger_of}
 use Rattle.ng_canon.specs.declared.geometry.Geometry.{Geometry}
 use Rattle.ng_session.specs.Entries.{Referenced, after_reference}
-use Rattle.ng_session.specs.Session.{SessionModel, commits, reference, reference_unless, reference_refusal}
+use Rattle.ng_session.specs.Session.{SessionModel, commits}
+use Rattle.ng_session.specs.Operator.{reference, reference_unless, reference_refusal}
 use Rattle.ng_session.specs.SessionInvariant.{IsNextEntry}
 use Rattle.ng_core.specs.Causes.{IsCausedBy}
 use Rattle.ng_core.specs.Model.{ControllerModel}

@@ -3,7 +3,9 @@ use Rattle.std.proofs.lemmas.Result.{err_from_is_err_and}
 use Rattle.ng_num.specs.declared.fault.Fault.{Fault}
 use Rattle.ng_journal.specs.Storing.{ledger_of}
 use Rattle.ng_canon.specs.declared.geometry.Geometry.{Geometry}
-use Rattle.ng_session.specs.Session.{SessionModel, refuses, resume, resume_refusal, IsProgramsLine}
+use Rattle.ng_session.specs.Session.{SessionModel, refuses}
+use Rattle.ng_session.specs.Operator.{resume, resume_refusal}
+use Rattle.ng_session.specs.Step.{IsProgramsLine}
 use Rattle.ng_session.specs.declared.reply.Reply.TheVariants as reply
 use Rattle.ng_core.specs.Model.{ControllerModel}
 use Rattle.ng_core.proofs.CarriesOutLemmas.{carried_as, carried_lost}

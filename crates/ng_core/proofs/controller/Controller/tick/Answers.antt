@@ -1,6 +1,7 @@
 use Rattle.std.proofs.Common.{◌≡◌, ℕ, true, false, List, sym, ◌∙◌, ap}
 use Rattle.ng_canon.specs.declared.geometry.Geometry.{Geometry}
-use Rattle.ng_session.specs.Session.{tick, has_work, IsBetweenLines}
+use Rattle.ng_session.specs.Ticking.{tick}
+use Rattle.ng_session.specs.Step.{has_work, IsBetweenLines}
 use Rattle.ng_core.specs.Model.{ControllerModel}
 use Rattle.ng_core.proofs.CarriesOutLemmas.{carried_as, carried_held, carried_item, carried_further}
 use Rattle.ng_core.proofs.controller.Controller.tick.Goals as goal

@@ -5,7 +5,8 @@ use Rattle.ng_layout.specs.Stored.{StoredModel}
 use Rattle.ng_layout.specs.Update.{updated}
 use Rattle.ng_journal.specs.Storing.{ledger_of}
 use Rattle.ng_session.specs.Entries.{Tooled, after_tool}
-use Rattle.ng_session.specs.Session.{SessionModel, commits, tool, tool_unless, tool_refusal}
+use Rattle.ng_session.specs.Session.{SessionModel, commits}
+use Rattle.ng_session.specs.Operator.{tool, tool_unless, tool_refusal}
 use Rattle.ng_session.specs.SessionInvariant.{IsNextEntry}
 use Rattle.ng_core.specs.Causes.{IsCausedBy}
 use Rattle.ng_core.specs.Model.{ControllerModel}

@@ -1,6 +1,6 @@
 use Rattle.std.proofs.Common.{◌≡◌, Some, sym, ◌∙◌, ap}
 use Rattle.ng_session.specs.BareBlock.{BareBlock, block_on, left_of}
-use Rattle.ng_session.specs.Session.{opening_on, segment_open}
+use Rattle.ng_session.specs.Ticking.{opening_on, segment_open}
 use Rattle.ng_session.specs.declared.stage.Stage.{Stage}
 use Rattle.ng_session.specs.declared.stage.Stage.TheVariants.{ToApproach, OnBlock}
 use Rattle.ng_session.proofs.current_block.CurrentBlock.opening.Goals as goal
