@@ -334,8 +334,8 @@ class Pictured:
 
 
 def state_of(session: PageSession, page: str = "") -> dict:
-    """All that a page shows and that changes. Where something begins or ends meanwhile it is read anew, so that no state
-    has one part of before and another of after; but not for ever, since a page has to see something."""
+    """All that a page shows and that changes. Where something begins or ends meanwhile it is read anew, so that no part
+    of a state is of before and another of after; but not for ever, since a page has to see something."""
     for _ in range(_MOST_READINGS):
         moment, state = session.moment(), Pictured(session, page).plain()
         if session.moment() == moment:
