@@ -1,5 +1,5 @@
 //! Text that waits before it is written.
-ghost use Rattle.std.specs.Prelude.{◌≡◌, [], OnOk, OnErr};
+ghost use Rattle.std.specs.Prelude.{◌≡◌, ◌≤◌, ◌<◌, [], length, IsOk, OnOk, OnErr};
 ghost use Rattle.ng_streams.specs.Waiting.{FlushSpec};
 
 use crate::writing::write_out;
@@ -28,7 +28,7 @@ pub fn flush<W: Write, A: Allocator + Copy + Drop>(
 }
 
 /// Writes the text that waits if it has `full` bytes or more; fewer go on waiting. Fails as `flush` does, with all of
-/// the text still in `text`.
+/// the text still in `text`; with fewer than `full` bytes it doesn't fail, and writes nothing.
 #[inline(always)]
 pub fn relieve<W: Write, A: Allocator + Copy + Drop>(
     text: &mut Vec<u8, A>,
@@ -36,6 +36,9 @@ pub fn relieve<W: Write, A: Allocator + Copy + Drop>(
     full: usize,
 ) -> io::Result<()>
     ensures moves { FlushSpec (W.contents writer.old) (W.contents writer.new) text.old.items text.new.items result }
+    ensures full { full ≤ length text.old.items → OnOk result (text.new.items ≡ []) }
+    ensures few { length text.old.items < full
+        → IsOk result × (text.new.items ≡ text.old.items) × (W.contents writer.new ≡ W.contents writer.old) }
     ensures kept { OnErr result (text.new.items ≡ text.old.items) }
 {
     if text.len() < full {
