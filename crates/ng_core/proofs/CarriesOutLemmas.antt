@@ -2,7 +2,7 @@
 use Rattle.std.proofs.Common.{◌≡◌, ◌⊎◌, inl, inr, ℕ, true, false, List, [], Option, Some, None, Result, Ok, Err, refl, sym, ◌∙◌, ap, subst}
 use Rattle.std.proofs.lemmas.Result.{IfErr-weaker}
 use Rattle.std.specs.Option.{is_some}
-use Rattle.std.specs.Prelude.{IfOk, IfErr, MatchOption}
+use Rattle.std.specs.Prelude.{IfOk, IfErr}
 use Rattle.ng_num.specs.declared.fault.Fault.{Fault}
 use Rattle.ng_num.specs.declared.fault.Fault.TheVariants.{DeviceFailed, CountersUsed, OutOfMemory}
 use Rattle.ng_canon.specs.declared.item.Item.{Item}
@@ -272,8 +272,3 @@ module _ {R : Type 0} (seen : R → Device) where
       (subst (λ (s : SessionModel). CarriesOut seen (needs_of_work s)
       (λ program. open_next old.geometry program s (opening_of s.current)) answer (with_session old s) new) same
       c)
-
--- what holds if there is a value
-pub by_some : {T : Type 0} (P : Type 0) (Q : T → Type 0) (o : Option T) → true ≡ is_some o → MatchOption o P Q → (x : T) × Q x
-by_some P Q None some m = absurd (let b : true ≡ false = some in cc)
-by_some P Q (Some x) some m = (x, m)

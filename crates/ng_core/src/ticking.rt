@@ -118,16 +118,17 @@ impl<R: Rig, A: Allocator + Copy + Drop> Controller<R, A> {
         }
     }
 
-    /// With nothing left to open: commits the approach or the current block. If there is no current block, begins the
-    /// program's next line, if the program runs.
+    /// With nothing left to open: commits the approach or the current block, after the new state is stored. If there is
+    /// no current block, begins the program's next line, if the program runs.
     fn end(&mut self) -> Result<Reply, Fault>
         requires { self.old.journal.broken ≡ false }
         ensures { CarriesOut R.seen (needs_of_work self.old.session)
             (λ program. end self.old.geometry program self.old.session self.old.session.current)
             result self.old self.new }
     {
-        if self.session.after().is_some() {
-            return self.commit();
+        if let Some(update) = self.session.after() {
+            self.journal.commit_update(&update)?;
+            return Ok(self.session.commit());
         }
         if self.session.is_running() {
             return self.begin_next();
@@ -156,21 +157,6 @@ impl<R: Rig, A: Allocator + Copy + Drop> Controller<R, A> {
     {
         self.journal.open_segment(&half)?;
         Ok(self.session.open(half, &self.geometry))
-    }
-
-    /// Commits the current block or its approach, after the new state is stored.
-    fn commit(&mut self) -> Result<Reply, Fault>
-        requires whole { self.old.journal.broken ≡ false }
-        requires block { IsSome self.old.session.current }
-        ensures { CarriesOut R.seen needs_device
-            (λ program. end self.old.geometry program self.old.session self.old.session.current)
-            result self.old self.new }
-    {
-        let Some(update) = self.session.after() else {
-            unreachable!()
-        };
-        self.journal.commit_update(&update)?;
-        Ok(self.session.commit())
     }
 
     /// Begins the program's next line, which was read ahead or is read now, or stops the program at the end of its
