@@ -1,7 +1,6 @@
 -- What a Tick chooses is what it does.
 use Rattle.std.proofs.Common.{◌≡◌, ℕ, true, false, List, [], ◌∷◌, Option, Some, None, Result, Ok, Err, refl, sym, ◌∙◌, ap, subst}
-use Rattle.std.specs.Option.{is_some}
-use Rattle.std.specs.Prelude.{IfErr, IfSome, IsSome, MatchOption}
+use Rattle.std.specs.Prelude.{IfErr, IfSome, IsSome}
 use Rattle.ng_num.specs.declared.fault.Fault.{Fault}
 use Rattle.ng_num.specs.declared.fault.Fault.TheVariants.{DeviceFailed}
 use Rattle.ng_canon.specs.declared.item.Item.{Item}
@@ -84,8 +83,3 @@ segment_opens o half is = subst (λ (x : Option HalfModel). IfSome x (λ h. IsSo
 pub begins_there : (q : Geometry) (P : List ℕ) (s : SessionModel) → s.current ≡ None → is_running s.activity ≡ true
     → end q P s s.current ≡ begin q P s (program_line_at P s.stored.place)
 begins_there q P s none runs = ap (λ (o : Option CurrentBlockModel). end q P s o) none ∙ rw runs refl
-
--- what holds if there is no value
-pub by_none : {T P : Type 0} (Q : T → Type 0) (o : Option T) → false ≡ is_some o → MatchOption o P Q → P
-by_none Q None none p = p
-by_none Q (Some x) none q = absurd (let b : false ≡ true = none in cc)
