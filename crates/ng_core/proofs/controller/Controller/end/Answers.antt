@@ -35,9 +35,9 @@ use Rattle.ng_core.proofs.controller.Controller.end.Goals as goal
 of_work : {R : Type 0} (seen : R → Device) (answer : Result Reply Fault) (old new : ControllerModel R)
     → is_some old.session.current ≡ true
     → CarriesOut seen needs_device
-      (λ (program : List ℕ). end old.geometry program old.session old.session.current) answer old new
+    (λ (program : List ℕ). end old.geometry program old.session old.session.current) answer old new
     → CarriesOut seen (needs_of_work old.session)
-      (λ (program : List ℕ). end old.geometry program old.session old.session.current) answer old new
+    (λ (program : List ℕ). end old.geometry program old.session old.session.current) answer old new
 of_work seen answer old new block carried =
     carried_to seen ⊥ ⊥ (Unit {0}) (has_work old.session ≡ true) ⊥ (IsBetweenLines old.session)
     (λ (program : List ℕ). end old.geometry program old.session old.session.current)
