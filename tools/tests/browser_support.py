@@ -20,7 +20,8 @@ _LOOKS = int(PATIENCE_S / _APART_S)
 _LONGEST_S = 20 * PATIENCE_S
 _KEYS = {"ArrowLeft": 37, "ArrowUp": 38, "ArrowRight": 39, "ArrowDown": 40, "PageUp": 33, "PageDown": 34, "+": 107,
          "-": 109, "x": 88, "y": 89, "z": 90, "a": 65}
-NAMES = ("chromium", "chromium-browser", "google-chrome")
+NAMES = ("chromium-headless-shell", "chromium", "chromium-browser", "google-chrome")
+"""The first has no window and takes half the processor time: Debian's package of that name."""
 WORDS = ("--headless=new", "--no-sandbox", "--disable-gpu", "--no-first-run", "--disable-background-networking",
          "--disable-component-update", "--disable-sync", "--disable-extensions", "--hide-scrollbars", "--mute-audio",
          "--disable-dev-shm-usage", "--remote-debugging-pipe")

@@ -1,7 +1,9 @@
 """What a device stands for, by docs/DEVICE.md: formats 1 and 2. It is read here, never written."""
 import fcntl
 import struct
-from dataclasses import dataclass, field, fields
+from dataclasses import dataclass, field, fields, replace
+from functools import cached_property
+from itertools import islice
 from pathlib import Path
 from typing import Any
 
@@ -25,6 +27,7 @@ LENGTHS = range(10**9 + 1)
 _COUNTS = range(9_999_999_999_999 + 1)
 _SIGNED = range(-9_999_999_999_999, 9_999_999_999_999 + 1)
 _COUNTERS = range(10**12 + 1)
+_EPOCH = struct.Struct(f"<Q{SECTOR - 8}x")  # a sector of the log, as far as it says whose it is
 
 Limits = range | tuple[int, ...]
 
@@ -37,6 +40,14 @@ class Field:
     kind: str
     limits: Limits
     label: str
+
+    def holds(self, value: int | tuple[int, ...]) -> bool:
+        """Whether its number, or each of its numbers, is within the limits."""
+        return value in self.limits if isinstance(value, int) else all(number in self.limits for number in value)
+
+    def end(self) -> int:
+        """The byte after it."""
+        return self.byte + struct.calcsize(f"<{self.kind}")
 
 
 def _stored(byte: int, kind: str, limits: Limits, label: str) -> Any:
@@ -115,12 +126,11 @@ class State:
     @staticmethod
     def read(image: bytes, byte: int) -> "State":
         """The state field that begins at a byte of an image. Limits aren't looked at."""
-        values = {}
-        for name, stored in STATE.items():
-            found = struct.unpack_from("<" + stored.kind, image, byte + stored.byte)
-            values[name] = found if len(found) > 1 else found[0]
-        text = image[byte + 200:byte + 456][:values["half_bytes"]] if values["half"] else b""
-        return State(**values, half_text=text)
+        numbers = iter(_PACKED.unpack_from(image, byte))
+        state = State(*(next(numbers) if many == 1 else tuple(islice(numbers, many)) for many in _MANY), b"")
+        if not state.half:
+            return state
+        return replace(state, half_text=image[byte + 200:byte + 456][:state.half_bytes])
 
     def numbers(self, name: str) -> tuple[int, ...]:
         """The numbers of a field, one or more."""
@@ -133,21 +143,28 @@ class State:
 
     def damage(self, length: int) -> list[str]:
         """What is out of its range, the program having `length` bytes."""
-        names = tuple(STATE)
-        unread = () if self.half else names[names.index("half_bytes"):]
-        if not self.half_known:
-            unread += ("half_point_nm",)
         found = [self.said(name) for name, stored in STATE.items()
-                 if name not in unread and any(number not in stored.limits for number in self.numbers(name))]
+                 if not stored.holds(getattr(self, name)) and self._counts(name)]
         if length < self.place <= MOST_LARGE_PROGRAM:
             found.append(f"{self.said('place')} of {length} bytes")
         if (self.opened or self.half_known) and not self.half or self.opened and self.half_known:
             found.append(self.said("half", "opened", "half_known"))
         return found
 
+    def _counts(self, name: str) -> bool:
+        """Whether a field says something: of a half-done block only where there is one."""
+        if name == "half_point_nm":
+            return bool(self.half and self.half_known)
+        return bool(self.half) or name not in ("half_bytes", "segment")
+
 
 STATE: dict[str, Field] = {each.name: each.metadata["field"] for each in fields(State) if each.metadata}
 """The fields of a state by their names in `State`, in the order of the page."""
+
+_PACKED = struct.Struct("<" + "".join(f"{each.byte - before}x{each.kind}" for each, before in zip(
+    STATE.values(), (0, *(each.end() for each in STATE.values())), strict=False)))
+_MANY = [len(struct.unpack(f"<{each.kind}", bytes(each.end() - each.byte))) for each in STATE.values()]
+"""How many numbers each field has."""
 
 
 @dataclass(frozen=True, slots=True)
@@ -164,8 +181,8 @@ class Device:
 
     `is_large` says that it has the sectors of a large device. `header` is the one in force, `headers` those in sectors
     0 and 1, None if none is valid; `snapshot` is the state at its checkpoint, `records` the log's, which ends before
-    sector `end`, and `state` what stands after them. `parameters` are 1 to 5399 in millionths, `tools_nm` the lengths
-    of slots 1, 2 .., `program` its text. `torn` are sectors of a record that isn't complete. `damage` says what is out
+    sector `end`, and `state` what stands after them. `tools_nm` are the lengths of slots 1, 2 .., `program` is its text.
+    `torn` are sectors of a record that isn't complete. `damage` says what is out
     of its range (J3); if it isn't empty, the rest is as found."""
 
     def __init__(self, image: bytes) -> None:
@@ -189,8 +206,9 @@ class Device:
         while parts := self._complete(self.end):
             self._take_record(parts)
         self.state = self.records[-1].state if self.records else self.snapshot
-        self.torn = [sector for sector in range(self.end, LOG_END[self.format])
-                     if struct.unpack_from("<Q", image, SECTOR * sector)[0] == self.epoch]
+        rest = memoryview(image)[SECTOR * self.end:SECTOR * LOG_END[self.format]]
+        self.torn = [sector for sector, (epoch,) in enumerate(_EPOCH.iter_unpack(rest), self.end)
+                     if epoch == self.epoch]
 
     @staticmethod
     def read(path: str | Path) -> "Device":
@@ -198,6 +216,11 @@ class Device:
         with naming(path), opened(path, may_be_disk=True) as file:
             image = file.read(LARGE_SIZE)
         return Device(image)
+
+    @cached_property
+    def parameters(self) -> dict[int, int]:
+        """1 to 5399, in millionths."""
+        return dict(enumerate(self._at_checkpoint, 1)) | self._changed
 
     @property
     def selected(self) -> int:
@@ -238,10 +261,11 @@ class Device:
         self.snapshot = State.read(image, SECTOR * first)
         self._note(f"sector {first}", self.snapshot.damage(self.header.length))
         values = struct.unpack_from("<5399q", image, SECTOR * (first + 1))
-        self.parameters = dict(enumerate(values, 1))
-        for index, value in self.parameters.items():
-            if value not in _SIGNED:
-                self.damage.append(f"sector {first + 1 + (index - 1) // 64}: #{index} {value}")
+        self._at_checkpoint, self._changed = values, dict[int, int]()
+        wrong = {value for value in set(values) if value not in _SIGNED}
+        if wrong:
+            self.damage += [f"sector {first + 1 + (index - 1) // 64}: #{index} {value}"
+                            for index, value in enumerate(values, 1) if value in wrong]
         self.tools_nm: list[int] = []
         if self.format == 1:
             return
@@ -276,8 +300,8 @@ class Device:
         for change in range(struct.unpack_from("<H", self.image, SECTOR * first + 20)[0]):
             sector = first + 1 + change // 48
             index, value = struct.unpack_from("<Hq", self.image, SECTOR * sector + 32 + 10 * (change % 48))
-            if index in self.parameters and value in _SIGNED:
-                self.parameters[index] = value
+            if 1 <= index <= len(self._at_checkpoint) and value in _SIGNED:
+                self._changed[index] = value
             else:
                 self.damage.append(f"sector {sector}, record {number}: change {change}, #{index} {value}")
         self.records.append(LogRecord(first, parts, state))
