@@ -2,7 +2,7 @@
 import fcntl
 import struct
 from dataclasses import dataclass, field, fields, replace
-from functools import cached_property
+from functools import cached_property, lru_cache
 from itertools import islice
 from pathlib import Path
 from typing import Any
@@ -27,6 +27,7 @@ LENGTHS = range(10**9 + 1)
 _COUNTS = range(9_999_999_999_999 + 1)
 _SIGNED = range(-9_999_999_999_999, 9_999_999_999_999 + 1)
 _COUNTERS = range(10**12 + 1)
+STATE_BYTES = 456  # of a state field
 _EPOCH = struct.Struct(f"<Q{SECTOR - 8}x")  # a sector of the log, as far as it says whose it is
 
 Limits = range | tuple[int, ...]
@@ -124,13 +125,11 @@ class State:
         return Switch(self.spindle, self.speed, bool(self.mist), bool(self.flood), self.selected, self.slot)
 
     @staticmethod
-    def read(image: bytes, byte: int) -> "State":
-        """The state field that begins at a byte of an image. Limits aren't looked at."""
-        numbers = iter(_PACKED.unpack_from(image, byte))
+    def read(stored: bytes) -> "State":
+        """The state of a state field's bytes. Limits aren't looked at."""
+        numbers = iter(_PACKED.unpack_from(stored))
         state = State(*(next(numbers) if many == 1 else tuple(islice(numbers, many)) for many in _MANY), b"")
-        if not state.half:
-            return state
-        return replace(state, half_text=image[byte + 200:byte + 456][:state.half_bytes])
+        return replace(state, half_text=stored[_PACKED.size:][:state.half_bytes]) if state.half else state
 
     def numbers(self, name: str) -> tuple[int, ...]:
         """The numbers of a field, one or more."""
@@ -258,8 +257,7 @@ class Device:
     def _take_snapshot(self, first: int) -> None:
         """Reads the snapshot that begins at a sector, and the tool area beside it."""
         image = self.image
-        self.snapshot = State.read(image, SECTOR * first)
-        self._note(f"sector {first}", self.snapshot.damage(self.header.length))
+        self.snapshot = self._state(SECTOR * first, f"sector {first}")
         values = struct.unpack_from("<5399q", image, SECTOR * (first + 1))
         self._at_checkpoint, self._changed = values, dict[int, int]()
         wrong = {value for value in set(values) if value not in _SIGNED}
@@ -293,8 +291,7 @@ class Device:
         """Takes over the record at the log's end."""
         first, number = self.end, len(self.records)
         where = f"sector {first}, record {number}"
-        state = State.read(self.image, SECTOR * first + 32)
-        self._note(where, state.damage(self.header.length))
+        state = self._state(SECTOR * first + 32, where)
         if self.format == 2:
             self._take_slot(first, where)
         for change in range(struct.unpack_from("<H", self.image, SECTOR * first + 20)[0]):
@@ -315,8 +312,19 @@ class Device:
         elif slot:
             self.tools_nm[slot - 1:slot] = [nm]
 
-    def _note(self, where: str, found: list[str]) -> None:
+    def _state(self, byte: int, where: str) -> State:
+        """The state field that begins at a byte, whose damage is noted."""
+        state, found = _state_of(self.image[byte:byte + STATE_BYTES], self.header.length)
         self.damage += [f"{where}: {what}" for what in found]
+        return state
+
+
+@lru_cache(maxsize=LOG_END[1] - LOG_FIRST)
+def _state_of(stored: bytes, length: int) -> tuple[State, tuple[str, ...]]:
+    """A state field by its bytes, and its damage, where the program has `length` bytes. A session reads its device at
+    each command, and the log has most of it from before."""
+    state = State.read(stored)
+    return state, tuple(state.damage(length))
 
 
 def copied(path: str | Path) -> bytes:
