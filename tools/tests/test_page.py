@@ -26,6 +26,7 @@ from session_support import FIRST, PATIENCE_S, TOOLS, InFolder, is_alive, ngc, t
 
 from ngc_tools.cli.page import main
 from ngc_tools.formats.lines import Program
+from ngc_tools.formats.position import millimetres
 from ngc_tools.ngc.console import Console, Status
 from ngc_tools.operator.face import REFUSED, UnderWay
 from ngc_tools.operator.sentences import SWITCHED
@@ -205,9 +206,24 @@ class Work(Served):
         self.assertEqual(page.post("run")[0], 200)
         state = page.until("it is through", lambda state: state["finished"] and not state["busy"])
         self.assertEqual((state["motors"][0], state["detail"]), ("0.000000", "The program ran to its end"))
+        self.runs_again(page)
         self.assertEqual(page.post("quit"), (200, {}))
         self.assertTrue(page.last()["over"])
         self.assertEqual((self.server.wait(PATIENCE_S), self.player.wait(PATIENCE_S)), (0, 0))
+
+    def runs_again(self, page: Page) -> None:
+        """A second run up to the stop in line 4: no state is of the first one, neither that it is done nor its line."""
+        seen: list[tuple[bool, int]] = []
+
+        def stops(state: dict) -> bool:
+            seen.append((state["finished"], state["line"]))
+            return state["does"] == "stopped" and not state["busy"]
+
+        self.assertEqual(page.post("run")[0], 200)
+        page.until("it stops anew", stops)
+        self.assertEqual((sorted(seen), seen[-1]), (seen, (False, 5)))
+        self.assertEqual(page.post("run")[0], 200)
+        page.until("it is through anew", lambda state: state["finished"] and not state["busy"])
 
     def test_remark(self) -> None:
         """At a stop the plain comment above it is shown, and then the one beside it."""
@@ -1174,6 +1190,24 @@ class Shown(unittest.TestCase):
                                                settings=SimpleNamespace(step_nm=[1000] * 3))
             self.assertEqual((pictured._stale() or {"why": ""})["why"], why, word)
             self.assertEqual(pictured._apart, [not why, False, False], word)
+
+    def test_apart_by_a_step(self) -> None:
+        """Of each axis the motors are amber from a whole step on, whatever its size. They rest at their third step: a
+        line that ended less than half a step from there made them stop at it, and any other at another step."""
+        pictured = self.pictured("")
+        for axis, step_nm in enumerate((5000, 3125, 400)):
+            third, half = 3 * step_nm, step_nm // 2
+            for at_nm, is_apart in ((third, False), (third - half, False), (third + half - 1, False),
+                                    (third - half - 1, True), (third + half + 1, True),
+                                    (third - step_nm, True), (third + step_nm, True)):
+                places = ["0.000000"] * 3, ["0.000000"] * 3
+                places[0][axis], places[1][axis] = millimetres(third), millimetres(at_nm)
+                steps = [1000] * 3
+                steps[axis] = step_nm
+                pictured.report = SimpleNamespace(behind=0, waits=False, at=" ".join(places[0]))
+                pictured.status = replace(pictured.status, at=tuple(places[1]))
+                pictured.session = SimpleNamespace(settings=SimpleNamespace(step_nm=steps))
+                self.assertEqual(pictured._apart, [is_apart and one == axis for one in range(3)], (step_nm, at_nm))
 
     def test_old(self) -> None:
         """While something is under way a place that was told a while ago isn't shown as the place now, as where the

@@ -431,19 +431,23 @@ class Work(InBrowser):
         self.no_complaints()
 
     def test_second_run(self) -> None:
-        """A program that ran to its end is done, and isn't any more once it runs again; then it begins at line 1."""
+        """A program that ran to its end is done, and isn't any more once it runs again; then it begins at line 1, and
+        the time that is left is that of the second run."""
         browser, shown = self.browser, "[document.getElementById('share').textContent, document.getElementById('bar')" \
-            ".style.width]"
+            ".style.width, document.getElementById('left').textContent]"
         self.load("G17 G21 G90 G94\nG1 X0.3 F6\nX0\nM2\n", 4)
         browser.press("Run", "#run")
         browser.wait("ngc.state.finished && !ngc.state.busy")
-        self.assertEqual(browser.js(shown), ["Done", "100%"])
+        *done, whole = browser.js(shown)
+        self.assertEqual(done, ["Done", "100%"])
+        self.assertRegex(whole, r"^6\.\d s$")
         browser.hurry()
         browser.press("Run", "#run")
         browser.wait("ngc.state.busy && ngc.state.line === 2 && ngc.state.motors[0] > 0.05")
-        share, width = browser.js(shown)
+        share, width, left = browser.js(shown)
         self.assertRegex(share, r"^\d+ % of 6\.\d s$")
         self.assertLess(float(width.removesuffix("%")), 50)
+        self.assertRegex(left, r"^[3-5]\.\d s left$")
         self.no_complaints()
 
     def test_typed_ahead(self) -> None:
