@@ -146,8 +146,15 @@ class Keys(WithKeys):
         self.assertFalse(browser.js(IS_ON))
 
     def test_a_minute(self) -> None:
-        """A minute without a key turns them off; a key that is held doesn't."""
+        """A minute without a key turns them off, and so does another window in front, of which nothing else is told; a
+        key that is held doesn't."""
         browser = self.browser
+        self.assertEqual([self.is_off_after(ms) for ms in (50_000, 60_000)], [False, True])
+        self.switch_on()
+        browser.js("void (document.hasFocus = () => false)")
+        browser.wait(f"!({IS_ON})")
+        browser.js("void (delete document.hasFocus)")
+        self.switch_on()
         browser.js("void (ngc.keys.ms.off = 3000)")
         self.held("ArrowRight")
         self.repeats("ArrowRight", 4)
@@ -155,6 +162,11 @@ class Keys(WithKeys):
         self.up("ArrowRight")
         browser.wait(f"!({IS_ON})")
         self.rests()
+
+    def is_off_after(self, ms: int) -> bool:
+        """Whether they are off soon after the last key was so long ago."""
+        return bool(self.browser.js(f"(ngc.keys.used = performance.now() - {ms}, new Promise(done => setTimeout(() =>"
+                                    f" done(!({IS_ON})), 100)))"))
 
     def test_two_keys(self) -> None:
         """Another key ends it; none begins before all are let go."""
