@@ -2,6 +2,7 @@
 import fcntl
 import os
 import pty
+import resource
 import select
 import shutil
 import struct
@@ -62,6 +63,12 @@ def is_alive(pid: str) -> bool:
         return Path(f"/proc/{pid}/stat").read_text().rpartition(")")[2].split()[0] != "Z"
     except OSError:
         return False
+
+
+def used_s() -> float:
+    """The processor time of this process, and of those that it started and waited for, in seconds."""
+    both = (resource.getrusage(who) for who in (resource.RUSAGE_SELF, resource.RUSAGE_CHILDREN))
+    return sum(one.ru_utime + one.ru_stime for one in both)
 
 
 @cache

@@ -5,7 +5,7 @@ from pathlib import Path
 
 sys.path.insert(0, str(Path(__file__).resolve().parents[1]))
 
-from ngc_tools.formats.program_text import NotText, ProgramText
+from ngc_tools.formats.program_text import NotText, ProgramText, beginning
 
 UTF_16 = "it is UTF-16, and is written in UTF-8"
 MARK = "the byte order mark before line 1 is left out"
@@ -49,6 +49,18 @@ class Texts(unittest.TestCase):
             text = ProgramText.read(data)
             self.assertEqual((text.lines, text.ends, text.changes), (lines, ends, changes), data)
             self.assertEqual(text.data == data, not changes, data)
+
+    def test_beginning(self) -> None:
+        """The first lines of a long text, whole ones, of 64 KiB at most, whatever its encoding and its lines' ends."""
+        for encoding, mark, end in (("ascii", b"", "\n"), ("ascii", b"", "\r\n"), ("ascii", b"", "\r"),
+                                    ("utf-8", b"", "\n"), ("utf-16-le", b"\xff\xfe", "\n"),
+                                    ("utf-16-be", b"\xfe\xff", "\r")):
+            line = f"G0 X1{'' if encoding == 'ascii' else chr(0x20ac)}{end}"
+            size = len(line.encode(encoding))
+            count = (65_536 - len(mark)) // size
+            data = mark + (9 * count * line).encode(encoding)
+            self.assertEqual(beginning(data), data[:len(mark) + count * size], (encoding, end))
+            self.assertEqual(beginning(data[:60_000]), data[:60_000])
 
     def test_not_text(self) -> None:
         """Half of a letter, and half of a pair, in UTF-16."""

@@ -58,9 +58,13 @@ class ProgramText:
 
 
 def beginning(data: bytes) -> bytes:
-    """The first lines of a text's bytes, by which a program is told from what is none; all of UTF-16."""
-    is_short = len(data) <= _LONGEST_LINE or data[:2] in _UTF_16_MARKS
-    return data if is_short else data[:data.rfind(b"\n", 0, _LONGEST_LINE) + 1]
+    """The first lines of a text's bytes, by which a program is told from what is none."""
+    if len(data) <= _LONGEST_LINE:
+        return data
+    if codec := _UTF_16_MARKS.get(data[:2]):
+        text = data[2:_LONGEST_LINE].decode(codec, "ignore")
+        return data[:2] + text[:text.rfind("\n") + 1 or text.rfind("\r") + 1].encode(codec)
+    return data[:data.rfind(b"\n", 0, _LONGEST_LINE) + 1 or data.rfind(b"\r", 0, _LONGEST_LINE) + 1]
 
 
 def _decoded(data: bytes) -> tuple[str, str, list[str]]:

@@ -1,5 +1,5 @@
 """A CAM system's text as it is written for `ngc`, and what of it is changed, line by line."""
-from collections.abc import Sequence
+from collections.abc import Callable, Sequence
 from dataclasses import dataclass, replace
 
 from ngc_tools.formats.device import SLOTS
@@ -19,6 +19,7 @@ from ngc_tools.scratch import scratch_file
 NO_PROGRAM = "it isn't G-code: ngc can read hardly any of its first lines"
 """Why a text isn't adapted."""
 _FEW = 20  # lines: of so few each is told
+_HEAD = 200  # lines, of the first of which it is seen whether a text is one of G-code
 
 
 @dataclass(frozen=True, slots=True)
@@ -41,13 +42,14 @@ class Rewritten:
     missing: list[Missing]
 
 
-def rewritten_of(texts: Sequence[str], answers: HomeAnswers) -> Rewritten:
-    """The lines, and all that is needed for them. Raises SharedSlot."""
+def rewritten_of(texts: Sequence[str], answers: HomeAnswers, told: Callable[[int], None] = lambda _: None) -> Rewritten:
+    """The lines, and all that is needed for them; `told` hears the number of each, from 1 on anew where one more thing
+    is needed. Raises SharedSlot."""
     missing: list[Missing] = []
     while True:
         warnings: list[tuple[int, str]] = []
         try:
-            lines = rewritten(texts, answers, lambda number, why: warnings.append((number, why)))
+            lines = rewritten(texts, answers, lambda number, why: warnings.append((number, why)), told)
             return Rewritten(lines, warnings, missing)
         except Missing as error:
             missing.append(error)
@@ -86,12 +88,13 @@ class Adapted:
     warnings: list[tuple[int, str]]
 
 
-def is_none(data: bytes, ask: Ask) -> bool:
+def is_none(data: bytes, ask: Ask, few: int = _FEW) -> bool:
     """Whether a text of more than a few lines is none of G-code, also as its first lines are written for `ngc`. Of a
     long text nothing else is looked at. Raises NotText."""
-    head = ProgramText.read(beginning(data))
-    if len(head.lines) <= _FEW:
+    whole = ProgramText.read(beginning(data))
+    if len(whole.lines) <= few:
         return False
+    head = replace(whole, lines=whole.lines[:_HEAD], ends=whole.ends[:_HEAD])
     try:
         new, _ = whole_text(rewritten_of(head.lines, HomeAnswers()).lines, head)
     except SharedSlot:

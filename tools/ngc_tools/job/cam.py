@@ -13,14 +13,17 @@ from ngc_tools.job.cam_line import LONGEST, CamLine
 from ngc_tools.job.cam_modes import Modes, Named
 
 
-def rewritten(texts: Sequence[str], answers: HomeAnswers, warn: Callable[[int, str], None]) -> list[CamLine]:
+def rewritten(texts: Sequence[str], answers: HomeAnswers, warn: Callable[[int, str], None],
+              told: Callable[[int], None] = lambda _: None) -> list[CamLine]:
     """The lines, each as it is to be written for `ngc`, but for arcs by radius. Raises Missing, SharedSlot.
 
-    `warn` is told of lines that stay and are dangerous or not understood: the number from 1, and why."""
+    `warn` is told of lines that stay and are dangerous or not understood: the number from 1, and why; `told` hears the
+    number of each."""
     whole = cam_program.Whole.of(texts)
     cam_program.look_at_slots(whole, answers)
     writer, lines = _Writer(whole, answers), []
     for number, text in enumerate(texts, 1):
+        told(number)
         with speaking_of(f"line {number}", Missing):
             lines.append(writer.write(text, lambda why, number=number: warn(number, why)))
     cam_program.opening_percent(lines, warn)

@@ -1,18 +1,19 @@
 """What is found of a program, as plain data for a page: what `ngc` refuses, how a CAM system's text is written for it,
 what is dangerous. It begins as a device stands."""
+import re
 from collections.abc import Callable, Iterator
 from dataclasses import asdict, dataclass
 
 from ngc_tools.formats.device import Device
 from ngc_tools.formats.program_text import NotText, ProgramText
 from ngc_tools.formats.settings import Settings
-from ngc_tools.job.adapted import NO_PROGRAM, Adapted, adapted, rewritten_of
+from ngc_tools.job.adapted import NO_PROGRAM, Adapted, adapted, is_none, rewritten_of
 from ngc_tools.job.cam_homes import HomeAnswers, Missing
 from ngc_tools.job.cam_program import SharedSlot
 from ngc_tools.job.danger import Danger
 from ngc_tools.job.dangers import Conditions, dangers
 from ngc_tools.job.marked import carets, goes_on
-from ngc_tools.job.refused import Finding, Lines, find_all, is_no_program
+from ngc_tools.job.refused import Finding, Lines, find_all
 from ngc_tools.ngc import cures, faults
 from ngc_tools.ngc.beginning import Beginning, CannotSetUp
 from ngc_tools.ngc.run import Refusal, refusal
@@ -25,7 +26,9 @@ LIKE = 10
 """So many warnings of one kind are shown."""
 CHANGED = 500
 """So many changed lines are shown."""
+_WRITTEN = 512  # lines are written for `ngc` before that is told
 _RUNS, _RUNS_AFTER_STOPS = 8, 9  # dry runs that look for what is dangerous, about
+_STOP = re.compile(rb"M[ \t]*0*(?:[01]|60)(?![0-9])", re.IGNORECASE)
 
 Told = Callable[[str, int, int], None]
 """Is told what is done, how far it is, and of how much."""
@@ -60,18 +63,16 @@ class Check:
 
     def _refused(self, found: "_Found", text: ProgramText, data: bytes, why: str) -> tuple[dict, bytes]:
         """The same of a text that `ngc` refuses, or can't read."""
-        found.told("adapt", 0, 1)
-        written = None
+        if is_none(data, found.ask, 0):
+            return _unreadable(why or NO_PROGRAM), data
         try:
-            lines = rewritten_of(text.lines, self.answers)
+            lines = rewritten_of(text.lines, self.answers, found.adapts(len(text.lines)))
             if lines.missing:
                 first = found.of(text.data, 1)
                 return first | {"unreadable": why, "adapted": _needed(lines.missing)}, data
             written = adapted(text, lines, found.beginning, self.ngc, self.settings)
         except (SharedSlot, CannotSetUp) as error:
             return found.of(text.data, 1) | {"unreadable": str(error)}, data
-        if is_no_program(Lines(written.text), found.ask):
-            return _unreadable(why or NO_PROGRAM), data
         if not written.changes and not written.whole:
             return found.of(data) | {"unreadable": why}, data
         return found.of(written.text) | {"adapted": _changed(written)}, written.text
@@ -93,6 +94,11 @@ class _Found:
         """What it refuses."""
         return refusal(*self.run(text))
 
+    def adapts(self, count: int) -> Callable[[int], None]:
+        """Tells of every so many lines of a text that it is written for `ngc`."""
+        self.told("adapt", 0, count)
+        return lambda number: self.told("adapt", number, count) if number % _WRITTEN == 0 else None
+
     def of(self, data: bytes, most: int = MOST) -> dict:
         """What is refused and dangerous of a text."""
         refusals = list(self._refusals(Lines(data), most))
@@ -109,7 +115,7 @@ class _Found:
             yield _refused(finding)
 
     def _dangers(self, data: bytes) -> list[Danger]:
-        done, runs = 0, _RUNS + _RUNS_AFTER_STOPS * (b"M0" in data or b"M1" in data or b"M60" in data)
+        done, runs = 0, _RUNS + _RUNS_AFTER_STOPS * (_STOP.search(data) is not None)
 
         def run(part: bytes) -> bytes:
             """One more dry run."""
