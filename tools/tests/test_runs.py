@@ -2,6 +2,7 @@
 import os
 import re
 import sys
+import time
 import unittest
 from pathlib import Path
 from unittest import mock
@@ -21,11 +22,18 @@ WHEN = re.compile(r"\d{4}-\d\d-\d\d \d\d:\d\d:\d\d [-+]\d{4} ")
 class Recorded(Core):
     """Each line without its time."""
 
+    def setUp(self) -> None:
+        """Notes when it began, in whole seconds as the record has them."""
+        super().setUp()
+        self.began_s = int(time.time())
+
     def lines(self) -> list[str]:
-        """Those of the record; each has its time."""
+        """Those of the record; each has its time, and they follow each other."""
         lines = RECORD.read_text().split("\n")
         self.assertEqual(lines.pop(), "")
         self.assertTrue(all(map(WHEN.match, lines)), lines)
+        times = [self.began_s, *(event.at for event in map(RunEvent.read, lines) if event), time.time()]
+        self.assertEqual((len(times), sorted(times)), (len(lines) + 2, times))
         return [re.sub(r"after 0:\d\d", "after 0:NN", WHEN.sub("", line)) for line in lines]
 
     def begin_with_tools(self) -> None:
@@ -43,6 +51,19 @@ class Recorded(Core):
         self.assertEqual(self.lines(), [
             f"loaded 48 bytes, mark {crc32(PART.encode()):08x}: part.ngc", "began part.ngc", "tool 2 is in",
             "stopped before line 5", "went on in line 5", "ended, through, after 0:NN, 1 stop"])
+
+    def test_tool_in(self) -> None:
+        """A run that begins with a tool in the spindle says which, and one that lasts a minute says how long."""
+        self.begin_with_tools()
+        self.load(PART)
+        self.do("T1 M6", "run")
+        with mock.patch("ngc_tools.operator.runs.time") as clock:
+            clock.time.return_value = time.time() + 75
+            self.do("run")
+        self.do("run")
+        self.assertEqual([re.sub("after 1:1[5-9]", "after 1:1N", line) for line in self.lines()[1:]], [
+            "began part.ngc", "tool 1 is in", "tool 2 is in", "stopped before line 5", "went on in line 5",
+            "ended, through, after 1:1N, 1 stop", "began part.ngc", "tool 2 is in", "stopped before line 5"])
 
     def test_held(self) -> None:
         """Holds are counted; a line of one's own is none of the program's; another program gives the first one up."""
@@ -82,9 +103,9 @@ class Recorded(Core):
         self.assertEqual([line.partition(",")[0] for line in self.lines()[-2:]], ["given up", "loaded 7 bytes"])
 
     def test_power_lost(self) -> None:
-        """A run that nobody ended broke off; it goes on by the same name, and the loss is counted."""
+        """A run that nobody ended broke off; it goes on by the same name, and its end counts the loss."""
         self.begin_with_tools()
-        self.load(PART)
+        self.load(PART.replace("M2", "M0\nG0 X3\nM2"))
         self.do("run")
         with mock.patch.object(type(self.operator.runs), "rests"):  # power is lost before that
             self.do("run")
@@ -92,8 +113,11 @@ class Recorded(Core):
         self.cut()
         self.begin(FileLink("2 0 0"))
         self.assertTrue(RECORD.read_bytes().startswith(before))
-        self.assertRegex(self.lines()[-1], r"^broke off in line \d: power was lost, or the session ended amid it$")
-        self.assertEqual((self.operator.runs.run.name, self.operator.runs.run.losses), ("part.ngc", 1))
+        self.assertEqual(self.operator.runs.run.name, "part.ngc")
+        self.do("run")
+        self.assertEqual(self.lines()[-4:], [
+            "broke off in line 7: power was lost, or the session ended amid it", "went on in line 7", "tool 2 is in",
+            "ended, through, after 0:NN, 1 stop, 1 loss of power"])
 
     def test_torn(self) -> None:
         """A last line that was torn stays as it is, is said, and counts for nothing; the next one stands by itself."""

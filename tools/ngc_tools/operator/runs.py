@@ -168,13 +168,21 @@ class Runs:
         status = self.session.console.status()
         if self.session.own or status.half == "mdi" or not self.session.program.text:
             return False
+        name = self.run.name or "the stored program"
         if not status.place and status.half == "none":
-            self._add(f"began {self.run.name or 'the stored program'}")
+            self._begins(f"began {name}")
         elif not self.run.is_open:
-            self._add(f"began {self.run.name or 'the stored program'} in {self._line(status)}")
+            self._begins(f"began {name} in {self._line(status)}")
         elif not self.run.runs:
             self._add(f"went on in {self._line(status)}")
         return True
+
+    def _begins(self, what: str) -> None:
+        """A run begins, perhaps with a tool that is in the spindle already."""
+        self._add(what)
+        self._slot, seen = None, self.session.seen
+        if seen and seen.outputs.slot:
+            self._tool(seen.outputs.slot)
 
     def rests(self, ended: str | None) -> None:
         """The program rests: what ended its work, None for a hold."""
