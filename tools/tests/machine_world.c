@@ -39,7 +39,8 @@ struct solid {
 };
 
 /* What the spindle carries, by its slot, the work, and how far all went. The end of a tool is a ball, whose lowest
- * point hangs `length` below the spindle. While it touches, `input` is high; within `bounces` steps of it by chance. */
+ * point hangs `length` below the spindle. While it touches, `input` is high; within `bounces` steps of it by chance.
+ * Once it was on, and goes off, bodies are felt `grows` steps farther out from then on. */
 struct work {
     int64_t input;
     int64_t bounces;
@@ -51,6 +52,8 @@ struct work {
     int64_t least[3];
     int64_t greatest[3];
     struct solid solids[SOLIDS];
+    int64_t grows;
+    int64_t state;
 };
 
 struct world {
@@ -271,11 +274,14 @@ static uint32_t level(volatile struct toggle *toggle) {
 
 /* The input of what touches the work. */
 static uint32_t touching(void) {
-    volatile const struct work *work = &world->work;
-    double depth = depth_now();
+    volatile struct work *work = &world->work;
+    double depth = depth_now() + (work->state == HAS_MOVED ? (double)work->grows : 0);
     bool is_near = fabs(depth) < (double)work->bounces;
-    bool is_on = is_near ? is_by_chance() : depth >= 0;
-    return is_on && !work->is_dumb && depth > -1e11 ? UINT32_C(1) << work->input : 0;
+    bool is_on = (is_near ? is_by_chance() : depth >= 0) && !work->is_dumb && depth > -1e11;
+    if (work->grows != 0 && work->state != HAS_MOVED) {
+        work->state = is_on ? WAS_ON : work->state == WAS_ON ? HAS_MOVED : WAS_OFF;
+    }
+    return is_on ? UINT32_C(1) << work->input : 0;
 }
 
 int pins_inputs(uint32_t *levels) {

@@ -50,6 +50,7 @@ _HEAD, _TOGGLE = struct.Struct("=8Q3q"), struct.Struct("=4i4q")
 _BACKLASH = _HEAD.size + 8 * _TOGGLE.size
 _WORK = _BACKLASH + 6 * 8
 _DEEPEST, _SOLIDS = _WORK + 12 * 8, _WORK + 19 * 8
+_GROWS = _SOLIDS + 6 * 7 * 8
 BOX, POST, HOLE = 1, 2, 3
 _INPUTS, _PULSES, _AT_PULSE, _TURNED, _IS_ON, _SPEED, _ERROR, _CHANCE = range(8)
 
@@ -60,7 +61,7 @@ class World:
     def __init__(self) -> None:
         """Has switches of X and Y at -10 mm of its own, and of Z at 5 mm; the emergency stop isn't pressed: high."""
         with open("world", "wb") as file:
-            file.write(bytes(_SOLIDS + 6 * 7 * 8))
+            file.write(bytes(_GROWS + 2 * 8))
         with open("world", "r+b") as file:
             self._bytes = mmap.mmap(file.fileno(), 0)
         self.set(_INPUTS, 1 << STOP)
@@ -119,9 +120,11 @@ class World:
         """The slot of what is in the spindle, as the player told it; 0 before it did."""
         return int(struct.unpack_from("=q", self._bytes, _WORK + 24)[0])
 
-    def touching(self, number: int, bounces: int = 0, is_dumb: bool = False) -> None:
-        """Which input is high while that touches a body; within `bounces` steps by chance."""
+    def touching(self, number: int, bounces: int = 0, is_dumb: bool = False, grows: int = 0) -> None:
+        """Which input is high while that touches a body; within `bounces` steps by chance. Behind the first touch, from
+        now on, bodies are felt `grows` steps farther out."""
         struct.pack_into("=3q", self._bytes, _WORK, number, bounces, is_dumb)
+        struct.pack_into("=2q", self._bytes, _GROWS, grows, 0)
 
     def forget_reached(self) -> None:
         """From now on it is noted anew where the table was."""

@@ -2,18 +2,22 @@
 """
 import sys
 import unittest
+from collections.abc import Callable
 from pathlib import Path
+from typing import NamedTuple
 
 sys.path.insert(0, str(Path(__file__).resolve().parent))
 
 from bench_support import REST, Bench
 from machine_support import MachineLink
-from test_moves import _CHANCE, BOX, HOLE, POST, PROBE
+from test_moves import _AT_PULSE, _CHANCE, _PULSES, _TURNED, BOX, HOLE, POST, PROBE
 from test_operator import Core
 
 from ngc_tools.operator.routines import ROUTINES, Lengths, Plan
 from ngc_tools.operator.setter import Probe, Setter
 
+MM = 1_000
+"""Steps of the machine."""
 SIDE = ((5_000, 3_000, -30_000), (25_000, 23_000, -15_000))
 """A block whose lower corner is at X5 Y3; the tip of the probe, at Z-20, is below its top."""
 
@@ -115,9 +119,19 @@ class Routines(Bench):
         self.stays_within((0, 0, 0), (6_350, 0, 0))
 
 
-class Wrong(Bench):
-    """A probe that fails, work that isn't where it is said, and a person who holds: it stops where it is, says why, and
-    nothing becomes a zero."""
+class Refusing(Bench):
+    """What ends a routine: it stops where it is, says why, and nothing becomes a zero."""
+
+    def refused(self, line: str, *answers: str) -> str:
+        """Why a routine ends; the zero stays, and nobody is asked for it."""
+        said = self.do(line, answers=answers)
+        self.assertEqual(len(self.face.asked), len(answers), said)
+        self.assertEqual(self.operator.stored().state.origin_nm, (0, 0, 0))
+        return said[0]
+
+
+class Wrong(Refusing):
+    """A probe that fails, work that isn't where it is said, and a person who holds, at an edge."""
 
     EDGE = "probe edge X+ within 6"
 
@@ -125,38 +139,6 @@ class Wrong(Bench):
         """A face at X5."""
         super().setUp()
         self.world.solid(0, BOX, (5_000, -9_000, -30_000), (25_000, 9_000, 0))
-
-    def refused(self, line: str, *answers: str) -> str:
-        """Why a routine ends; the zero stays, and nobody is asked for it."""
-        said = self.do(line, answers=answers)
-        self.assertEqual(len(self.face.asked), len(answers))
-        self.assertEqual(self.operator.stored().state.origin_nm, (0, 0, 0))
-        return said[0]
-
-    def test_on_at_first(self) -> None:
-        """One that is on before, as one with a broken wire may be: nothing moves."""
-        self.world.put(PROBE, True)
-        self.assertEqual(self.refused(self.EDGE, "yes"), "probe edge X+: the probe is on before it is sought, and"
-                         " nothing may touch it: nothing moves")
-        self.stays_within((0, 0, 0), (0, 0, 0))
-
-    def test_never(self) -> None:
-        """One that never comes on, as one that isn't plugged in: not past what was said."""
-        self.world.touching(PROBE, is_dumb=True)
-        self.assertEqual(self.refused(self.EDGE, "yes"), "probe edge X+: the probe isn't touched within 6.000000 mm:"
-                         " nothing more moves")
-        self.stays_within((0, 0, 0), (6_000, 0, 0), 2_000)
-        self.assertEqual(self.world.place, (6_000, 0, 0))
-        self.assertEqual(self.status().at, ("6.000000", "0.000000", "0.000000"))
-
-    def test_stays_on(self) -> None:
-        """One that comes on in the air, and stays on: behind the touch nothing moves any more."""
-        self.world.set(1, 0)
-        self.world.set(3, 1 << PROBE)
-        self.world.set(2, 2_500)
-        self.assertEqual(self.refused(self.EDGE, "yes"), "probe edge X+: the probe is on behind a touch, and nothing"
-                         " may touch it: nothing moves")
-        self.stays_within((0, 0, 0), (2_500 + REST, 0, 0))
 
     def test_bounces(self) -> None:
         """One that bounces within what two touches may differ by is as good as that; one that bounces farther is
@@ -180,6 +162,18 @@ class Wrong(Bench):
         self.assertEqual(self.refused("probe outside X+ Y+", "yes"), "probe outside X+ Y+: the probe was touched on the"
                          " way, at Y 3, where nothing may be: nothing more moves")
         self.stays_within((0, 0, 0), (0, 3_000 + REST, 0))
+
+    def test_wider(self) -> None:
+        """A boss and a web that are wider than was said, below where it goes down: it stops at their top."""
+        for kind, ends, line in ((POST, ((0, 0), (12_000, -22_000)), "boss size 12 within 4 down 5"),
+                                 (BOX, ((-12_000, -9_000, -40_000), (12_000, 9_000, -22_000)),
+                                  "web X size 12 within 4 down 5")):
+            self.world.solid(0, kind, *ends)
+            self.assertIn("the probe was touched on the way, at Z -2, where nothing may be: nothing more moves",
+                          self.refused(f"probe {line}", "yes"))
+            self.stays_within((-10_000, 0, -2_000 - REST), (0, 0, 0))
+            self.do(f"jog Z+ 3000 for {-self.world.place[2] / MM}", "jog X+ 3000 for 10")
+            self.world.forget_reached()
 
     def test_held(self) -> None:
         """Whoever holds ends it, in a move and between two, and nothing begins after that."""
@@ -228,6 +222,122 @@ class Wrong(Bench):
         self.do("M3 S100")
         self.assertEqual(self.refused(self.EDGE, "yes"), "probe: the spindle or the coolant is on")
         self.stays_within((0, 0, 0), (0, 0, 0))
+
+
+class First(NamedTuple):
+    """A routine as it is typed, and before it the work, by kinds and ends; between which points it goes; and its first
+    touch: what it goes before that, its axis, from where to where at most, and where the ball comes to the work. Its
+    lengths are mm."""
+
+    typed: str
+    work: tuple[tuple[int, tuple[int, ...], tuple[int, ...]], ...]
+    low: tuple[int, ...]
+    high: tuple[int, ...]
+    before: int
+    axis: int
+    begins: int
+    ends: int
+    touches: int
+
+    @property
+    def sign(self) -> int:
+        """The direction of that touch."""
+        return 1 if self.ends > self.begins else -1
+
+
+FIRSTS = (
+    First("edge Y- within 6", ((BOX, (-9, -25, -30), (9, -5, 0)),), (0, -6, 0), (0, 0, 0), 0, 1, 0, -6, -4),
+    First("outside X- Y+ within 9 along 10", ((BOX, (-25, 3, -30), (-5, 23, -15)),), (-10, 0, 0), (0, 10, 0), 10, 0, 0,
+          -9, -4),
+    First("inside X+ Y- within 8", ((BOX, (6, -50, -30), (20, 50, 0)), (BOX, (-50, -20, -30), (50, -7, 0))),
+          (0, -8, 0), (8, 0, 0), 0, 0, 0, 8, 5),
+    First("surface within 5", ((BOX, (-9, -9, -40), (9, 9, -24)),), (0, 0, -5), (0, 0, 0), 0, 2, 0, -5, -4),
+    First("bore within 12", ((HOLE, (0, 0), (8, -15)),), (-12, -12, 0), (12, 12, 0), 0, 0, 0, -12, -7),
+    First("boss size 12 within 4 down 5", ((POST, (0, 0), (6, -22)),), (-10, -10, -5), (10, 10, 0), 15, 0, -10, -2,
+          -7),
+    First("pocket Y within 5", ((BOX, (-50, -30, -40), (50, -4, 0)), (BOX, (-50, 4, -40), (50, 30, 0))), (0, -5, 0),
+          (0, 5, 0), 0, 1, 0, -5, -3),
+    First("web Y size 8 within 3 down 4", ((BOX, (-50, -4, -40), (50, 4, -22)),), (0, -7, -4), (0, 7, 0), 11, 1, -7,
+          -1, -5))
+"""One of each kind, worked out by hand: the ball's radius is 1 mm, and its lowest point at machine Z-20."""
+
+
+class EachWrong(Refusing):
+    """Each kind of routine, and each fault of the probe."""
+
+    def each(self, fault: Callable[[First], str], rests: Callable[[First], int] | None = None) -> None:
+        """Each kind ends with the cause that the fault gives, within what was said. The ball goes no deeper into the
+        work than the motors need to rest; but `rests` says where the axis of the first touch ends that nothing stops.
+        """
+        self.assertEqual({first.typed.split()[0] for first in FIRSTS}, set(ROUTINES))
+        for first in FIRSTS:
+            self.world.solid(1, 0, (0, 0, 0), (0, 0, 0))
+            for number, (kind, *ends) in enumerate(first.work):
+                self.world.solid(number, kind, *(tuple(MM * mm for mm in end) for end in ends))
+            self.world.forget_reached()
+            name, why = first.typed.partition(" within")[0].partition(" size")[0], fault(first)
+            self.assertEqual(self.refused(f"probe {first.typed}", "yes"), f"probe {name}: {why}")
+            low, high = (tuple(MM * mm for mm in end) for end in (first.low, first.high))
+            self.stays_within(low, high, 99 * MM if rests else REST)
+            if rests:
+                self.assertEqual(self.world.place[first.axis], MM * rests(first), first.typed)
+            self.assertEqual([float(at) for at in self.status().at], [at / MM for at in self.world.place])
+            self.well_again()
+
+    def well_again(self) -> None:
+        """The probe is well, and the machine goes back, up first."""
+        self.world.touching(PROBE)
+        self.world.put(PROBE, False)
+        self.world.set(_AT_PULSE, 0)
+        ways = [(axis, -self.world.place[number]) for number, axis in ((2, "Z"), (0, "X"), (1, "Y"))]
+        self.do(*(f"jog {axis}{'+' if way > 0 else '-'} 3000 for {abs(way) / MM}" for axis, way in ways if way))
+        self.assertEqual(self.world.place, (0, 0, 0))
+
+    def test_on_at_first(self) -> None:
+        """One that is on before: nothing moves."""
+        def fault(first: First) -> str:
+            self.world.put(PROBE, True)
+            return (f"the probe is on before it {'moves' if first.before else 'is sought'}, and nothing may touch it:"
+                    " nothing moves")
+
+        self.each(fault, lambda _: 0)
+
+    def test_never(self) -> None:
+        """One that never comes on: it ends where that was said."""
+        def fault(first: First) -> str:
+            self.world.touching(PROBE, is_dumb=True)
+            return f"the probe isn't touched within {abs(first.ends - first.begins)}.000000 mm: nothing more moves"
+
+        self.each(fault, lambda first: first.ends)
+
+    def test_differ(self) -> None:
+        """One whose second touch comes 0.3 mm before the first one, as a ball that is loose."""
+        def fault(first: First) -> str:
+            self.world.touching(PROBE, grows=300)
+            axis, slow = "XYZ"[first.axis], round(first.touches - 0.3 * first.sign, 6)
+            return (f"two touches differ: {axis} {first.touches} by the fast one, and {slow} by the slow one. That"
+                    " counts for nothing")
+
+        self.each(fault)
+
+    def test_not_again(self) -> None:
+        """One whose second touch would come 0.3 mm behind the first one."""
+        def fault(first: First) -> str:
+            self.world.touching(PROBE, grows=-300)
+            return (f"the slow touch didn't come where the fast one was, at {'XYZ'[first.axis]} {first.touches}, nor"
+                    " 0.05 mm behind it. That counts for nothing")
+
+        self.each(fault)
+
+    def test_stays_on(self) -> None:
+        """One that comes on 1.5 mm before the work, and stays on."""
+        def fault(first: First) -> str:
+            way = first.before + abs(first.touches - first.begins)
+            self.world.set(_AT_PULSE, self.world.get(_PULSES) + MM * way - 1_500)
+            self.world.set(_TURNED, 1 << PROBE)
+            return "the probe is on behind a touch, and nothing may touch it: nothing moves"
+
+        self.each(fault)
 
 
 class Timed(Routines):
