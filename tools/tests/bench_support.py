@@ -30,7 +30,6 @@ on_while_low = [0]
 height_um = -30000
 at_um = [40000, 30000, 35000]
 probe_tool = 1
-probe_radius_um = 1000
 fast_mm_min = 600
 slow_mm_min = 60
 """
@@ -102,7 +101,7 @@ class Bench(InFolder):
         self.operator.recover.found = out
         self.operator.know(Setter.read("mill.toml"))
         self.operator.begin("bound")
-        self.do("reference 0 0 0", "tool 1 20", "tool 2 15", "T1 M6", "G43 H1")
+        self.do("reference 0 0 0", "tool 1 20", "tool 2 15", "shape 1 2 ball", "T1 M6", "G43 H1")
         self.world.forget_reached()
 
     def do(self, *lines: str, answers: tuple[str, ...] = ()) -> list[str]:

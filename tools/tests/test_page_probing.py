@@ -80,6 +80,30 @@ class Sheets(test_page_browser.Moves):
         self.assertEqual(self.machine.axes.words, [])
         self.no_complaints()
 
+    def test_ball(self) -> None:
+        """The tool table shows which slot is the probe's, and how wide its ball is, here by the machine's file. Another
+        diameter is kept; that both differ is said, and goes once they agree."""
+        browser = self.browser
+        browser.press("Tools", "nav button")
+        entry, gives = "#tab-tools input[aria-label^='Diameter of the ball']", "#tab-tools .ball button"
+        browser.wait(f"document.querySelector(\"{entry}\")?.value === '1'")
+        self.assertIn("T1 is the probe.", browser.js("document.getElementById('tab-tools').textContent"))
+        for text in ("0", "x", "-1", ""):
+            browser.fill(entry, text)
+            self.assertTrue(browser.js(f"document.querySelector('{gives}').disabled"), text)
+        browser.fill(entry, "1.2")
+        browser.press("Set", gives)
+        self.assertEqual(browser.wait("document.querySelector('#tab-tools .warn')?.textContent"),
+                         "the ball of the probe, tool 1, is 1.2 mm wide by the tool table, and 1 mm by probe_radius_um"
+                         " of the machine's file: correct the wrong one, or take that line out of the file")
+        self.look("the ball")
+        self.shoot("ball")
+        browser.fill(entry, "1")
+        browser.press("Set", gives)
+        browser.wait("ngc.state.ball.diameter === '1.000000' && !document.querySelector('#tab-tools .warn')")
+        self.assertIn('[T1]\ndiameter_nm = 1000000\ntip = "ball"\n', Path("first.shapes").read_text())
+        self.no_complaints()
+
     def test_ways(self) -> None:
         """The picture turns with the direction; what is refused is said, and nothing moves."""
         browser = self.browser
@@ -470,9 +494,10 @@ class Setter(OverBodies):
 
 
 class OverWork(AtMachine):
-    """The player over a simulated machine, whose probe hangs 2 mm below the spindle, before a block at X2 Y3."""
+    """The player over a simulated machine, whose probe hangs 2 mm below the spindle, before a block at X2 Y3. Nobody
+    said yet how wide its ball is."""
 
-    EXTRA = PROBED
+    EXTRA = SETTER + "probe_tool = 1\n"
     CORNER = {"routine": "outside", "ways": "X+ Y+", "lengths": {"within": "4", "along": "6"}}
 
     def device(self) -> None:
@@ -491,6 +516,11 @@ class OverWork(AtMachine):
         """Asks for a routine, and agrees to what it moves."""
         self.assertEqual(self.seen.post("probe", words), (200, {}))
         state = self.seen.asked()
+        self.assertEqual((state["question"]["text"], state["question"]["kind"], state["ball"]),
+                         ("How wide is the ball of the probe, tool 1, in mm? The tool table keeps that. Nothing ends:",
+                          "text", {"slot": 1, "diameter": None, "wrong": ""}))
+        self.seen.agree(state, "1")
+        state = self.seen.asked()
         self.assertIn("it moves, one axis at a time, and no move leaves that", state["question"]["text"])
         self.assertEqual(self.world.place, (0, 0, 0))
         self.seen.agree(state)
@@ -502,7 +532,9 @@ class OverWork(AtMachine):
         self.assertEqual(state["question"]["text"], "outside X+ Y+: machine X2 Y3\nyes makes it X0 Y0 of G54, anything"
                          " else leaves the zero:", self.seen.said())
         self.seen.agree(state)
-        self.seen.until("it is the zero", lambda s: not s["busy"] and s["origin"][:2] == ["2.000000", "3.000000"])
+        state = self.seen.until("it is the zero", lambda s: not s["busy"] and s["origin"][:2] == ["2.000000",
+                                                                                               "3.000000"])
+        self.assertEqual(state["ball"], {"slot": 1, "diameter": "1.000000", "wrong": ""})
         depth, least, greatest = self.world.reached
         self.assertLess(depth, 110)
         self.assertEqual((self.world.place, least), ((0, 0, 0), (0, 0, 0)))

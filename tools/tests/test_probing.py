@@ -207,8 +207,8 @@ class Wrong(Refusing):
                          " T1 M6 first")
         self.do("T1 M6", "reference 1 0 0 anyway", "reference 0 0 0 anyway")
         self.operator.touch.know(Setter(None, True))
-        self.assertEqual(self.refused(self.EDGE), "the machine's file says nothing of a probe: probe_tool and"
-                         " probe_radius_um in its [setter]")
+        self.assertEqual(self.refused(self.EDGE), "the machine's file says nothing of a probe: probe_tool in its"
+                         " [setter] names its slot of the tool table")
         self.stays_within((0, 0, 0), (0, 0, 0))
 
     def test_unknown_place(self) -> None:
@@ -338,6 +338,71 @@ class EachWrong(Refusing):
             return "the probe is on behind a touch, and nothing may touch it: nothing moves"
 
         self.each(fault)
+
+
+class Ball(Bench):
+    """How wide the ball is that a routine reckons with, at a face at X5; the model's is 2 mm wide."""
+
+    def setUp(self) -> None:
+        """The face."""
+        super().setUp()
+        self.world.solid(0, BOX, (5_000, -9_000, -30_000), (25_000, 9_000, 0))
+
+    def found(self, *answers: str) -> str:
+        """What is found of the edge, by these answers before the yes that begins."""
+        return "; ".join(self.do("probe edge X+ within 6", answers=(*answers, "yes", "no")))
+
+    def refused(self, *answers: str) -> str:
+        """Why it isn't sought, by these answers."""
+        return self.do("probe edge X+ within 6", answers=answers)[0]
+
+    def test_by_table(self) -> None:
+        """It is its slot's diameter in the tool table, whatever the model's is: half of it lies between the ball's
+        middle, which stands at X4, and the face; a bore is wider by all of it than the ball goes there."""
+        self.assertIn("machine X5;", self.found())
+        self.do("shape 1 3 flat")
+        self.assertIn("machine X5.5;", self.found())
+        self.world.solid(0, HOLE, (0, 0), (8_000, -15_000))
+        said = self.do("probe bore within 12", answers=("yes", "no"))
+        self.assertIn("along Y it is 17.000 mm wide", said)  # 2 (8 - 1) + 3
+
+    def test_asked(self) -> None:
+        """Where nobody said it, it is asked before anything moves, and the table keeps it. A surface needs none."""
+        self.do("shape 1 none")
+        for answer in ("", "x", "0", "-2", "100.1"):
+            self.assertEqual(self.refused(answer), "nothing moves: the ball of the probe is wider than 0 mm, and at most"
+                             " 100")
+        for typed in ("1", "1 6", "1 6 round", "1 6 v", "1 6 v 180", "1 6 flat 9", "1 0 flat", "1 x flat", "129 6 flat",
+                      "x 6 flat", "1 6 flat none"):
+            self.assertIn("shape N 6 flat: a slot,", self.do(f"shape {typed}")[0], typed)
+        self.assertEqual(self.do("shape"), ["no tool has a shape"])
+        self.assertEqual(self.do("shape 3 0.25in V 60", "shape 3 none"), ["T3: 6.35 mm v 60", "no tool has a shape"])
+        self.do("probe surface within 5", answers=("no",))
+        self.assertEqual([text[:14] for text in self.face.asked], ["probe surface:"])
+        self.assertEqual(self.world.reached[1:], ((0, 0, 0), (0, 0, 0)))
+        self.assertIn("machine X4.9;", self.found("1.8"))
+        self.assertEqual(self.face.asked[0], "How wide is the ball of the probe, tool 1, in mm? The tool table keeps"
+                         " that. Nothing ends: ")
+        self.assertEqual(self.do("shape"), ["T1: 1.8 mm ball"])
+        self.assertIn("machine X4.9;", self.found())
+
+    def test_by_file(self) -> None:
+        """A machine's file of before has its radius: that counts where the table has none. Where both differ, and where
+        what the table has is no ball, it is said, and nothing moves."""
+        Path("mill.toml").write_text(Path("mill.toml").read_text() + "probe_radius_um = 1200\n")
+        self.operator.know(Setter.read("mill.toml"))
+        differ = ("the ball of the probe, tool 1, is 2 mm wide by the tool table, and 2.4 mm by probe_radius_um of the"
+                  " machine's file: correct the wrong one, or take that line out of the file")
+        self.assertEqual(self.refused(), differ)
+        self.do("shape 1 2.4 v 90")
+        self.assertEqual(self.refused(), "tool 1, the probe, is a V by the tool table, and no ball: give it the ball's"
+                         " diameter there")
+        Path("first.shapes").write_text("T1 = 6\n")
+        self.assertEqual(self.refused()[:13], "first.shapes:")
+        self.assertEqual(self.world.reached[1:], ((0, 0, 0), (0, 0, 0)))
+        for text in ("", '[T1]\ndiameter_nm = 2400000\ntip = "ball"\n'):
+            Path("first.shapes").write_text(text)
+            self.assertIn("machine X5.2;", self.found())
 
 
 class Timed(Routines):

@@ -260,6 +260,11 @@ COMMANDS = (
     OperatorCommand("tool", lambda operator, typed: operator.tool(typed),
                     (("tool N LENGTH", "a tool's length, in mm"),), brings=Brings.ENTRY, asked=Asked.AWAITED,
                     needs=_ENTRY | Needs.IDLE),
+    OperatorCommand("shape", lambda operator, typed: operator.shapes.do(typed.rest),
+                    (("shape N 6 flat", "a tool's diameter in mm and its tip: flat, ball or v 90;\nshape N none, shape"
+                      " alone shows all"),),
+                    usage="shape N 6 flat: a slot, its tool's diameter in mm, up to 1,000, and its tip: flat, ball, or"
+                    " v 90, the angle of both sides; shape N none forgets it, shape alone shows all"),
     OperatorCommand("runs", lambda operator, _: operator.runs.show(),
                     (("runs", "the record of runs: when each began, how it ended"),)),
     OperatorCommand("rehearse", lambda operator, typed: operator.rehearse(typed.rest),

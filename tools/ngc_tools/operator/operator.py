@@ -44,6 +44,7 @@ from ngc_tools.operator.sentences import (GO_ON, NOT_MOVED, SWITCHED, SWITCHED_T
                                           TAKEN_UP_THERE)
 from ngc_tools.operator.session import ALARM, BROKEN, Nothing, Session, place
 from ngc_tools.operator.setter import Setter
+from ngc_tools.operator.shapes import Shapes
 from ngc_tools.operator.stopping import Stopping
 from ngc_tools.operator.slots import fill_below
 from ngc_tools.operator.touch import Touch, is_slot
@@ -85,7 +86,8 @@ class Operator:
                                  lambda line: self._line_done(line, True))
         self.touch = Touch(self.session, self.places, self.moves, self._line_done)
         self.offsets = Offsets(self.session, self.touch)
-        self.probing = Probing(self.session, self.moves, self.touch)
+        self.shapes = Shapes(self.session)
+        self.probing = Probing(self.session, self.moves, self.touch, self.shapes)
         self.measuring = Measuring(self.session, self.moves, self.touch)
         self.ways = Ways(self.session, self.left, self._line_done)
         self.runs = Runs(self.session)

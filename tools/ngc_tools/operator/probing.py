@@ -17,10 +17,11 @@ from ngc_tools.operator.routines import (AXES, CENTRE, GO, ROUTINES, Contact, Le
                                          middle)
 from ngc_tools.operator.session import Session
 from ngc_tools.operator.setter import Probe, Touches
+from ngc_tools.operator.shapes import Shapes
 from ngc_tools.operator.touch import Touch, length_in
 from ngc_tools.operator.touching import Box, CannotTouch, Touching
 
-_NO_PROBE = "the machine's file says nothing of a probe: probe_tool and probe_radius_um in its [setter]"
+_NO_PROBE = "the machine's file says nothing of a probe: probe_tool in its [setter] names its slot of the tool table"
 _NOT_IN = "{now} is in the spindle, by its last M6, and the probe is tool {slot}: T{slot} M6 first"
 _NO_LENGTH = ("Z would be that of a tool {now} mm long, and the probe, tool {slot}, is {length} mm long: G43 H{slot}"
               " first")
@@ -82,8 +83,8 @@ def _lengths(routine: Routine, words: list[str]) -> Lengths | None:
 class Probing:
     """What `probe` does."""
 
-    def __init__(self, session: Session, moves: Moves, touch_off: Touch) -> None:
-        self.session, self.moves, self.touch_off = session, moves, touch_off
+    def __init__(self, session: Session, moves: Moves, touch_off: Touch, shapes: Shapes) -> None:
+        self.session, self.moves, self.touch_off, self.shapes = session, moves, touch_off, shapes
 
     def do(self, rest: str) -> None:
         """Does what is typed behind `probe`: says what moves, asks, touches, and asks whether that becomes a zero."""
@@ -98,10 +99,11 @@ class Probing:
         """Raises CannotTouch, before anything moves."""
         probe = self._checked(wanted.plan)
         touching = self._touching(wanted.plan)
+        radius = 0 if wanted.plan.axes == (2,) else self.shapes.radius(probe)
         if not self.session.agrees(_question(wanted, touching.box, touching.how)):
             self.session.face.say("nothing moves")
             return
-        found = self._found(wanted.plan, touching, probe)
+        found = self._found(wanted.plan, touching, radius)
         self.moves.tell()
         if found:
             self._say(wanted.plan, found)
@@ -141,8 +143,9 @@ class Probing:
                 raise CannotTouch(_LEAVES.format(axis=AXES[axis], to=trimmed(to), end=trimmed(end)))
         return Touching(self.moves, self.touch_off.setter.touches, settings.step_nm, box)
 
-    def _found(self, plan: Plan, touching: Touching, probe: Probe) -> Probed | None:
-        """Does the steps: what they found, None where one didn't go as it should, which is said."""
+    def _found(self, plan: Plan, touching: Touching, radius: int) -> Probed | None:
+        """Does the steps: what they found by a ball of that radius, None where one didn't go as it should, which is
+        said."""
         touches: list[Contact] = []
         try:
             begun = [touching.at(axis) for axis in range(3)]
@@ -158,7 +161,7 @@ class Probing:
         except CannotTouch as why:
             self.session.face.say(f"probe {plan.name}: {why}", WARNING)
             return None
-        return found_by(plan, touches, probe.radius_nm)
+        return found_by(plan, touches, radius)
 
     def _say(self, plan: Plan, found: Probed) -> None:
         """Says what was found, in machine and in work coordinates."""

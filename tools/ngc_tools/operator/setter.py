@@ -29,10 +29,11 @@ class Touches:
 
 @dataclass(frozen=True, slots=True)
 class Probe:
-    """The slot of the tool table that has the probe's length, and the radius of its ball in nm."""
+    """The slot of the tool table that is the probe's, and the radius of its ball in nm by the machine's file, None where
+    that doesn't say it: the table does."""
 
     slot: int
-    radius_nm: int = 0
+    radius_nm: int | None = None
 
 
 @dataclass(frozen=True, slots=True)
@@ -53,11 +54,16 @@ class Setter:
         """Reads it. Raises BadMachine, BadSettings if the file isn't TOML, or OSError."""
         tables = read_tables(path)
         table = tables.get("setter", {})
-        height_um, slot, at_um = table.get("height_um"), table.get("probe_tool"), table.get("at_um")
+        height_um, at_um = table.get("height_um"), table.get("at_um")
         return Setter(None if height_um is None else _UM * height_um, "probe" in tables.get("inputs", {}),
-                      None if slot is None else Probe(slot, _UM * table.get("probe_radius_um", 0)),
+                      _probe(table.get("probe_tool"), table.get("probe_radius_um")),
                       None if at_um is None else (_UM * at_um[0], _UM * at_um[1], _UM * at_um[2]), Touches.of(table),
                       _homes(tables.get("home", {})))
+
+
+def _probe(slot: int | None, radius_um: int | None) -> Probe | None:
+    """The probe of a slot."""
+    return None if slot is None else Probe(slot, None if radius_um is None else _UM * radius_um)
 
 
 def _homes(table: dict[str, Any]) -> tuple[int | None, ...]:

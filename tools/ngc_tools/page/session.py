@@ -691,7 +691,9 @@ class PageSession:
         gone = gone or (operator.session.meter.link.failed if operator.session.meter else "")
         operator.session.see_machine(machine)
         self.kept.at(status)
-        self.stand = Stand(status, report, gone, recovery_of(operator.recover.found), *self._typed(), machine)
+        probe = operator.touch.setter.probe
+        ball = operator.shapes.ball(probe) if probe else None
+        self.stand = Stand(status, report, gone, recovery_of(operator.recover.found), *self._typed(), machine, ball)
         self._see_homed()
         if self._text is not operator.session.program.text:  # as the rest of the one that was
             self._see_program(self.name)

@@ -11,6 +11,7 @@ from ngc_tools.ngc.console import Status
 from ngc_tools.operator.display import on_words
 from ngc_tools.operator.recovery import OutFound, Recovery
 from ngc_tools.operator.session import BROKEN
+from ngc_tools.operator.shapes import Ball
 from ngc_tools.link.progress import MoveReport, Report
 from ngc_tools.link.way import count_lines
 
@@ -22,7 +23,7 @@ class Stand:
     """`gone` says why the player doesn't answer, nothing if it does. `recovery` is what `recover` would do, None where
     OUT is no file that is followed. `typed` says that something was done between two lines of the program, `restore`
     are the lines that put back what that left in force. `machine` is what the player says of moves without lines, None
-    where it makes none."""
+    where it makes none; `ball` is that of the probe, None where there is no probe."""
 
     status: Status
     report: Report | None = None
@@ -31,6 +32,7 @@ class Stand:
     typed: bool = False
     restore: tuple[str, ...] = ()
     machine: MoveReport | None = None
+    ball: Ball | None = None
 
     @property
     def has_ramps(self) -> bool:

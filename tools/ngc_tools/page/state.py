@@ -303,11 +303,19 @@ class Pictured:
                 "given_back": self.operator.choices.given, "not_given_back": self.operator.choices.lost,
                 "left_at": session.opened.left_at, "broken": self.stand.is_broken, "undo": self.operator.touch.undoes,
                 "setter": None if setter_nm is None else millimetres(setter_nm),
-                "has_probe": self.operator.touch.has_probe, "has_ball": self.operator.touch.setter.probe is not None,
+                "has_probe": self.operator.touch.has_probe, "ball": self._ball(),
                 "has_park": None not in self.operator.ways.home_nm[:2],
                 "measures": self.operator.measuring.is_on if self.operator.measuring.can else None,
                 "jobs": session.jobs is not None,
                 "typed": self.stand.typed, "restore": self.stand.restore, "version": session.version}
+
+    def _ball(self) -> dict | None:
+        """The slot of the probe, how wide its ball is, and why that can't be used; None where there is no probe."""
+        probe, ball = self.operator.touch.setter.probe, self.stand.ball
+        if probe is None or ball is None:
+            return None
+        return {"slot": probe.slot, "wrong": ball.wrong,
+                "diameter": None if ball.diameter_nm is None else millimetres(ball.diameter_nm)}
 
     @property
     def _goes_on(self) -> bool:

@@ -103,9 +103,9 @@ steps = [0, 0, 0]
 # height_um = -80000
 # The machine point above the setter, in micrometres: over to its X and Y at its Z.
 # at_um = [0, 0, 0]
-# The slot of the tool table that has the probe's length: 1 to 128.
+# The probe's slot of the tool table, which has its length and its ball's diameter: 1 to 128.
 # probe_tool = 9
-# The radius of its ball in micrometres: 0 to 50000.
+# The ball's radius in micrometres, where the table has no diameter of it: 0 to 50000.
 # probe_radius_um = 1000
 # mm a minute at which a place is sought: 1 to 100000.
 # fast_mm_min = 300

@@ -96,7 +96,7 @@ export class Setup {
     this.within.disabled = !may(s, 'seek');
     for (const one of this.seeks) one.disabled = this.within.disabled || typed(this.within) === null;
     this.work.disabled = !may(s, 'probe');
-    this.work.hidden = !s.has_ball;
+    this.work.hidden = !s.ball;
     for (const one of [this.value, this.byProbe]) one.disabled = !may(s, 'zero');
     for (const one of this.zero) one.disabled = !may(s, 'zero') || typed(this.value) === null;
     text(this.touched, s.touched ? `touched: ${place(s.touched)} ${unit.name}` : '');

@@ -1,18 +1,40 @@
-// The tool table: a length for each slot, which the device keeps.
+// The tool table: a length for each slot, which the device keeps, and how wide the probe's ball is.
 import { $, el } from './dom.js';
-import { entered, nanometres, typedLength, unit } from './units.js';
+import { warning } from './sheet.js';
+import { entered, nanometres, typedLength, typedNanometres, unit } from './units.js';
 
 let shown = '';
 
 export function show(s, isIdle, asks) {
-  const key = JSON.stringify([s.tools, s.slot, isIdle, unit.name]);
+  const key = JSON.stringify([s.tools, s.slot, s.ball, s.yours, isIdle, unit.name]);
   if (key === shown || document.activeElement?.closest?.('#tab-tools input')) return;
   shown = key;
   const lengths = [...s.tools, ''].slice(0, s.most_slots);
   const rows = lengths.map((length, i) => row(i + 1, length, s, isIdle, asks));
   $('tab-tools').replaceChildren(
     el('p', { class: 'hint' }, `Lengths in ${unit.name}. A new length counts from the next G43 on. Slots that are `
-      + 'passed over get 0, as of a tool that isn\u2019t measured.'), ...rows);
+      + 'passed over get 0, as of a tool that isn\u2019t measured.'), ...rows, ...s.ball ? ball(s, asks) : []);
+}
+
+// The slot of the probe, and how wide its ball is.
+function ball({ ball: { slot, diameter, wrong }, yours }, asks) {
+  const input = el('input', { value: diameter === null ? '' : entered(nanometres(diameter)), inputMode: 'decimal',
+    disabled: !yours, placeholder: 'a diameter', 'aria-label': `Diameter of the ball of the probe, T${slot}` });
+  const give = () => {
+    input.blur();
+    asks('shape', { slot, diameter: typedLength(input.value), tip: 'ball' });
+  };
+  const button = el('button', { onclick: give }, 'Set');
+  const check = () => {
+    const isRight = (typedNanometres(input.value) ?? 0n) > 0n;
+    input.classList.toggle('wrong', !isRight && input.value.trim() !== '');
+    button.disabled = !yours || !isRight;
+  };
+  input.addEventListener('input', check);
+  check();
+  return [el('p', { class: 'hint' }, `T${slot} is the probe. How wide is its ball?`),
+    el('div', { class: 'slot ball' }, el('b', { translate: 'no' }, '\u2300'), input, unit.name, button),
+    wrong ? warning(wrong, 'bad') : ''];
 }
 
 function row(slot, length, s, isIdle, asks) {
