@@ -13,7 +13,7 @@ import test_page_browser
 from bench_support import REST
 from browser_support import Failed
 from session_support import PATIENCE_S
-from test_moves import BOX, HOLE, POST, PROBE
+from test_moves import BOX, PROBE
 from test_page_measure import JOB, SETTER, AtMachine, OverWorld
 
 from ngc_tools.formats.position import nanometres
@@ -315,14 +315,21 @@ class Misbehaves(OverBodies):
         self.assertEqual(self.world.place, (0, 0, 0))
         return asked
 
-    def begins(self, title: str, within: float, **lengths: float) -> list[tuple[int, int]]:
-        """Asks for a routine, and agrees: within which machine coordinates the page said that it moves, in steps. Other
-        lengths are named by how their entries begin."""
+    def opens(self, title: str) -> None:
+        """Opens the sheet of a routine."""
+        self.browser.press("Setup", "nav button")
+        self.browser.press("Probe the work", "#tab-setup button")
+        self.browser.press(title, "#over .routines button")
+
+    def begins(self, title: str, within: float) -> list[tuple[int, int]]:
+        """Asks for a routine, and agrees: within which machine coordinates the page said that it moves, in steps."""
+        self.opens(title)
+        return self.agrees_to({"At most": within})
+
+    def agrees_to(self, lengths: dict[str, float]) -> list[tuple[int, int]]:
+        """The same of the routine whose sheet is open, with lengths by how their entries begin."""
         browser = self.browser
-        browser.press("Setup", "nav button")
-        browser.press("Probe the work", "#tab-setup button")
-        browser.press(title, "#over .routines button")
-        for label, length in (("At most", within), *lengths.items()):
+        for label, length in lengths.items():
             browser.fill(f"#over input[aria-label^='{label}']", str(length))
         browser.press("Probe", "#over .go")
         named = {axis: (nanometres(low) // MM, nanometres(high) // MM)
@@ -333,57 +340,6 @@ class Misbehaves(OverBodies):
         browser.press("Yes: begins", "#over .go")
         browser.wait("ngc.state.question === null || !ngc.state.question.text.includes('yes begins')")
         return [named.get(axis, (at, at)) for axis, at in zip("XYZ", place)]
-
-
-class EachRoutine(Misbehaves):
-    """The same probe over other work, which each routine finds, or doesn't."""
-
-    test_probe = test_where_touched = None
-
-    def stands(self, *bodies: tuple[int, tuple[float, ...], tuple[float, ...]]) -> None:
-        """Nothing but these stands there: of each its kind and its ends, in mm."""
-        for number, (kind, low, high) in enumerate([*bodies, *[(0, (0, 0, 0), (0, 0, 0))] * 2][:2]):
-            self.world.solid(number, kind, tuple(round(at * MM) for at in low), tuple(round(at * MM) for at in high))
-
-    def finds_so(self, title: str, within: float, found: str, zero: tuple[float, ...], **lengths: float) -> None:
-        """It finds that, within what was said before the yes, and another yes makes it this zero."""
-        box = self.begins(title, within, **lengths)
-        self.assertEqual(self.asked(), found)
-        self.stays_within(box)
-        self.browser.press("Yes: makes it", "#over .go")
-        self.rests(f"s.origin.map(Number).join() === '{','.join(f'{at:g}' for at in zero)}'")
-        self.shows("2.000", zero, 2)
-        self.do("G53 G0 X0 Y0")
-
-    def test_corners_and_surface(self) -> None:
-        """Both faces of a corner, from outside and from inside, and what lies below."""
-        self.stands((BOX, (4, 3, -9), (9.9, 9.9, 9)))
-        self.finds_so("Outside corner", 8, "outside X+ Y+: machine X4 Y3", (4, 3, 0), Along=9)
-        self.stands((BOX, (6, -9, -9), (9, 9, 9)), (BOX, (-9, 7, -9), (9, 9.9, 9)))
-        self.finds_so("Inside corner", 8, "inside X+ Y+: machine X6 Y7", (6, 7, 0))
-        self.stands((BOX, (-9, -9, -9), (9, 9, -6)))
-        self.finds_so("Surface", 7, "surface: machine Z-4", (6, 7, -6))
-        self.no_complaints()
-
-    def test_middles(self) -> None:
-        """The middle of a hole, of a post, of a slot and of a web. Of a hole whose wall is farther away nothing is
-        found."""
-        self.stands((HOLE, (1.5, -0.7), (5, 9)))
-        self.finds_so("Bore", 8, "bore: machine X1.5 Y-0.7", (1.5, -0.7, 0))
-        self.stands((POST, (0.8, -0.6), (3, -3)))
-        self.finds_so("Boss", 4, "boss: machine X0.8 Y-0.6", (0.8, -0.6, 0), Its=6, Down=3)
-        self.stands((BOX, (-9, -9, -9), (-4, 9, 9)), (BOX, (6, -9, -9), (9, 9, 9)))
-        self.finds_so("Pocket", 8, "pocket X: machine X1", (1, -0.6, 0))
-        self.stands((BOX, (-1.5, -9, -9), (2.5, 9, -3)))
-        self.finds_so("Web", 3, "web X: machine X0.5", (0.5, -0.6, 0), Its=4, Down=3)
-        self.stands((HOLE, (0, 0), (5, 9)))
-        box = self.begins("Bore", 3)
-        self.rests()
-        self.stays_within(box)
-        self.toasts("the probe isn't touched within 3.000000 mm: nothing more moves")
-        self.assertEqual((self.world.place, self.world.reached[1]), ((-3 * MM, 0, 0), (-3 * MM, 0, 0)))
-        self.shows("2.000", (0.5, -0.6, 0), 2)
-        self.no_complaints()
 
 
 class Setter(OverBodies):
