@@ -17,6 +17,7 @@ from ngc_tools.ngc.commands import FORMS
 from ngc_tools.ngc.console import Status
 from ngc_tools.operator.commands import BY_WORD, COMMANDS, Asked, Taken, help_text, words_taken
 from ngc_tools.operator.face import is_aside, is_override
+from ngc_tools.operator.setter import Probe, Setter
 from ngc_tools.page.able import able
 from ngc_tools.page.band import MOVING, OWN_LINES
 from ngc_tools.page.deeds import DEEDS, SWITCHES, WAITING
@@ -94,7 +95,8 @@ class Asks(unittest.TestCase):
         text = "\n".join(path.read_text() for path in sorted(STATIC.glob("*.js")))
         asked = set(re.findall(r"\b(?:asks|post)\('(\w+)'", text))
         self.assertEqual(asked - DEEDS.keys(), self.SERVERS)
-        enabled = set(re.findall(r"\bmay\(s, '(\w+)'\)", text)) | set(re.findall(r"\bs\.can\.(\w+)", text))
+        enabled = {word for words in re.findall(r"\bmay\(s, '(\w+)'\)|\bs\.can\.(\w+)|\.asking\('(\w+)'", text)
+                   for word in words if word}
         self.assertGreater(len(enabled), 12)
         self.assertEqual(enabled - told(Standing()).keys(), set())
 
@@ -112,6 +114,7 @@ class Standing:
     has_left: bool = False
     is_door_open: bool = False
     is_apart: bool = False
+    slot: int | None = 1  # what is in the spindle; 1 is the probe's
 
 
 def told(standing: Standing) -> dict[str, bool]:
@@ -120,9 +123,11 @@ def told(standing: Standing) -> dict[str, bool]:
     is_broken = bool(standing.gone) or report is not None and report.word == "broken" or status.does == "broken"
     stand = SimpleNamespace(gone=standing.gone, is_broken=is_broken, recovery={"left": standing.has_left})
     inner = SimpleNamespace(program=SimpleNamespace(text=b"M2\n"), is_door_open=standing.is_door_open)
+    touch = SimpleNamespace(setter=Setter(probe=Probe(1)))
     session = SimpleNamespace(ended=standing.ended, stand=stand, is_busy=bool(standing.under),
                               under=SimpleNamespace(word=standing.under) if standing.under else None,
-                              operator=SimpleNamespace(session=inner))
+                              operator=SimpleNamespace(session=inner, touch=touch),
+                              kept=SimpleNamespace(device=SimpleNamespace(slot=standing.slot)))
     return able(session, status, report, standing.machine, report.outputs if report else OFF, standing.is_apart)
 
 
@@ -216,6 +221,18 @@ class Buttons(unittest.TestCase):
                                    {"jog"})):
             found = told(standing)
             self.assertEqual({word for word in self.MOVES if found[word]}, enabled)
+
+    def test_inputs(self) -> None:
+        """None while the emergency stop is on, in an alarm neither; what seeks the probe while that is off alone, and
+        work is probed by the probe alone."""
+        for on, slot, enabled in ((("emergency_stop",), 1, set()), (("probe",), 1, {"home", "jog", "measure"}),
+                                  (("limit_x_low",), 1, self.MOVES), ((), 2, self.MOVES - {"probe"}),
+                                  ((), None, self.MOVES - {"probe"})):
+            found = told(Standing(machine=MoveReport("stands", on=on), slot=slot))
+            self.assertEqual({word for word in self.MOVES if found[word]}, enabled, (on, slot))
+        alarm = Standing(machine=MoveReport("stands", alarm="emergency_stop", on=("emergency_stop",)))
+        alarm.report = replace(alarm.report, word="alarm")
+        self.check(alarm, {"hold", "reference", "quit"})
 
     def test_nothing_there(self) -> None:
         """Once `ngc` has ended, its player is gone, its device failed, or lines are left in OUT."""

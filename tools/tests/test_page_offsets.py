@@ -105,6 +105,7 @@ class Table(test_page_browser.Moves):
         self.look("the offsets")
         browser.press("G55", "#over .offsets button")
         set_is_off = "document.querySelector('#over .go').disabled"
+        given = "[...document.querySelectorAll('#over .sight button')].map(one => [one.textContent, one.disabled])"
         self.assertTrue(browser.js(set_is_off))
         browser.fill("#over input[aria-label='G55 X, in mm']", "2,5")
         self.assertEqual((self.differs(), browser.js(set_is_off)), ("0 to 2.5 mm, by +2.5||", False))
@@ -118,12 +119,16 @@ class Table(test_page_browser.Moves):
         browser.wait("document.querySelectorAll('#over .offsets button').length === 11 && !ngc.state.busy")
         self.assertEqual(self.row("G55").split("\n")[1:], ["X 2.500  Y \u221220.000  Z 0.000",
                                                           "machine here: X \u22122.500  Y 20.000  Z 0.000"])
+        browser.press("G92", "#over .offsets button")
+        self.assertEqual(browser.js(given), [["Set G92", True], ["None: G92.1", True]])  # as it is
         browser.press("Length", "#over .offsets button")
         self.look("lengths")
+        self.assertEqual(browser.js(given), [["H1: 50.000 mm", False], ["None: G49", True]])
         browser.press("H1: 50.000 mm", "#over button")
         browser.press("Yes: sets it", "#over .go")
         browser.wait("document.querySelectorAll('#over .offsets button').length === 11 && !ngc.state.busy")
         self.assertEqual(self.row("Length").split("\n")[1:], ["50.000 mm", "as slot 1 has; no tool is in"])
+        self.assertEqual(browser.js(given), [["H1: 50.000 mm", True], ["None: G49", False]])
         browser.press("Undo: G49", "#over button")
         browser.wait("ngc.state.tool_length === '0.000000' && !ngc.state.busy")
         browser.press("Back", "#over button")

@@ -5,6 +5,7 @@ import re
 import sys
 import unittest
 from contextlib import closing
+from dataclasses import replace
 from pathlib import Path
 
 sys.path.insert(0, str(Path(__file__).resolve().parent))
@@ -31,6 +32,11 @@ TITLES = {"edge": "Edge", "outside": "Outside corner", "inside": "Inside corner"
           "boss": "Boss", "pocket": "Pocket", "web": "Web"}
 
 
+NO_PROBE = """[document.querySelector('#over .go').disabled,
+    document.querySelector('#over .routine .warn')?.textContent ?? '']"""
+"""Whether the button of a routine is dead, and why."""
+
+
 class Sheets(test_page_browser.Moves):
     """The player is in this process."""
 
@@ -43,6 +49,11 @@ class Sheets(test_page_browser.Moves):
         long = '"A name that is as long as a name may be" = ["M9"]\n'
         Path("first.macros").write_text('Lift = ["M5", "G53 G0 Z0"]\n' + long)
         super().begin_player()
+
+    def device(self) -> None:
+        """The probe is in the spindle."""
+        super().device()
+        self.run_ngc("reference 0 0 0\ntool 1 2\nmdi T1 M6\ntick 10\nmdi G43 H1\ntick 10\n", "before")
 
     def test_sheets(self) -> None:
         """Each routine has its picture and its entries, which take lengths alone; nothing moves by them."""
@@ -105,7 +116,7 @@ class Sheets(test_page_browser.Moves):
         self.no_complaints()
 
     def test_ways(self) -> None:
-        """The picture turns with the direction; what is refused is said, and nothing moves."""
+        """The picture turns with the direction; a probe that is on touches no work, which is said; nothing moves."""
         browser = self.browser
         browser.press("Setup", "nav button")
         browser.press("Probe the work", "#tab-setup button")
@@ -114,10 +125,11 @@ class Sheets(test_page_browser.Moves):
         self.assertEqual(browser.js(turned), "translate(60 45) scale(1 1) translate(-60 -45)")
         browser.press("X\u2212 Y+", "#over button")
         self.assertEqual(browser.js(turned), "translate(60 45) scale(-1 1) translate(-60 -45)")
-        browser.press("Probe", "#over .go")
-        says = browser.wait("document.getElementById('toast').checkVisibility() && document.getElementById('toast')"
-                            ".textContent")
-        self.assertTrue(says.startswith("no tool is in the spindle, by its last M6, and the probe is tool 1"), says)
+        axes = self.machine.axes
+        for on, says in ((("probe",), "The probe is on: it touches something, or its wire is broken."), ((), "")):
+            axes.stands = axes.machine = replace(axes.stands, on=on)
+            browser.wait(f"ngc.state.inputs.length === {len(on)}")
+            self.assertEqual(browser.js(NO_PROBE), [bool(says), says])
         self.assertEqual(self.machine.axes.words, [])
         self.no_complaints()
 
@@ -204,7 +216,7 @@ class OverBodies(OverWorld, test_page_browser.InBrowser):
 class Misbehaves(OverBodies):
     """The probe, tool 1, hangs 2 mm below the spindle, its ball 1 mm wide; a block stands at X5."""
 
-    BEFORE = "tool 1 2\n"
+    BEFORE = "tool 1 2\ntool 2 3\n"
 
     def begin_player(self) -> None:
         """The block."""
@@ -219,13 +231,18 @@ class Misbehaves(OverBodies):
         self.do("G43 H1")
 
     def test_probe(self) -> None:
-        """One that is on at first, one that never comes on, and one whose touches differ: the page says so, nothing
-        goes beyond what it said before, and no zero is set. One that bounces by less than touches may differ finds the
-        edge as exactly, and a no sets no zero; once it is well it finds the edge."""
+        """One that isn't in, or is on at first, one that never comes on, and one whose touches differ: the page says so,
+        nothing goes beyond what it said before, and no zero is set. One that bounces by less than touches may differ
+        finds the edge as exactly, and a no sets no zero; once it is well it finds the edge."""
         world = self.world
+        self.puts_in(2)
+        self.dead("The probe isn\u2019t in the spindle: change to it first.")
+        self.puts_in(1)
+        self.do("G49")
+        self.dead("The probe\u2019s length isn\u2019t in force: give it by G43 first.", "Surface")
+        self.do("G43 H1")
         self.puts_probe(True)
-        self.refused("Edge", 6, "the probe is on before it is sought, and nothing may touch it: nothing moves")
-        self.assertEqual(world.reached[1:], ((0, 0, 0), (0, 0, 0)))
+        self.dead("The probe is on: it touches something, or its wire is broken.")
         self.puts_probe(False)
         world.touching(PROBE, is_dumb=True)
         self.refused("Edge", 6, "the probe isn't touched within 6.000000 mm: nothing more moves")
@@ -305,6 +322,15 @@ class Misbehaves(OverBodies):
         self.stays_within(box)
         self.toasts(why)
         self.shows("2.000", (0, 0, 0), 2)
+
+    def dead(self, why: str, title: str = "Edge") -> None:
+        """A routine can't begin, and the page says why."""
+        self.browser.press("Setup", "nav button")
+        self.browser.press("Probe the work", "#tab-setup button")
+        self.browser.press(title, "#over .routines button")
+        self.browser.wait(f"{NO_PROBE}.join() === {json.dumps(f'true,{why}')}")
+        self.browser.press("Back", "#over button")
+        self.browser.press("Back", "#over button")
 
     def finds(self, title: str, within: float) -> str:
         """What is asked behind a routine that found the work; nothing went beyond what was said before the yes, and the

@@ -24,7 +24,8 @@ class Steady(InBrowser):
     MACHINE = "[motion]\naccel_mm_s2 = [500, 500, 300]\n"
 
     def test_twice(self) -> None:
-        """After a hold at a tool change the second tap on `Tool 1 is in` doesn't hit `Continue`."""
+        """After a hold at a tool change the second tap on `Tool 1 is in` doesn't hit `Continue`. While the job goes on
+        the button of a sheet that was open before is dead."""
         browser = self.browser
         browser.open(self.address)
         self.assertEqual(browser.wait("window.ngc?.state?.yours && ngc.jobId !== null && ngc.dead.ms"), 1000)
@@ -55,7 +56,11 @@ class Steady(InBrowser):
         self.assertEqual(browser.js("[ngc.state.does, ngc.state.busy, ngc.state.motors[0]]"),
                          ["held", False, "0.000000"])
         browser.js("void (document.getElementById('run').inert = false)")
+        browser.press("Quit", "#quit")
+        ends = "document.querySelector('#over .go').disabled"
+        self.assertFalse(browser.js(ends))
         browser.press("Continue", "#run")
+        browser.wait(f"ngc.state.busy && {ends}")
         browser.wait("ngc.state.motors[0] > 0")
         self.no_complaints()
 
@@ -159,9 +164,16 @@ class Fingers(test_page_browser.Moves):
 
     def test_scroll(self) -> None:
         """A finger that begins to scroll on a jog button jogs nothing; one that rests there does, until it is lifted,
-        and with a length one that taps.
+        and with a length one that taps. Until that is done the buttons are dead, and where the travel ends one is.
         """
         browser, jogs = self.browser, lambda: [word for word in self.machine.axes.words if word.startswith("jog")]
+        dead = "[...document.querySelectorAll('.pad button')].filter(one => one.disabled).map(one => one.textContent)"
+        self.machine.axes.at_nm = [10**9, 0, -10**9]
+        browser.wait("ngc.state.ends.length")
+        self.assertEqual(browser.js(f"[{dead}, document.querySelector('.jog .hint').textContent]"),
+                         [["X+", "Z\u2212"], "The travel ends there: X+ Z\u2212"])
+        self.machine.axes.at_nm = [0, 0, 0]
+        browser.wait("!ngc.state.ends.length")
         browser.js(FINGER)
         for length in ("10", "Cont."):
             browser.press(length, ".jog .choices button")
@@ -176,6 +188,7 @@ class Fingers(test_page_browser.Moves):
         browser.wait("!ngc.state.busy")
         browser.press("10", ".jog .choices button")
         browser.js("finger('pointerdown', 0), finger('pointermove', 3), finger('pointerup', 3)")
+        browser.wait(f"{dead}.length === 6")
         self.wait_for("it goes so far", lambda: jogs()[-1].endswith("X+ 600 for 10"))
         self.assertFalse(any("for 10" in word for word in jogs()[:-1]))
 

@@ -98,6 +98,12 @@ class Needs(Flag):
     TAKES_MOVES = auto()
     """It takes one now, but for the door, for what is on and for what is under way."""
     DOOR_SHUT = auto()
+    STOP_FREE = auto()
+    """The emergency stop is off."""
+    PROBE_FREE = auto()
+    """The probe touches nothing."""
+    PROBE_IN = auto()
+    """It is in the spindle, by the last M6."""
     ALL_OFF = auto()
     """Spindle and coolant are off."""
     SOMETHING_ON = auto()
@@ -116,7 +122,7 @@ _SETTING = _LINE | Needs.IDLE
 _FROM_PLACE = _SETTING | Needs.ONE_PLACE
 LINE_FROM_PLACE = _LINE | Needs.ONE_PLACE
 """What a line of G-code needs that a button stands for, but for M5 and M9, which are taken at two places too."""
-_MOVE = _THERE | Needs.MAKES_MOVES | Needs.TAKES_MOVES | Needs.DOOR_SHUT
+_MOVE = _THERE | Needs.MAKES_MOVES | Needs.TAKES_MOVES | Needs.DOOR_SHUT | Needs.STOP_FREE
 _TOWARDS = _MOVE | Needs.ALL_OFF | Needs.NOT_BUSY
 _ROUTINE = _TOWARDS | _FROM_PLACE
 
@@ -176,7 +182,7 @@ COMMANDS = (
                     (("seek Z- 60 within 10", "until the probe is on, at most 10 mm"),),
                     usage="seek Z- RATE within MM: until the probe is on, as seek Z- 60 within 10",
                     taken=Taken.BROKEN_OFF,
-                    brings=Brings.MOVES, asked=Asked.GIVEN, needs=_TOWARDS | Needs.NO_ALARM),
+                    brings=Brings.MOVES, asked=Asked.GIVEN, needs=_TOWARDS | Needs.NO_ALARM | Needs.PROBE_FREE),
     OperatorCommand("zero", lambda operator, typed: operator.touch.zero(typed.rest, typed.anyway),
                     (("zero X Y Z", "here is X0, Y0, Z0 of the work; zero Z 10: here is Z10"),),
                     usage="zero X Y Z: which axes are 0 here? zero Z 10 for another coordinate than 0",
@@ -192,7 +198,8 @@ COMMANDS = (
                     (("probe edge X+", "until the probe touches an edge; also outside,\n"
                       "inside, surface, bore, boss, pocket, web"),),
                     usage=f"probe {', '.join(ROUTINES)}: which routine? probe outside X+ Y+ within 10 along 10",
-                    brings=Brings.MOVES | Brings.HANDS_OUT, asked=Asked.GIVEN, needs=_ROUTINE),
+                    brings=Brings.MOVES | Brings.HANDS_OUT, asked=Asked.GIVEN,
+                    needs=_ROUTINE | Needs.PROBE_IN | Needs.PROBE_FREE),
     OperatorCommand("measure", lambda operator, typed: operator.measuring.do(typed.rest),
                     (("measure", "the tool in the spindle, on the setter"),),
                     usage="measure: the tool in the spindle; measure from Z within MM: it goes down to that machine Z,"

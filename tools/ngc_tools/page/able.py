@@ -15,6 +15,12 @@ def is_given_before(session: PageSession, status: Status, report: Report | None)
     return is_told and session.under is None and status.does != "held" and goes_on(report)
 
 
+def is_probe_in(session: PageSession) -> bool:
+    """Whether the probe is in the spindle, by the last M6."""
+    probe = session.operator.touch.setter.probe
+    return probe is not None and session.kept.device.slot == probe.slot
+
+
 def able(session: PageSession, status: Status, report: Report | None, machine: MoveReport | None, outputs: Switch,
          is_apart: bool) -> dict[str, bool]:
     """Of each command that a page may ask for, of `hold`, and of `turn`, which switches spindle or coolant on, whether
@@ -69,7 +75,10 @@ def _of_moves(session: PageSession, status: Status, report: Report | None, machi
               outputs: Switch) -> Needs:
     has_rest = report is not None and report.is_held and report.behind > 0
     is_alarm = report is not None and report.word == ALARM or machine is not None and bool(machine.alarm)
+    on = machine.on if machine else ()
     is_broken_off = report is not None and report.word == BROKEN and status.does != "broken"
     takes = status.does in ("idle", "stopped") and not has_rest or is_alarm or is_broken_off
     return _those(NO_ALARM=not is_alarm, MAKES_MOVES=machine is not None, TAKES_MOVES=takes, MOTORS_FREE=not has_rest,
-                  DOOR_SHUT=not session.operator.session.is_door_open, ALL_OFF=not on_words(outputs))
+                  DOOR_SHUT=not session.operator.session.is_door_open, ALL_OFF=not on_words(outputs),
+                  STOP_FREE="emergency_stop" not in on, PROBE_FREE="probe" not in on,
+                  PROBE_IN=is_probe_in(session))

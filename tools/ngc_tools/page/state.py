@@ -15,7 +15,7 @@ from ngc_tools.operator.display import on_words
 from ngc_tools.operator.motors import way_nm
 from ngc_tools.operator.sentences import SWITCHED
 from ngc_tools.operator.session import ALARM
-from ngc_tools.page.able import able, is_given_before
+from ngc_tools.page.able import able, is_given_before, is_probe_in
 from ngc_tools.page.band import Standing
 from ngc_tools.page.face import LOOKS
 from ngc_tools.page.offsets import offsets_of
@@ -193,10 +193,17 @@ class Pictured:
         machine = self._machine_said
         if machine is None:
             return {"machine": None, "homed": "", "alarm": "", "came_by": "", "left": "", "inputs": [],
-                    "touched": None}
+                    "touched": None, "ends": []}
         return {"machine": machine.does, "homed": machine.homed, "alarm": machine.alarm, "left": self._left,
                 "came_by": self.operator.alarm.came_by or machine.alarm.replace("_", " "),
-                "inputs": machine.on, "touched": self._touched()}
+                "inputs": machine.on, "touched": self._touched(), "ends": self._ends()}
+
+    def _ends(self) -> list[str]:
+        """The ways along which the travel ends where the motors are, as `X+`."""
+        settings, at = self.session.settings, map(nanometres, self.report.at.split()) if self.report else ()
+        rooms = zip("XYZ", at, settings.low_nm, settings.high_nm, settings.step_nm)
+        return [f"{axis}{sign}" for axis, nm, low, high, step in rooms
+                for sign, room in (("+", high - nm), ("-", nm - low)) if room < step]
 
     def _touched(self) -> list[str] | None:
         """Where the probe was touched, as long as that can be used: nothing moved since, and the tool is the same."""
@@ -303,7 +310,7 @@ class Pictured:
                 "given_back": self.operator.choices.given, "not_given_back": self.operator.choices.lost,
                 "left_at": session.opened.left_at, "broken": self.stand.is_broken, "undo": self.operator.touch.undoes,
                 "setter": None if setter_nm is None else millimetres(setter_nm),
-                "has_probe": self.operator.touch.has_probe, "ball": self._ball(),
+                "has_probe": self.operator.touch.has_probe, "ball": self._ball(), "is_probe_in": is_probe_in(session),
                 "has_park": None not in self.operator.ways.home_nm[:2],
                 "measures": self.operator.measuring.is_on if self.operator.measuring.can else None,
                 "jobs": session.jobs is not None,

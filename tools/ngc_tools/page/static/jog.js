@@ -1,7 +1,7 @@
 // Jogging. A button moves an axis while a finger is on it: the page says so again and again, and the machine stops
 // where it says nothing any more. With a length it goes that far at each touch. A finger that begins to scroll there
 // moves nothing: it has to rest first, or, with a length, to be lifted where it came down.
-import { el } from './dom.js';
+import { el, text } from './dom.js';
 import { now } from './link.js';
 import { means } from './steady.js';
 import { follow, inMillimetres, typedLength, typedNanometres, unit } from './units.js';
@@ -31,7 +31,9 @@ export class Jog {
     this.rates = choices('Rate', RATES, rate => { this.rate = rate; }, this.rate);
     this.lengths = el('div', { class: 'lengths' });
     follow(() => this.showLengths());
-    this.box = el('div', { class: 'jog' }, this.lengths, el('div', { class: 'pad' }, ...this.buttons), this.rates);
+    this.ends = el('p', { class: 'hint' });
+    this.box = el('div', { class: 'jog' }, this.lengths, el('div', { class: 'pad' }, ...this.buttons), this.rates,
+      this.ends);
     for (const kind of ['blur', 'pagehide']) window.addEventListener(kind, () => this.stop());
     document.addEventListener('visibilitychange', () => { if (document.hidden) this.stop(); });
   }
@@ -142,8 +144,16 @@ export class Jog {
     this.isOn = false;
   }
 
-  enable(isFree) {
-    for (const button of this.buttons) button.disabled = !isFree;
+  // While something is under way a jog that goes on may turn, and none goes by a step: that goes to its end. Where the
+  // travel ends, as `ends` has it, none begins; the button that a finger is on hears of it as that is lifted.
+  enable(isFree, isBusy, ends) {
+    const isDown = this.isOn || this.finger;
+    this.buttons.forEach((button, i) => {
+      const [axis, sign] = PAD[i], isAtEnd = ends.includes(`${axis}${sign > 0 ? '+' : '-'}`);
+      button.disabled = !isFree || isBusy && this.length !== null || isAtEnd && !isDown;
+    });
+    text(this.ends, isFree && ends.length ? `The travel ends there: ${ends.join(' ').replaceAll('-', '\u2212')}` : '');
+    this.ends.hidden = !this.ends.textContent;
     if (!isFree) this.stop();
   }
 }

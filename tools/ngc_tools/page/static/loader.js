@@ -118,6 +118,6 @@ function loading(found, asks) {
     sheet.close();
     asks('load', { id: found.id });
   };
-  if (!isRefused) return sheet.go(does, give);
-  return sheet.button(found.adapted ? `${does} all the same` : 'Load it all the same', give);
+  if (!isRefused) return sheet.asking('load', sheet.go(does, give));
+  return sheet.asking('load', sheet.button(found.adapted ? `${does} all the same` : 'Load it all the same', give));
 }

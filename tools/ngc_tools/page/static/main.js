@@ -72,6 +72,7 @@ function show(s) {
   }
   if (app.state && app.state.program.id !== s.program.id) letGoOfJob();
   app.state = s;
+  sheet.show(s);
   alarm.show(s);
   showWords(s);
   showControls(s);
@@ -203,8 +204,9 @@ function whereIsIt() {
     s.past && sheet.said(byRecord(s.past)),
     hasHome && sheet.said('Where steps may be lost, as after a loss of power, home it.')],
   [sheet.button('Back', sheet.close), sheet.gap('Nothing moves by the first.'),
-    sheet.button(`Where the player counts${off}`, does('reference', { at: 'player', shown: s.motors })),
-    hasHome ? sheet.go('Home all', does('home', { axes: '' })) : '']);
+    sheet.asking('reference',
+      sheet.button(`Where the player counts${off}`, does('reference', { at: 'player', shown: s.motors }))),
+    hasHome ? sheet.asking('home', sheet.go('Home all', does('home', { axes: '' }))) : '']);
 }
 
 // A question that isn't of the recovery comes as a sheet of its own, and stays there as long as it is asked.
@@ -299,12 +301,13 @@ function showJob(got) {
 // Lines stand in OUT that no motor carried out, and no block is half-done.
 function takeUpLines() {
   const { words } = app.state.recover, does = what => () => { sheet.close(); asks(what); };
-  const drop = sheet.button('Drop', does('drop'), !app.state.behind); // on a way that was held nothing is cut off
+  // on a way that was held nothing is cut off
+  const drop = sheet.asking('drop', sheet.button('Drop', does('drop')), s => !s.behind);
   sheet.open('Lines that no motor carried out', [el('p', { class: 'asked' }, words), ...givenBack(app.state),
     sheet.said('Recover lets the motors go there, each step asked. Drop cuts these lines off, and nothing makes them '
       + 'any more.')],
   [sheet.button('Back', sheet.close), sheet.gap('Nothing moves yet.'), drop,
-    sheet.go('Recover', does('recover'))]);
+    sheet.asking('recover', sheet.go('Recover', does('recover')))]);
 }
 
 // From the middle of a program what is on stays as it is, and a cut may come first: it is rehearsed before. Where
@@ -320,7 +323,8 @@ async function goOn(s, title) {
   }
   const does = what => () => { sheet.close(); asks(what); };
   opened.words.replaceChildren(...goingOn(s, found).filter(Boolean));
-  opened.foot.append(s.restore?.length ? sheet.button('Restore', does('restore')) : '', sheet.go(title, does('run')));
+  const restore = s.restore?.length ? sheet.asking('restore', sheet.button('Restore', does('restore'))) : '';
+  opened.foot.append(restore, sheet.asking('run', sheet.go(title, does('run'))));
 }
 
 // What is said before the program goes on.
@@ -361,7 +365,7 @@ $('off').onclick = () => asks('off');
 $('from').onclick = () => asks('from', { line: program.chosen });
 $('program-space').addEventListener('click', () => { if (app.state) showFrom(app.state); });
 $('rewind').onclick = () => sheet.ask('From line 1?', [sheet.said('The program begins anew at its first line, as if it '
-  + 'were loaded again. Nothing moves yet.')], 'From line 1', () => asks('rewind'));
+  + 'were loaded again. Nothing moves yet.')], 'From line 1', 'rewind', () => asks('rewind'));
 document.addEventListener('keydown', event => {
   const isTyping = event.target.closest?.('input') && !event.target.disabled;
   if (event.code !== 'Space' || event.repeat || isTyping && !app.state?.busy) return;
@@ -401,7 +405,7 @@ $('quit').onclick = () => {
   const isHalf = app.state.half !== 'none';
   const stays = isHalf ? 'A line stays half-done: it is taken up or given up in the next session.'
     : 'What is stored stays.';
-  quitting = sheet.ask('End the session?', [sheet.said(stays)], 'Quit', () => asks('quit'));
+  quitting = sheet.ask('End the session?', [sheet.said(stays)], 'Quit', 'quit', () => asks('quit'));
 };
 
 function look(isFlat) {

@@ -104,7 +104,7 @@ export class Offsets {
 
   // What is no number is marked, and can't be set; nor can what is as it was.
   check() {
-    const isFree = may(this.state, 'offset');
+    const s = this.state, isFree = may(s, 'offset');
     for (const { input, was, differs, first } of this.entries) {
       const now = typedNanometres(input.value), by = now === null ? 0n : now - was;
       input.classList.toggle('wrong', now === null);
@@ -115,8 +115,11 @@ export class Offsets {
     }
     const changed = this.changed();
     this.set.disabled = !isFree || !Object.keys(changed).length || Object.values(changed).includes(null);
-    if (this.none) this.none.disabled = !isFree;
-    for (const one of this.editor.querySelectorAll('.slots button')) one.disabled = !isFree;
+    const isNone = this.chosen === LENGTH ? !Number(s.tool_length) : !s.offsets.g92.some(Number);
+    if (this.none) this.none.disabled = !isFree || isNone;
+    this.editor.querySelectorAll('.slots button').forEach((one, i) => {
+      one.disabled = !isFree || Number(s.tools[i]) === Number(s.tool_length);
+    });
   }
 
   // The axes that are written, with what is typed.

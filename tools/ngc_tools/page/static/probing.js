@@ -15,7 +15,14 @@ let table = null; // the routines, once they are fetched
 export class Probing {
   constructor(asks) {
     this.asks = asks;
+    this.why = el('div'); // a routine can't begin
     follow(() => { this.typed = {}; }); // lengths that somebody typed, by their names
+  }
+
+  // Whether a routine may begin, and why the probe is none for any of them, or for one along Z.
+  show(isFree, why, whyNoZ) {
+    Object.assign(this, { isFree, noProbe: why, noZ: whyNoZ });
+    if (this.start?.isConnected) this.check();
   }
 
   // The sheet on which a routine is chosen.
@@ -30,36 +37,39 @@ export class Probing {
 
   // The sheet of one routine.
   choose(routine, ways) {
-    const begin = sheet.go('Probe', () => this.begin(routine, ways));
-    const entries = Object.entries(routine.lengths).map(([name, usual]) => this.entry(name, usual, begin));
+    this.name = routine.name;
+    this.start = sheet.go('Probe', () => this.begin(routine, ways));
+    const entries = Object.entries(routine.lengths).map(([name, usual]) => this.entry(name, usual));
     const all = waysOf(routine).map(one => el('button', { 'aria-pressed': String(one === ways),
       onclick: () => this.choose(routine, one) }, one.replaceAll('-', MINUS)));
     sheet.open(TITLES[routine.name], [
       el('div', { class: 'routine' }, picture(routine.name, ways), el('div', {},
         sheet.said(`Put the probe ${routine.where}. It goes from there along the arrows, one axis at a time.`),
         all.length > 1 ? el('div', { class: 'choices', role: 'group', 'aria-label': 'Towards the work' }, ...all) : '',
-        ...entries))],
-    [sheet.button('Back', () => this.open()), sheet.gap('It says first what moves, and asks.'), begin]);
-    this.check(begin);
+        ...entries, this.why))],
+    [sheet.button('Back', () => this.open()), sheet.gap('It says first what moves, and asks.'), this.start]);
+    this.check();
   }
 
-  entry(name, usual, begin) {
+  entry(name, usual) {
     const value = this.typed[name] ?? (Number(usual) ? entered(nanometres(usual)) : '');
     this.typed[name] = value;
     const input = el('input', { value, inputMode: 'decimal', 'aria-label': `${LENGTHS[name]}, in ${unit.name}` });
     input.addEventListener('input', () => {
       this.typed[name] = input.value;
-      this.check(begin);
+      this.check();
     });
     return el('label', { class: 'entry-row' }, LENGTHS[name], input, unit.name);
   }
 
-  // A routine begins with lengths alone.
-  check(begin) {
+  // A routine begins with lengths alone, and with a probe.
+  check() {
+    const no = this.noProbe || (this.name === 'surface' && this.noZ) || '';
+    this.why.replaceChildren(no ? sheet.warning(no) : '');
     const inputs = [...document.querySelectorAll('#over .routine input')];
     const isWrong = one => !((typedNanometres(one.value) ?? 0n) > 0n);
     for (const one of inputs) one.classList.toggle('wrong', isWrong(one) && one.value.trim() !== '');
-    begin.disabled = inputs.some(isWrong);
+    this.start.disabled = !this.isFree || no !== '' || inputs.some(isWrong);
   }
 
   begin(routine, ways) {

@@ -70,9 +70,8 @@ export class Recovery {
   homeFirst() {
     this.later();
     sheet.ask('Home all axes?', [sheet.said('Each goes to its switch, in the order of the machine\u2019s file. Where '
-      + 'the tool stands in the work, free it by hand first. Then come these steps again.')], 'Home', async () => {
-      this.isHoming = await this.asks('home', { axes: '' }) !== null;
-    });
+      + 'the tool stands in the work, free it by hand first. Then come these steps again.')], 'Home', 'home',
+    async () => { this.isHoming = await this.asks('home', { axes: '' }) !== null; });
   }
 
   // The session goes on meanwhile: what is shown follows it.
@@ -331,7 +330,8 @@ export class Recovery {
       && sheet.warning('Spindle and coolant stay as they are: the button below switches them off.'),
       sheet.said('Continue asks you to look once more, where nothing was cut yet. After Quit the line is still '
         + 'half-done.')],
-    [sheet.button('Close', () => this.later()), sheet.gap(), this.next('Continue', () => this.asks('run'))]);
+    [sheet.button('Close', () => this.later()), sheet.gap(),
+      sheet.asking('run', this.next('Continue', () => this.asks('run')))]);
   }
 
   choice() {
@@ -343,10 +343,9 @@ export class Recovery {
     const recovers = () => this.asks('recover', { at: this.at, shown: this.shown });
     const does = { along: recovers, legs: recovers, straight: () => this.resume(),
       own: () => this.resume() };
-    const canRecover = may(this.app.state, 'recover'), canTell = may(this.app.state, 'reference');
-    const can = { along: canRecover, legs: canRecover, straight: canRecover && canTell, own: canRecover && canTell };
-    const buttons = offered.map((name, i) => (i === (this.along ? 0 : offered.length - 1) ? sheet.go : sheet.button)(
-      CHOICES[name][0], does[name], can[name]));
+    const tells = s => may(s, 'reference'), needs = { straight: tells, own: tells };
+    const buttons = offered.map((name, i) => sheet.asking('recover', (i === (this.along ? 0 : offered.length - 1)
+      ? sheet.go : sheet.button)(CHOICES[name][0], does[name]), needs[name]));
     this.put([sheet.title('Take the line up, or give it up'),
       ...[...offered, 'giveUp'].map(name => sheet.said(el('b', {}, CHOICES[name][0]), ` ${CHOICES[name][1]}`)),
       sheet.said('Before anything moves, spindle and coolant are switched on as they were, and you look.'),
@@ -363,8 +362,8 @@ export class Recovery {
       button.onclick = () => this.abandon();
       text(button, 'Yes, give it up');
       button.className = 'danger';
-    }, may(this.app.state, 'abandon') && may(this.app.state, 'reference'));
-    return button;
+    });
+    return sheet.asking('abandon', button, s => may(s, 'reference'));
   }
 
   resume() {

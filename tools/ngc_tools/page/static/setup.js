@@ -59,6 +59,7 @@ export class Setup {
     this.loss = toggle('Job goes on if this page is lost', () => asks('loss', { goes: !isChosen(this.loss) }));
     for (const one of [this.touch, this.onWork, this.undo, this.table, this.work, this.measure, this.keep]) one.className = 'wide';
     this.why = el('p', { class: 'hint why' });
+    this.noSeek = el('p', { class: 'hint' });
     this.parts = {
       home: part('Home', this.homed, el('div', { class: 'four' }, ...this.home)),
       jog: el('section', { class: 'part' }, this.jog.box, ...this.keys.box),
@@ -67,7 +68,7 @@ export class Setup {
         el('div', { class: 'four' }, ...this.zero), this.undo, this.table),
       probe: part('Seek the probe', this.touched,
         el('label', { class: 'entry-row' }, 'At most', this.within, unitName()),
-        el('div', { class: 'five' }, ...this.seeks), this.work),
+        el('div', { class: 'five' }, ...this.seeks), this.noSeek, this.work),
       tool: part('Touch off a tool', null, this.setter, this.length, this.touch,
         this.workRow, this.workLength, this.onWork, this.measure, this.from, this.measures),
       switches: part('Switches', null, ...this.switches.box),
@@ -91,12 +92,15 @@ export class Setup {
     const isHome = i => i === 0 || (s.homes ?? 'XYZ').includes(AXES[i - 1]);
     this.home.forEach((one, i) => { one.disabled = !may(s, 'home') || !isHome(i); });
     this.jog.told = s.press;
-    this.jog.enable(may(s, 'jog'));
+    this.jog.enable(may(s, 'jog'), s.busy, s.ends);
     this.keys.show(s);
     this.within.disabled = !may(s, 'seek');
     for (const one of this.seeks) one.disabled = this.within.disabled || typed(this.within) === null;
-    this.work.disabled = !may(s, 'probe');
+    this.work.disabled = !may(s, 'measure'); // a sheet, where a routine is dead as long as the probe isn't in
     this.work.hidden = !s.ball;
+    this.probing.show(may(s, 'probe'), whyNoProbe(s), whyNoZ(s));
+    text(this.noSeek, isTouching(s) ? TOUCHES : '');
+    this.noSeek.hidden = !isTouching(s);
     for (const one of [this.value, this.byProbe]) one.disabled = !may(s, 'zero');
     for (const one of this.zero) one.disabled = !may(s, 'zero') || typed(this.value) === null;
     text(this.touched, s.touched ? `touched: ${place(s.touched)} ${unit.name}` : '');
@@ -211,10 +215,29 @@ function whyNot(s) {
   if (!s.yours) return 'This page watches: Take over, to move the machine from here.';
   if (s.busy || s.ended || s.player_gone) return '';
   if (s.door_open) return 'The door is open: nothing moves until it is closed.';
+  if (s.inputs.includes('emergency_stop')) return 'The emergency stop is on: nothing moves until it is released.';
   if (s.alarm) return 'After the alarm home comes first.';
   if (s.does === 'held') return 'A line is held: Continue or Stop comes before the axes are jogged or homed.';
   if (s.held_motors && s.behind) return 'The motors are held with lines in hand: Go on carries them out first.';
   return isOn(s) ? 'Spindle or coolant is on: home and the probe want both off.' : '';
+}
+
+const TOUCHES = 'The probe is on: it touches something, or its wire is broken.';
+
+const isTouching = s => s.inputs.includes('probe');
+
+// Why the probe touches no work, where that isn't why nothing moves.
+function whyNoProbe(s) {
+  if (isTouching(s)) return TOUCHES;
+  return s.is_probe_in ? '' : 'The probe isn\u2019t in the spindle: change to it first.';
+}
+
+// Nor finds it a Z: that is by its length, which has to be in force.
+function whyNoZ(s) {
+  const length = s.tools[s.ball?.slot - 1];
+  if (length === undefined) return 'The probe has no length yet: give it one under Tools first.';
+  if (Number(length) === Number(s.tool_length)) return '';
+  return 'The probe\u2019s length isn\u2019t in force: give it by G43 first.';
 }
 
 function part(title, beside, ...content) {

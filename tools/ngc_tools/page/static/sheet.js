@@ -1,5 +1,5 @@
 // Sheets over the middle of the page: a question, findings, recovery. The state and Hold stay in sight.
-import { $, el } from './dom.js';
+import { $, el, may } from './dom.js';
 import { means, rest } from './steady.js';
 
 // What a sheet asks, and what its buttons answer: where that changes they are dead for a second.
@@ -42,9 +42,30 @@ export function close() {
   $('over').replaceChildren();
 }
 
-// Asks for a yes, and does then what was wanted. Returns the parts of its sheet.
-export function ask(name, content, yes, does) {
-  return open(name, content, [gap(), button('Back', close), go(yes, () => { close(); does(); })]);
+// Asks for a yes, and does then what was wanted, by a command. Returns the parts of its sheet.
+export function ask(name, content, yes, command, does) {
+  return open(name, content, [gap(), button('Back', close), asking(command, go(yes, () => { close(); does(); }))]);
+}
+
+// ---- buttons that ask for commands: while one isn't taken they are dead, also where that changes below the sheet
+
+const needs = new Map();
+let told = null; // the last state
+
+// Gives a button which asks for a command back. `holds` is what it wants of a state besides.
+export function asking(command, node, holds = () => true) {
+  const isFree = s => may(s, command) && holds(s);
+  needs.set(node, isFree);
+  node.disabled = !told || !isFree(told);
+  return node;
+}
+
+export function show(s) {
+  told = s;
+  for (const [node, isFree] of needs) {
+    if (node.isConnected) node.disabled = !isFree(s);
+    else needs.delete(node);
+  }
 }
 
 // ---- what stands on a sheet
