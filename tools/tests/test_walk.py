@@ -1,5 +1,7 @@
 """The walk by chance over the page, at seeds that are always the same, for two minutes, or for so many seconds as
 NGC_WALK_S says; and that it finds faults that are planted. Skipped where there is no Chromium."""
+import dataclasses
+import json
 import os
 import signal
 import sys
@@ -16,8 +18,10 @@ from browser_support import chromium
 from session_support import PATIENCE_S, InFolder
 from walk import ROUTINES, Covered, Step, Walk, shortened, told, walked
 from walk_late import Lateness
+from walk_machine import Outputs
 from walk_page import Seen, Tabs
 from walk_rules import Judge, Truth, Wrong
+from walk_touches import Press, choices_kept, confirmed, refusals, second_tap, switched_off, taken
 
 WALK_S = float(os.environ.get("NGC_WALK_S", "120"))
 SHORTEN_S = 60.0
@@ -105,6 +109,131 @@ class Places(unittest.TestCase):
             with self.subTest((known, x, risk)):
                 with nullcontext() if is_right else self.assertRaises(Wrong):
                     judge.place(seen, 99.2, 100.0)
+
+
+class Touched(unittest.TestCase):
+    """What must hold of a touch, and of what comes of it: a record of each fault is found by its rule."""
+
+    ALL_OFF = Outputs(0, 0.0, 0, 0, 0)
+
+    def setUp(self) -> None:
+        """A judge over a machine that rests, on a computer that is never late."""
+        self.mill = SimpleNamespace(outputs=self.ALL_OFF, pulses=0, turns_since=0.0, moved=lambda *_: {},
+                                    steps_between=lambda *_: (0.0, 0.0), last_pulse_at=lambda: 0.0,
+                                    rate_mm_s=lambda _: 10.0, pauses_ms=lambda _: [])
+        self.judge = Judge(SimpleNamespace(mill=self.mill), SimpleNamespace(slack_s=lambda _: 0.0))
+
+    def wrong(self, rule: str, is_wrong: bool, does: Callable[..., object], *given: object) -> None:
+        """A rule finds this, where it is a fault."""
+        with self.subTest(given):
+            if not is_wrong:
+                does(*given)
+                return
+            with self.assertRaises(Wrong) as raised:
+                does(*given)
+            self.assertEqual(raised.exception.rule, rule)
+
+    def test_moves_before_look(self) -> None:
+        """Motion that follows the spindle without a touch, and one while the look is asked for; not what came before,
+        nor what was agreed to."""
+        self.mill.moved, self.judge.truth = lambda *_: {"Z-": 9}, Truth(may_move=True, is_recovering=True)
+        for turns_since, is_wrong in ((5.0, True), (3.0, False)):
+            self.mill.turns_since, self.judge.truth.touched_at = turns_since, 4.0
+            self.wrong("moved before the look", is_wrong, self.judge.moves)
+        for way_mm, is_wrong in ((0.005, True), (0.0, False)):
+            self.mill.steps_between = lambda begin, end, way_mm=way_mm: (way_mm if begin < 11 < end else 0.0, end)
+            self.judge.looks(self.look(["false"] * 3), 10.0)
+            self.wrong("moved before the look", is_wrong, self.judge.looks, self.look(["true"] * 3), 12.0)
+
+    @staticmethod
+    def look(ticked: list[str], is_enabled: bool = False) -> Seen:
+        """A page that asks for a look."""
+        return Seen(0.0, {"question": {"id": 7, "purpose": "look"}, "session": "a", "yours": True, "looks": ticked,
+                          "goes": [["Yes: goes there", is_enabled]], "detail": "Nothing moves"})
+
+    def test_look_anew(self) -> None:
+        """After a reload the ticks are gone, and it can be agreed to all the same, whether they are shown or not."""
+        for ticked, is_enabled, is_wrong in (
+                (["false"] * 3, True, True), ([], True, True), (["true", "false", "true"], True, True),
+                (["true"] * 3, True, False), (["false"] * 3, False, False)):
+            self.wrong("look unticked", is_wrong, self.judge.looks, self.look(ticked, is_enabled), 10.0)
+
+    def test_second_tap(self) -> None:
+        """The second tap on a button that says something else by then does something."""
+        taps = [{"kind": "click", "id": "run", "text": text, "at": at} for text, at in (("Run", 1), ("Continue", 2))]
+        same = [taps[0] | {"at": at} for at in (1, 2)]
+        for clicks, at, is_wrong in ((taps, 3, True), (taps, 1.5, False), (same, 3, False)):
+            self.wrong("second tap", is_wrong, second_tap, clicks, [{"what": "run", "at": at}])
+
+    def test_choices(self) -> None:
+        """What was chosen before a loss of power is lost for the job that goes on, and isn't named."""
+        before = {"Block delete": True, "Single block": False, "Feed 80 %": True}
+        for is_on, feed, says, begun, is_wrong in (
+                ("true", "80", "", True, False), ("false", "80", "", True, True), ("true", "100", "", True, True),
+                ("false", "80", "Block delete isn't given back", True, False), ("false", "80", "", False, False)):
+            seen = {"switches": {"single": "false", "optional": "false", "delete": is_on}, "begun": begun, "word": "",
+                    "detail": "", "overrides": [f"Feed {feed} %"], "sheet": says} | dict.fromkeys(
+                        ("header", "toast", "place", "share"), "")
+            self.wrong("choices lost", is_wrong, choices_kept, before, Seen(0.0, seen))
+
+    def test_confirmed(self) -> None:
+        """A place is confirmed that is further off than the button says."""
+        off = "\u00b1\u00a00.500\u00a0mm"
+        for off_mm, says, is_wrong in ((0.6, f"Confirm, {off}", True), (0.4, f"\u2713 There, {off}", False),
+                                       (0.05, "Confirm", True), (0.0, "Confirm", False)):
+            self.wrong("confirmed further off", is_wrong, confirmed, "X", off_mm, says)
+
+    def test_stop(self) -> None:
+        """Stop leaves the spindle or the coolant on."""
+        for on, is_wrong in ((Outputs(1, 500.0, 0, 0, 1), True), (Outputs(0, 0.0, 0, 1, 1), True),
+                             (self.ALL_OFF, False)):
+            self.mill.outputs = on
+            self.wrong("stop leaves it on", is_wrong, switched_off, self.judge, time.monotonic() - 10)
+
+    def test_limit(self) -> None:
+        """A limit isn't named, another one is, or the motors come to rest by a ramp."""
+        long_ago = time.monotonic() - 10
+        for word, detail, is_wrong in (("Idle", "Ready", True), ("ALARM", "Limit Y low. The motors stood", True),
+                                       ("ALARM", "Limit X high. The motors stood", False)):
+            seen = Seen(0.0, {"isLost": False, "word": word, "detail": detail})
+            self.wrong("limit not named", is_wrong, self.judge.is_named, seen, "X high", long_ago)
+        for late_s, is_wrong in ((0.115, True), (0.02, False)):
+            self.mill.last_pulse_at = lambda late_s=late_s: long_ago + late_s
+            self.mill.steps_between = lambda *_, late_s=late_s: (0.1, long_ago + late_s)
+            self.wrong("hold too late", is_wrong, self.judge.hold, long_ago, 0.1, True)
+        self.mill.last_pulse_at = lambda: long_ago + 0.115
+        self.judge.hold(long_ago)  # by a ramp it may
+
+    def test_refused(self) -> None:
+        """An enabled button is refused: wrong, but where what was asked for has a value that decides, or the page
+        couldn't know: by what it is told before and after."""
+        rests, runs = ({"busy": is_busy, "question": 0, "stored": 7, "at": "0"} for is_busy in (False, True))
+        went, busy = rests | {"at": "1"}, "something runs: hold first"
+        load, jog, mdi = ((name, body) for name, body in (("load", {"id": "7"}), ("jog", {"length": "10"}),
+                                                           ("mdi", {"line": "G0 X500"})))
+        ends, held = "jog X+: X ends at 60.000000", "somebody held since it was touched, and so it isn't done"
+        for says, asked, before, after, stamps, is_wrong in (
+                (busy, load, rests, rests, "1-0 1-0", True), (busy, load, runs, went, "1-0 1-0", True),
+                (busy, load, rests, runs, "1-0 1-0", False), (busy, load, rests, went, "1-0 1-0", False),
+                (ends, jog, rests, rests, "1-0 1-0", False), (ends, ("home", {}), rests, rests, "1-0 1-0", True),
+                ("refused X2 OutsideTravel: X goes to 500 mm", mdi, rests, rests, "1-0 1-0", False),
+                ("refused X2 OutsideTravel: X goes to 500 mm", ("park", {}), rests, went, "1-0 1-0", True),
+                (held, load, rests, rests, "1-0 2-1", False), (held, load, rests, rests, "1-0 2-0", True),
+                ("home: the emergency stop is on", ("home", {}), rests, went, "1-0 1-0", True)):
+            stamp, heard = stamps.split()
+            post = {"what": asked[0], "body": json.dumps(asked[1]), "ok": False, "stamp": stamp, "heard": heard}
+            seen = [Seen(0.0, {"facts": facts, "word": "Idle", "detail": ""}) for facts in (before, after)]
+            self.wrong("enabled, and refused", is_wrong, taken, self.judge, Press("Load", says, *seen, [post]))
+        gone = Press("Start ngc again", "progress: no player listens there", *seen, [post], False)
+        self.wrong("enabled, and refused", False, taken, self.judge, gone)
+        self.wrong("enabled, and refused", True, taken, self.judge, dataclasses.replace(gone, has_player=True))
+
+    def test_all_refusals(self) -> None:
+        """They are found in answers, and in Log, each once."""
+        posts = [{"ok": False, "said": '{"why": "no"}'}, {"ok": True, "said": '{"refused": "nor that"}'},
+                 {"ok": True, "said": '{"taken": true}'}, {"ok": None}]
+        log = [["refused", "10:00:00no"], ["said", "10:00:00yes"], ["refused", "10:00:01nor this"]]
+        self.assertEqual(refusals(posts, log), ["no", "nor that", "nor this"])
 
 
 class WaysOn(unittest.TestCase):
@@ -205,7 +334,8 @@ class Planted(InFolder):
         self.found("runs", "says it runs")
 
     def test_deeds(self) -> None:
-        """A button that does nothing, a move that nobody asked for, a refusal in Log alone, a late Hold."""
+        """A button that does nothing, a move that nobody asked for, a refusal in Log alone, a late Hold, and
+        an alarm that another limit is named for."""
         self.found("dead", "nothing comes of it", ("touch", "Single block"))
         self.does(("touch", "Setup"))
         self.found("moves", "moved unasked", ("touch", "Job goes on if this page is lost @This page"))
@@ -216,6 +346,7 @@ class Planted(InFolder):
         self.until(lambda walk: walk.bench.mill.rate_mm_s(time.monotonic()) > 3)
         later_s = 2 + 3 * LATE.slack_s(time.monotonic())  # than this computer may be by itself
         self.found(f"late {later_s:.1f}", "hold too late", ("hold", "button"))
+        self.found("limit", "limit not named", ("limit", "X high", "on"))
 
     def routine(self, number: int, fault: str, rule: str) -> None:
         """A fault of a routine is found by its rule."""

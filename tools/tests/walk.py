@@ -29,9 +29,10 @@ sys.path.insert(0, str(Path(__file__).resolve().parent))
 from browser_support import ANSWERS_S, Failed, chromium
 from session_support import PATIENCE_S, memory
 from walk_late import Lateness
-from walk_machine import JOBS, Bench
+from walk_machine import JOBS, LIMITS, NO_HOME_SWITCH, Bench
 from walk_page import Seen, Tabs
-from walk_rules import Judge, Truth, Wrong, changes, motors_of, number, within_of
+from walk_rules import ANSWER_S, Judge, Truth, Wrong, changes, motors_of, number, within_of
+from walk_touches import Press, choices_kept, chosen, confirmed, refusals, second_tap, switched_off, taken
 
 STEPS = 50
 BEGINS_S = 1.0
@@ -41,8 +42,6 @@ STILL_S = 0.15
 """Motors that made no pulse for so long rest, but in a dwell."""
 WAYS = 60
 """In so many steps a person has to get on, whatever came; to wait is none, unless nothing comes of it."""
-ANSWER_S = 2.0
-"""So soon something has to come of a touch."""
 _DIGITS = re.compile(r"\d+(?:\.\d+)?")
 
 Step = tuple[str, ...]
@@ -162,6 +161,8 @@ class Walk:
         self.judge = Judge(self.bench, late)
         self.done: list[Step] = []
         self.has_stop, self.has_door = False, False
+        self.limit = ""  # whose switch is on by hand
+        self.pressed: tuple[str, Seen] | None = None  # the button that was touched in this step, as it was seen
         self.seen: Seen | None = None
         self.chosen: dict[str, bool] = {}
         self.chosen_in = ""  # the session
@@ -197,6 +198,8 @@ class Walk:
         getattr(self, f"_do_{step[0]}")(*step[1:])
         did = time.monotonic()
         self.settle()
+        if self.pressed and self.tabs.sessions and self.bench.has_server():
+            self._taken()
         if self.covered.tells:
             took = f"{did - begun:.2f} + {time.monotonic() - did:.2f} s"
             print(f"  {step} {took}; {self.seen and self.seen.word}", flush=True)
@@ -267,6 +270,7 @@ class Walk:
             self._stops()
         if text.startswith("Confirm"):
             self._confirms(before, button)
+        self.pressed = text, before
         if not before.buttons[button]["chosen"]:
             self._answered(text, before.buttons[button]["says"], before)
         posts = self.tabs.posts(before.posts)
@@ -280,22 +284,18 @@ class Walk:
         touched = self.truth.touched_at
         self.judge.hold(touched)
         self._rests_now()
-        while (on := self.bench.mill.outputs) and (on.spindle or on.mist or on.flood):
-            if time.monotonic() > touched + ANSWER_S + self.judge.slack_s(touched):
-                raise Wrong("stop leaves it on", f"{on}")
-            time.sleep(0.02)
+        switched_off(self.judge, touched)
 
     def _confirms(self, seen: Seen, button: int) -> None:
-        """What is confirmed is at most as far off as the page says."""
+        """What is confirmed is at most as far off as its button says, but for what somebody told wrong before."""
         confirms = [i for i, one in enumerate(seen.buttons) if one["says"].startswith(("Confirm", "\u2713"))]
         axis = confirms.index(button)
         entries = [one for one in seen.entries if one["label"].startswith("Machine ")]
         if len(confirms) != 3 or len(entries) != 3 or (value := number(entries[axis]["value"])) is None:
             return
-        off_mm = abs(value - self.bench.mill.at_mm[axis])
-        said_mm = max(map(float, re.findall(r"(\d+\.\d+) mm", seen.sheet)), default=0.0)
-        if off_mm > said_mm + 0.01:
-            raise Wrong("confirmed further off", f"{'XYZ'[axis]} is {off_mm:.3f} mm off, told is {said_mm}")
+        at_mm, offset = self.bench.mill.at_mm[axis], (self.truth.offset or (0.0, 0.0, 0.0))[axis]
+        off_mm = min(abs(value - at_mm), abs(value - offset - at_mm))
+        confirmed("XYZ"[axis], off_mm - self.truth.late_mm, seen.buttons[button]["says"])
 
     def _told_place(self, posts: list[dict], before: Seen) -> None:
         """Where the person told that the machine stands: what is shown is off by as much from then on."""
@@ -317,7 +317,7 @@ class Walk:
                 truth.late_mm = 0.0
 
     def _answered(self, text: str, says: str, before: Seen) -> None:
-        """Something has to come of a touch of an enabled button, and a refusal has to be seen."""
+        """Something has to come of a touch of an enabled button."""
         begun = time.monotonic()
         until = begun + ANSWER_S
         while True:
@@ -327,32 +327,34 @@ class Walk:
                 return
             if not any(click["text"].strip() == says for click in clicks):
                 return  # it was made anew under the finger
-            if any(post["ok"] is False and _is_told(_why(post), after) for post in posts):
+            if any(changes(before, after)) or after.logs > before.logs and after.log[0][0] in ("said", "refused"):
                 return
-            if any(changes(before, after)) or after.logs > before.logs and after.log[0][0] == "said":
-                break
             if any(post["ok"] is None for post in posts):  # what is waited for may take its time
                 until = min(time.monotonic(), begun + PATIENCE_S) + ANSWER_S
             if time.monotonic() > until + self.judge.slack_s(until):
-                self._refused(text, before, after)
                 raise Wrong("nothing comes of it", f"{text}, at {before.word}: {before.detail}; posted {posts}")
             time.sleep(0.03)
-        self._refused(text, before, after)
 
-    def _refused(self, text: str, before: Seen, after: Seen) -> None:
-        """What is refused is told beside Log too."""
+    def _taken(self) -> None:
+        """What was touched last is taken, or refused for what the page couldn't know; and that is told beside Log."""
+        (text, before), self.pressed = self.pressed, None
         until = time.monotonic() + ANSWER_S
         while True:
-            count = max(0, after.logs - before.logs)
-            told = [says for kind, says in after.log[:count] if kind == "refused"]
-            silent = [says for says in told if not _is_told(says[8:], after)]
-            if not silent:
+            after = self.tabs.see()
+            if after.session != before.session or after.clicks < before.clicks:
                 return
+            posts = self.tabs.posts(before.posts)
+            told = refusals(posts, after.log[:max(0, after.logs - before.logs)])
+            silent = [says for says in told if not _is_told(says, after)]
+            if not silent:
+                break
             if time.monotonic() > until + self.judge.slack_s(until):
                 raise Wrong("refused in Log alone", f"{text}, at {before.word}: {silent[0]!r}; the page says"
                                                     f" {after.word}: {after.detail}")
             time.sleep(0.05)
-            after = self.tabs.see()
+        has_player = self.bench.has_player()
+        for press in (Press(text, says, before, after, posts, has_player) for says in told):
+            taken(self.judge, press)
 
     def _licence(self, text: str, seen: Seen) -> None:
         """A person asks for motion by some buttons, of some axes alone."""
@@ -416,13 +418,7 @@ class Walk:
             self.tabs.down(*place)
             self.tabs.up(*place)
             time.sleep(wait_s)
-        clicks = [one for one in self.tabs.clicks(before.clicks) if one["kind"] == "click"]
-        posts = self.tabs.posts(before.posts)
-        if len(clicks) == 2 and clicks[0]["text"] != clicks[1]["text"] and clicks[0]["id"] == clicks[1]["id"] != "":
-            late = [post["what"] for post in posts if post["at"] >= clicks[1]["at"]]
-            if late:
-                raise Wrong("second tap", f"{clicks[0]['text']} was tapped twice; the second tap was on"
-                                          f" {clicks[1]['text']}, and did {late}")
+        second_tap(self.tabs.clicks(before.clicks), self.tabs.posts(before.posts))
 
     def _do_jog(self, text: str, seconds: str) -> None:
         """Keeps a finger on a button for a while."""
@@ -430,7 +426,9 @@ class Walk:
         place = self.tabs.find("buttons", found[0]) if found else None
         if place is None:
             return
-        self._licence(found[1], self.tabs.see())
+        before = self.tabs.see()
+        self._licence(found[1], before)
+        self.pressed = found[1], before
         self.truth.touched_at = time.monotonic()
         self.tabs.down(*place)
         until = time.monotonic() + float(seconds)
@@ -587,13 +585,32 @@ class Walk:
             self.judge.hold(pressed)
             self._rests_now()
 
+    def _do_limit(self, name: str, what: str) -> None:
+        """Somebody pushes a limit's switch, or its wire breaks; or it is free again. No switch that home seeks is
+        pushed meanwhile: the machine would be homed where that was."""
+        if what == "free":
+            self.bench.input(f"limit {name}", False)
+            self.limit = ""
+            return
+        if self.limit or self.truth.homes_at is not None and name != NO_HOME_SWITCH:
+            return
+        is_seen = self.bench.has_player() and self.bench.has_server() and self.tabs.sessions
+        before, self.limit = self.tabs.see() if is_seen else None, name
+        pushed = time.monotonic()
+        self.bench.input(f"limit {name}", True)
+        self.judge.hold(pushed, is_dead=True)
+        self._rests_now()
+        if before and not (before.alarm or before.isLost or before.gone or before.ended or before.broken):
+            while not self.judge.is_named(self.tabs.see(), name, pushed):
+                time.sleep(0.05)
+
     def _do_kill(self, *names: str) -> None:
         """Processes are killed; all of them as by a loss of power."""
         is_moving = self.bench.mill.last_pulse_at() > time.monotonic() - 0.3
         self.judge.moves()
         if "server" in names and self.bench.has_server():
             self.settle()
-            self.chosen, self.chosen_in = _chosen(self.seen), self.seen.session
+            self.chosen, self.chosen_in = chosen(self.seen), self.seen.session
         if "ngc" in names and self.bench.has_server():
             self.bench.kill("ngc")
         self.bench.kill(*(name for name in names if name != "ngc"))
@@ -614,7 +631,8 @@ class Walk:
         elif what == "server" and not self.bench.has_server() and self.bench.has_player():
             self._start_server()
             self._until(lambda s: not s.isLost and s.session != self.chosen_in, PATIENCE_S)
-            self._chosen_again()
+            self.settle()
+            choices_kept(self.chosen, self.seen)
             self.chosen = {}  # of the next session nothing of it is asked
 
     def _start_server(self) -> None:
@@ -627,23 +645,13 @@ class Walk:
             self.bench.start_player()
             self.bench.start_server()
 
-    def _chosen_again(self) -> None:
-        """For a job that goes on what was chosen is in force again, or is named; for one that begins nothing is."""
-        self.settle()
-        seen = self.seen
-        if not seen.begun:
-            return
-        lost = [name for name, is_on in self.chosen.items() if is_on and not _chosen(seen).get(name)]
-        named = [name for name in lost if name.split(" ")[0].lower() in seen.all_words.lower()]
-        if lost != named:
-            raise Wrong("choices lost", f"chosen was {lost}; the page says {seen.word}: {seen.detail}")
-
     # the end of a walk
 
     def leads_out(self) -> None:
         """Whatever came: with all started again and nothing pressed, the buttons lead to a machine that rests, and
         takes a program. Raises Wrong."""
-        for step in (("door", "shuts"), ("stop", "freed"), ("start", "player"), ("start", "server")):
+        freed = [("limit", self.limit, "free")] if self.limit else []
+        for step in (("door", "shuts"), ("stop", "freed"), *freed, ("start", "player"), ("start", "server")):
             self.do(step)
         until, ways = time.monotonic() + ANSWERS_S, 0
         while ways < WAYS:
@@ -677,22 +685,6 @@ class Walk:
         while time.monotonic() < until:
             self.settle(0.3)
             time.sleep(0.05)
-
-
-def _chosen(seen: Seen) -> dict[str, bool]:
-    """What a person chose, by its name: whether it is in force."""
-    names = {"single": "Single block", "optional": "Optional stop", "delete": "Block delete"}
-    found = {names[name]: is_on == "true" for name, is_on in seen.switches.items()}
-    return found | {says: True for says in seen.overrides if not says.endswith(" 100 %")}
-
-
-def _why(post: dict) -> str:
-    """Why what was posted isn't done."""
-    said = str(post.get("said", ""))
-    try:
-        return str(json.loads(said).get("why", ""))
-    except ValueError:
-        return said
 
 
 def _text(seen: Seen, button: int) -> str:
@@ -735,8 +727,11 @@ class Chance:
             return "door", "shuts"
         if walk.has_stop and draw < 0.25:
             return "stop", "freed"
+        if walk.limit and draw < 0.25:
+            return "limit", walk.limit, "free"
         rare: tuple[tuple[float, Step], ...] = (
             (0.012, ("door", "opens")), (0.008, ("stop", "pressed")), (0.012, ("kill", "player")),
+            (0.01, ("limit", chance.choice([*LIMITS]), "on")),
             (0.008, ("kill", "ngc")), (0.008, ("kill", "server")), (0.02, ("kill", "player", "server", "ngc")),
             (0.02, ("reload",)), (0.01, ("page", "add")), (0.02, ("page", "use")), (0.006, ("page", "drop")))
         for share, step in rare:

@@ -18,7 +18,7 @@ from pathlib import Path
 
 from player_support import SOURCES, built
 from session_support import PATIENCE_S, TOOLS, ngc
-from test_moves import BOX, DOOR, POST, PROBE, STOP, World
+from test_moves import BOX, DOOR, POST, PROBE, STOP, X_HIGH, X_LOW, Y_LOW, Z_HIGH, World
 
 JOBS = "jobs"
 """The folder of programs that the page's server is given."""
@@ -65,6 +65,8 @@ at_um = [-9000, -9000, 4500]
 way_mm = [80, 80, 80]
 agree_um = 40
 """
+LIMITS, NO_HOME_SWITCH = {"X low": X_LOW, "Y low": Y_LOW, "X high": X_HIGH, "Z high": Z_HIGH}, "X high"
+"""The inputs of the limits; home seeks all but one of them."""
 LENGTHS_MM, RADII_MM = {0: 0.0, 1: 20.0, 2: 30.0}, {0: 0.0, 1: 1.0, 2: 1.5}
 """What is in the spindle, by its slot: how far its end hangs below it, and how wide the ball at its end is; slot 1 is
 the probe's."""
@@ -327,11 +329,11 @@ class Bench:
         return [pid for pid in found if _is_ngc(pid)]
 
     def input(self, name: str, is_on: bool) -> None:
-        """Opens or shuts the door, or presses or frees the emergency stop."""
-        if name == "door":
-            self.mill.put(DOOR, is_on)
-        else:
+        """Opens or shuts the door, presses or frees the emergency stop, or a limit as `limit X low`."""
+        if name == "stop":
             self.mill.put(STOP, not is_on)
+        else:
+            self.mill.put(DOOR if name == "door" else LIMITS[name.removeprefix("limit ")], is_on)
 
     def recorded_mm(self) -> Point | None:
         """Where the player's record on the disk has the machine."""

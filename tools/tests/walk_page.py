@@ -11,11 +11,13 @@ _WATCH = """(() => {
     const fetched = window.fetch;
     window.fetch = async (what, how) => {
         if (how?.method !== 'POST') return fetched(what, how);
-        const post = { what, at: performance.now(), body: typeof how.body === 'string' ? how.body : '', ok: null };
+        const post = { what, at: performance.now(), body: typeof how.body === 'string' ? how.body : '', ok: null,
+            stamp: how.headers['X-Stamp'] ?? '' };
         window.walked.posts.push(post);
         try {
             const answer = await fetched(what, how);
             post.said = await answer.clone().text();
+            post.heard = answer.headers.get('X-Stamp') ?? '';
             post.ok = answer.ok;
             return answer;
         } catch (error) { post.ok = false; post.said = String(error); throw error;
@@ -50,7 +52,8 @@ _SEE = """(() => {
         || one.getAttribute('aria-pressed') === 'true' && !one.closest('.look, .confirm')
         || one.closest('.override') && one.textContent.trim().endsWith(' 100 %');
     const named = one => ({ text: one.textContent.trim() + (group(one) && ` @${group(one)}`), id: one.id,
-        chosen: isChosen(one) || ['Fit', 'Top', '3-D'].includes(one.textContent), says: one.textContent.trim(),
+        chosen: isChosen(one) || ['Fit', 'Top', '3-D', 'Read the macros'].includes(
+            one.textContent), says: one.textContent.trim(),
         part: one.closest('.tab, nav, header, footer, '
         + '.path, .place, #over')?.id || one.closest('nav, header, footer, .path, .place')?.className || '',
         look: one.closest('.look') !== null, pressed: one.getAttribute('aria-pressed') ?? one.getAttribute(
@@ -82,6 +85,12 @@ _SEE = """(() => {
         broken: Boolean(s.broken), machine: s.machine ?? '', tools: s.tools, command: s.command?.word ?? '',
         inputs: s.inputs ?? [],
         touched: s.touched, past: s.past_mm, begun: s.place > 0 || s.half !== 'none',
+        facts: { session: s.session, yours: s.yours, gone: s.player_gone, ended: s.ended, broken: s.broken,
+            alarm: s.alarm, inputs: (s.inputs ?? []).join(), question: s.question?.id ?? 0, does: s.does, half: s.half,
+            waits: s.waits ? s.waits_tool : '', known: s.known, busy: s.busy, held: Boolean(s.held_motors),
+            behind: s.behind > 0, door: s.door_open, on: [s.spindle, s.mist, s.flood].join(), slot: s.slot,
+            apart: [...s.apart, s.unsure].join(), program: s.program.id, stored: s.entries, can: s.can,
+            left: Boolean(s.recover?.left), at: (s.motors ?? s.at).join(), holds: s.stamp.split('-')[1] },
         asks: window.walked.posts.some(post => post.ok === null),
         answered: Math.max(0, ...window.walked.posts.map(post => post.answered ?? 0)),
         posts: window.walked.posts.length, clicks: window.walked.clicks.length,

@@ -40,6 +40,8 @@ def state_of(*given: object) -> dict:
             said["spindle"] = 0
         case "coolant":
             said["flood"] = 1 - said["flood"]
+        case "limit":
+            said["detail"] = said["detail"].replace("Limit X high", "Limit Y low")
         case "runs" if said["tone"] == "hold":
             said |= {"word": "Running", "tone": "run", "detail": "line 3 of 11"}
         case "rests" if said["tone"] == "run":

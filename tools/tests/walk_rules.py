@@ -18,6 +18,8 @@ CLOCKS_S = 0.1
 """Clocks that are set by others differ by less."""
 ROUNDED_S = 0.6
 """An age is told in tenths of seconds, of a minute and more in seconds."""
+ANSWER_S = 2.0
+"""So soon something has to come of a touch."""
 HOLD_S = 0.1
 REST_S = 2.0
 """So long a page may say that the machine moves while it rests."""
@@ -138,10 +140,12 @@ class Judge:
         self._runs_at_rest_since = 0.0
         self._rests_in_motion_since = 0.0
         self._old_since = 0.0
+        self._look: tuple[tuple[str, int], float] = ("", 0), 0.0  # which was asked for last, since when
         self._logged = ("", 0)  # which page's Log had how many entries
         self._wall_s = min(_clocks() for _ in range(5))[1]
 
-    def _count(self, name: str) -> None:
+    def count(self, name: str) -> None:
+        """Counts what was looked at."""
         self.checked[name] = self.checked.get(name, 0) + 1
 
     def slack_s(self, since: float) -> float:
@@ -170,7 +174,7 @@ class Judge:
             self.outputs(seen, self.bench.mill.outputs)
         if max(self.bench.mill.switched_at, self.truth.tool_told_at) < since:
             self.tool(seen)
-        self.looks(seen)
+        self.looks(seen, told)
         self.words(seen, is_still)
 
     def _is_old(self, seen: Seen, now: float, told: float, slack_s: float) -> None:
@@ -187,7 +191,7 @@ class Judge:
         begin, pulses = truth.quiet_pulses, mill.pulses
         ways = mill.moved(begin, pulses)
         truth.quiet_pulses = pulses
-        self._count("moves")
+        self.count("moves")
         if ways and not truth.may_move:
             raise Wrong("moved unasked", f"{ways}")
         if truth.within is not None and truth.is_place_known:
@@ -201,7 +205,7 @@ class Judge:
     def _stays(self, within: Within, begin: int, end: int) -> None:
         """A routine doesn't leave what it said, nor goes on where it touches."""
         mill, way_mm = self.bench.mill, within.mm_s ** 2 / (2 * ACCEL_MM_S2)
-        self._count("routines")
+        self.count("routines")
         for pulse in [*mill.between(begin, end)][::-1]:
             if not within.has(pulse.at_mm):
                 raise Wrong("past what was said", f"at {pulse.at_mm}; said was {within}")
@@ -228,20 +232,20 @@ class Judge:
 
     def _is_there(self, axis: int, mm: float, says: str) -> None:
         """A ball that touches an edge is there by its radius at most."""
-        self._count("found")
+        self.count("found")
         slot = self.bench.mill.outputs.slot
         faces = [*_faces(axis)] if axis < 2 else [top + LENGTHS_MM[slot] for top in _faces(2)]
         if min(abs(mm - face) for face in faces) > RADII_MM[slot] + TOUCH_MM:
             raise Wrong("not there", f"{says!r}: the machine's place is {mm:.3f}, and there are {faces}")
 
     def _is_long(self, slot: int, mm: float, says: str) -> None:
-        self._count("lengths")
+        self.count("lengths")
         if slot == self.bench.mill.outputs.slot and abs(mm - LENGTHS_MM[slot]) > TOUCH_MM:
             raise Wrong("not so long", f"{says!r}: tool {slot} is {LENGTHS_MM[slot]} mm long")
 
     def says_rest(self, seen: Seen, now: float, is_still: bool) -> None:
         """What moves is said to move, and what rests to rest."""
-        self._count("state")
+        self.count("state")
         last = self.bench.mill.last_pulse_at()
         if not seen.runs or not is_still:
             self._runs_at_rest_since = 0.0
@@ -277,7 +281,7 @@ class Judge:
             is_so = not self._is_known(seen) or self._was_at(wanted, unit, since - ago_s, told - ago_s + ROUNDED_S)
         else:
             is_so = not self._is_known(seen) or self._was_at(wanted, unit, since, told)
-        self._count("place")
+        self.count("place")
         if not is_so:
             mill = self.bench.mill
             ago = [told - pulse.at for pulse in mill.last(mill.pulses) if _is_near(wanted, pulse.at_mm, unit)][:1]
@@ -303,7 +307,8 @@ class Judge:
         return _scaled(point(seen.motors), unit), _scaled(point(seen.work), unit)
 
     def _was_at(self, wanted: Point, unit: str, begin: float, end: float, off_mm: float = 0.0) -> bool:
-        return any(_is_near(wanted, at, unit, off_mm) for at in self.bench.mill.places(begin, end + CLOCKS_S))
+        latest = end + CLOCKS_S + self.slack_s(end)  # a state is told of the moment before it is put together
+        return any(_is_near(wanted, at, unit, off_mm) for at in self.bench.mill.places(begin, latest))
 
     def killed(self) -> None:
         """The player is killed now. How old its record ever got is in that, but not how late this computer was with the
@@ -325,7 +330,7 @@ class Judge:
     def outputs(self, seen: Seen, now: Outputs) -> None:
         """Spindle and coolant as the pins have them, or said not to be known."""
         if "not known" not in seen.spindle and seen.spindle not in UNKNOWN:
-            self._count("outputs")
+            self.count("outputs")
             turns = next((way for sign, way in _TURNS.items() if sign in seen.spindle), 0)
             if turns != now.spindle:
                 raise Wrong("spindle", f"shown is {seen.spindle!r}; the pins have {now}")
@@ -344,17 +349,25 @@ class Judge:
         tool = self.truth.tool
         if tool is None or seen.waits or "not known" in seen.tool or seen.tool in UNKNOWN:
             return
-        self._count("tool")
+        self.count("tool")
         shown = number(seen.tool.split("\n")[0].removeprefix("T")) if seen.tool.startswith("T") else 0
         if shown != tool:
             raise Wrong("tool", f"shown is {seen.tool!r}; in the spindle is {tool}")
 
-    def looks(self, seen: Seen) -> None:
-        """Nobody can agree to go on at a look before each thing was looked at."""
+    def looks(self, seen: Seen, told: float) -> None:
+        """Nobody can agree to go on at a look before each thing was looked at, and nothing moves as long as it is asked
+        for."""
         question = seen.question
-        if not question or question.get("purpose") != "look" or not seen.yours:
+        if not question or question.get("purpose") != "look":
             return
-        self._count("look")
+        look, begun = (seen.session, question["id"]), self._look[1] + CLOCKS_S
+        if look != self._look[0]:
+            self._look = look, told
+        elif (way_mm := self.bench.mill.steps_between(begun, told - CLOCKS_S - self.slack_s(begun))[0]):
+            raise Wrong("moved before the look", f"{way_mm:.3f} mm, and it is asked for still: {seen.detail}")
+        if not seen.yours:
+            return
+        self.count("look")
         can_go = any(is_enabled for _, is_enabled in seen.goes)
         if can_go and (not seen.looks or "false" in seen.looks):
             raise Wrong("look unticked", f"it can be agreed to, and ticked is {seen.looks}")
@@ -372,9 +385,18 @@ class Judge:
 
     # how Hold is answered
 
-    def hold(self, touched: float, most_s: float = HOLD_S) -> None:
+    def is_named(self, seen: Seen, name: str, pushed: float) -> bool:
+        """Whether the page says ALARM, and which limit it came by. It has to, soon after the limit was pushed."""
+        if seen.isLost or seen.word == "ALARM" and f"limit {name}".lower() in seen.detail.lower():
+            self.count("limits")
+            return True
+        if time.monotonic() > pushed + REST_S + self.slack_s(pushed):
+            raise Wrong("limit not named", f"limit {name} is on, and the page says {seen.word}: {seen.detail}")
+        return False
+
+    def hold(self, touched: float, most_s: float = HOLD_S, is_dead: bool = False) -> None:
         """After a touch of Hold at a moment, or of what else is heeded within so long, the motors rest within v^2/2a,
-        and what they go in that time.
+        and what they go in that time; at once, without a ramp, if they are to stand dead.
 
         In that time the move goes on as it would, and gains what it would, as at its beginning. So v is the greatest
         rate until then; what comes faster later is too late all the same."""
@@ -387,8 +409,8 @@ class Judge:
         heeded_s = most_s + self.slack_s(touched)
         way_mm, last = mill.steps_between(touched, now())
         rate = max(mill.rate_mm_s(touched + ms / 1000) for ms in range(0, 10 + round(1000 * heeded_s), 10))
-        ramp_s, stop_mm = rate / ACCEL_MM_S2, rate * rate / (2 * ACCEL_MM_S2)
-        self._count("hold")
+        ramp_s, stop_mm = (0, 0) if is_dead else (rate / ACCEL_MM_S2, rate * rate / (2 * ACCEL_MM_S2))
+        self.count("hold")
         if last - touched > ramp_s + heeded_s:
             raise Wrong("hold too late", f"at {rate:.1f} mm/s they rest {1000 * (last - touched):.0f} ms after it,"
                         f" {way_mm:.3f} mm on; allowed are {1000 * (ramp_s + most_s):.0f} ms, and"
@@ -443,5 +465,5 @@ def _is_near(a: Point, b: Point, unit: str, off_mm: float = 0.0) -> bool:
 
 def changes(before: Seen, after: Seen) -> Iterator[str]:
     """What stands otherwise on the page: names of what a person sees."""
-    skipped = {"now", "clock", "asks", "answered", "posts", "clicks", "logs", "log"}
+    skipped = {"now", "clock", "asks", "answered", "posts", "clicks", "logs", "log", "facts"}
     yield from (name for name in before.said if name not in skipped and before.said[name] != after.said[name])
