@@ -93,6 +93,16 @@ class Writes(AtConsole):
         self.assertEqual(self.parameters(5381), [0, 1_000_000, 0])
         self.assertEqual(len(self.out()), 0)  # nothing moves
 
+    def test_each(self) -> None:
+        """Each system is set by its name, where its parameters are, and put back; the others stay."""
+        for number, name in enumerate(("G54", "G55", "G56", "G57", "G58", "G59", "G59.1", "G59.2", "G59.3")):
+            self.do(f"offset {name} X 0.{number + 1} Y -2 Z 0.5")
+            self.assertEqual(self.parameters(5221 + 20 * number), [100_000 * (number + 1), -2_000_000, 500_000])
+            self.assertEqual([self.parameters(5221 + 20 * other) for other in range(9) if other != number],
+                             [[0] * 3] * 8)
+            self.do("undo")
+            self.assertEqual(self.parameters(5221 + 20 * number), [0] * 3)
+
     def test_in_force(self) -> None:
         """Of the system in force all three axes are taken anew, which is told too."""
         self.do("#5222=3")

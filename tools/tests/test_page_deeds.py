@@ -37,6 +37,8 @@ M2
 """
 """Tool 2 comes in its line 3, between cuts of a second."""
 PRESSES = 50
+UNTOLD = "document.getElementById('toast').hidden || void document.dispatchEvent(new Event('pointerdown'))"
+"""Nothing is told beside a button any more: another touch ends that, once it could be read."""
 WORDS = "document.querySelector('#over .words').textContent"
 GAUGES = "[...document.querySelectorAll('#gauges dd')].slice(1, 3).map(one => one.textContent).join()"
 """Of spindle and coolant."""
@@ -49,10 +51,10 @@ class Deeds(OverBodies):
     JOBS = "jobs"
 
     def begin_player(self) -> None:
-        """A folder of programs, a macro, and switches."""
+        """A folder of programs, macros, and switches."""
         Path("jobs").mkdir()
         Path("jobs/part.ngc").write_text(PART)
-        Path("first.macros").write_text('Lift = ["G53 G0 Z3", "G53 G0 X1"]\n')
+        Path("first.macros").write_text('Lift = ["G53 G0 Z3", "G53 G0 X1"]\nTurn = ["G18"]\nFar = ["M8", "G0 X99"]\n')
         super().begin_player()
         for number, (high, sign, at_mm) in enumerate(((X_LOW, -1, -10), (Y_LOW, -1, -9), (Z_HIGH, 1, 10))):
             self.world.switch(number, high, number, sign, at_mm * MM)
@@ -90,10 +92,11 @@ class Deeds(OverBodies):
             self.assertEqual(self.browser.js(GAUGES), told)
 
     def ways(self) -> None:
-        """A macro, which is read anew, above the zero, and parked: with all off."""
+        """A macro, which is read anew, above the zero, and parked: with all off. What a macro leaves in force is said;
+        of one that has a line which `ngc` refuses none is done, and it is said which, and why."""
         self.browser.press("Read the macros", "#tab-setup button")
         self.browser.wait("[...document.querySelectorAll('#tab-setup .hint')].some(one => "
-                          "/^Read at [\\d:]{8}: 1 in all$/.test(one.textContent))")
+                          "/^Read at [\\d:]{8}: 3 in all$/.test(one.textContent))")
         self.press("Lift", "#tab-setup .macros button")
         self.is_at(1, -7, 3)
         self.press("Flood M8", "#tab-setup button")
@@ -103,6 +106,14 @@ class Deeds(OverBodies):
         self.press("Park", "#tab-setup button")
         self.is_at(-8, -7, 9)
         self.assertFalse(self.world.outputs.flood)
+        self.press("Turn", "#tab-setup .macros button")
+        self.browser.wait("document.getElementById('log').textContent.includes('in force now: G18 (G17 before)')")
+        self.browser.press("Far", "#tab-setup .macros button")
+        self.toasts("macro Far: nothing is done: G0 X99: refused X2 OutsideTravel")
+        self.rests()
+        self.is_at(-8, -7, 9)
+        self.assertFalse(self.world.outputs.flood)
+        self.browser.wait(UNTOLD)
 
     def steps(self) -> None:
         """One by a key, which is pressed anew where the page is too late."""

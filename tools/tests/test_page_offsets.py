@@ -76,6 +76,13 @@ class Table(test_page_browser.Moves):
     """The sheet, with the player in this process."""
 
     test_setup = test_axis_without_home = test_ended_in_an_alarm = None
+    NAMES = ("G54", "G55", "G56", "G57", "G58", "G59", "G59.1", "G59.2", "G59.3")
+
+    def device(self) -> None:
+        """A device with an origin of each system but two."""
+        super().device()
+        lines = (f"mdi G10 L2 P{number} Y{number} Z-{number}\ntick 9\n" for number in range(3, 10))
+        self.run_ngc("".join(lines), "before")
 
     def opened(self) -> None:
         """Opens it."""
@@ -93,8 +100,9 @@ class Table(test_page_browser.Moves):
                                    " one.textContent).join('|')"))
 
     def test_table(self) -> None:
-        """A row is chosen, a number is typed: the difference is shown before, asked where it is far; then the table has
-        what the device has, and undo takes it back."""
+        """Each system has its origin, and the machine's point in it, which is 0 less that. A row is chosen, a number is
+        typed: the difference is shown before, asked where it is far; then the table has what the device has, and undo
+        takes it back."""
         browser = self.browser
         browser.js("document.querySelector('[data-tab=tools]').click()")
         browser.fill("#tab-tools input[aria-label='Length of tool 1']", "50")
@@ -103,6 +111,10 @@ class Table(test_page_browser.Moves):
         self.opened()
         self.shoot("offsets")
         self.look("the offsets")
+        for number, name in enumerate(self.NAMES, 1):
+            at, minus = (number, "\u2212") if number > 2 else (0, "")
+            self.assertEqual(self.row(name).split("\n")[1:], [
+                f"X 0.000  Y {at}.000  Z {minus}{at}.000", f"machine here: X 0.000  Y {minus}{at}.000  Z {at}.000"])
         browser.press("G55", "#over .offsets button")
         set_is_off = "document.querySelector('#over .go').disabled"
         given = "[...document.querySelectorAll('#over .sight button')].map(one => [one.textContent, one.disabled])"
