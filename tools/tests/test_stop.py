@@ -4,7 +4,10 @@ import subprocess
 import sys
 import time
 import unittest
+from collections.abc import Iterator
+from contextlib import contextmanager
 from functools import reduce
+from math import sqrt
 from pathlib import Path
 
 sys.path.insert(0, str(Path(__file__).resolve().parent))
@@ -12,14 +15,26 @@ sys.path.insert(0, str(Path(__file__).resolve().parent))
 from page_support import Served, slow_by
 from session_support import PATIENCE_S, TOOLS, Terminal, ngc
 from test_documents import blocks, chapters
-from test_moves import AT_SPEED, MACHINE, PROBE, STOP, X_HIGH, Moving, World, program
+from test_moves import AT_SPEED, MACHINE, PROBE, STOP, X_HIGH, Moving, program
+from walk_machine import Telling
 
 CHANGES = (("door = 4\nspindle_at_speed = 5\n", ""), ("at_speed_s = 1\n", ""), ("[60, 60, 60]", "[600, 600, 600]"),
            ("agree_um = 20", "agree_um = 1000"))
 MILL = reduce(lambda text, change: text.replace(*change), CHANGES, MACHINE)
 JOB = "G17 G21 G90 G94\nM3 S1000\nM8\nG0 X1\nG1 X4 F60\nT2 M6\nG1 X5 F600\nM0\nG1 X6 F600\nM5\nM2\n"
 """Its line 5 is a cut of three seconds; its spindle and coolant stay on after M0."""
+FAST = "G17 G21 G90 G94\nM3 S1000\nM8\n" + "G1 X9 F600\nG1 X0\n" * 50 + "M2\n"
+"""Cuts at 10 mm/s, from which a ramp of 500 mm/s2 takes 0.1 mm."""
 IS_ON = 4  # a field of the world
+
+
+@contextmanager
+def in_two_seconds(test: unittest.TestCase) -> Iterator[None]:
+    """What is done meanwhile takes no longer, of a machine that has time for it."""
+    slowness, begun = slow_by(), time.monotonic()
+    yield
+    took_s = time.monotonic() - begun
+    test.assertLess(took_s, 2 * max(slowness, slow_by(), slow_by()))
 
 
 class Stopping(Served):
@@ -40,13 +55,13 @@ class Stopping(Served):
 
     def begin_player(self) -> None:
         """Starts the player over the machine."""
-        self.world = World()
+        self.world = Telling()
         self.addCleanup(self.world.close)
         Path("motion.toml").write_text(MILL)
         words = ["-f"] if self.OUT != "axis" else []
-        self.player = subprocess.Popen([program(), *words, "-s", "progress", "-m", "motion.toml", self.OUT,
-                                        "first.toml", "position"], stdin=subprocess.DEVNULL, stdout=subprocess.PIPE,
-                                       stderr=subprocess.PIPE, text=True)
+        self.player = subprocess.Popen([program(), *words, "-s", "progress", "-m", "motion.toml", "-i", "times",
+                                        self.OUT, "first.toml", "position"], stdin=subprocess.DEVNULL,
+                                       stdout=subprocess.PIPE, stderr=subprocess.PIPE, text=True)
         self.addCleanup(self._end, self.player)
         self.wait_for("the player listens", lambda: os.path.exists("progress"))
 
@@ -102,17 +117,16 @@ class OverFile(Stopping):
         self.assertEqual((state["spindle"], state["flood"], state["half"]), (0, False, "program"))
         at = self.world.place
         self.assertTrue(1_200 < at[0] < 4_000)
-        slowness, begun = slow_by(), time.monotonic()
-        self.seen.agree(state)
-        state = self.until("it is over", lambda s: not s["busy"] and s["half"] == "none")
-        took_s = time.monotonic() - begun
-        self.assertLess(took_s, 2 * max(slowness, slow_by(), slow_by()))  # 2 s of a machine that has time for it
+        with in_two_seconds(self):
+            self.seen.agree(state)
+            state = self.until("it is over", lambda s: not s["busy"] and s["half"] == "none")
+            place = self.world.place
+            self.assertEqual(self.does("mdi", line="G0 Z3")["at"][2], "3.000000")
         self.assertEqual((state["does"], state["known"], state["ended"], state["line"], state["session"]),
                          ("idle", True, "", 5, before["session"]))
-        self.assertEqual((self.world.place, round(1000 * float(state["at"][0]))), (at, at[0]))
+        self.assertEqual((place, round(1000 * float(state["at"][0]))), (at, at[0]))
         self.assertFalse(state["recover"]["left"])
         self.assertIsNone(self.player.poll())
-        self.assertEqual(self.does("mdi", line="G0 Z3")["at"][2], "3.000000")
         self.assertEqual(self.does("jog", axis="Y", sign=1, rate="600", length="1")["at"][1], "1.000000")
         self.assertEqual(self.does("home", axes="Z")["at"][2], "9.000000")
         self.assertTrue(self.does("mdi", line="G0 Y0 Z0")["can"]["rewind"])
@@ -297,15 +311,17 @@ class OverPipe(Stopping):
     OUT = "axis"
 
     def test_given_up(self) -> None:
-        """The player is there for the next session's pipe."""
+        """The player is there for the next session's pipe, which soon takes a line too."""
         self.cutting()
         state = self.stop()
         self.assertFalse(self.is_on())
         at = self.world.place
-        self.seen.agree(state)
-        state = self.until("it is over", lambda s: not s["busy"] and s["half"] == "none" and s["does"] == "idle")
-        self.assertEqual((state["known"], round(1000 * float(state["at"][0])), self.world.place), (True, at[0], at))
-        self.assertEqual(self.does("mdi", line="G0 X0")["motors"][0], "0.000000")
+        with in_two_seconds(self):
+            self.seen.agree(state)
+            state = self.until("it is over", lambda s: not s["busy"] and s["half"] == "none" and s["does"] == "idle")
+            place = self.world.place
+            self.assertEqual(self.does("mdi", line="G0 X0")["motors"][0], "0.000000")
+        self.assertEqual((state["known"], round(1000 * float(state["at"][0])), place), (True, at[0], at))
         self.assertIsNone(self.player.poll())
 
     def test_kept(self) -> None:
@@ -316,14 +332,25 @@ class OverPipe(Stopping):
         self.assertEqual((state["half"], state["word"]), ("program", "Half-done"))
 
     def test_quit(self) -> None:
-        """Behind a stop a session ends as always, and the player with it."""
-        self.cutting()
-        self.seen.agree(self.stop())
+        """Amid a fast cut no axis loses more speed than its acceleration, down to the last pulse; right behind that,
+        and not before it, spindle and coolant go off. Then a session ends as always, and the player with it."""
+        self.load(self.seen, FAST)
+        self.assertEqual(self.seen.post("run"), (200, {}))
+        self.until("it cuts", lambda s: s["line"] > 4)
+        slowness, state = slow_by(), self.stop()
+        (last,) = self.world.last(1)
+        off_s = self.world.switched_at - last.at
+        self.assertFalse(self.is_on())
+        self.assertTrue(0 <= off_s < 0.5 * max(slowness, slow_by(), slow_by()), off_s)
+        self.seen.agree(state)
         self.until("it is over", lambda s: not s["busy"] and s["half"] == "none" and s["does"] == "idle")
         self.seen.post("quit")
         self.assertEqual(self.server.wait(PATIENCE_S), 0)
         self.assertEqual(self.player.wait(PATIENCE_S), 0)
-
+        due_s = [int(line.split()[0]) / 1e9 for line in Path("times").read_text().splitlines() if " P " in line]
+        rest_s = due_s[-1] + sqrt(2 / 500_000)  # a hold ends right before the next step: a ramp takes s = a t t / 2
+        for steps in (10, 30, 60, 100):
+            self.assertGreater(rest_s - due_s[-steps], sqrt(2 * (steps - 4) / 500_000), steps)  # they may be two off
 
 
 class Documented(Moving):
@@ -373,10 +400,13 @@ class OfConsole(Moving):
         said = typed("stop", "half-done: ")
         self.assertIn("Stopped in segment 0 of line 3: G1 X4 F60. Given up,", said)
         self.assertEqual((link.ask().outputs.spindle, self.world.get(IS_ON)), (0, 0))
-        said = typed("yes")
+        with in_two_seconds(self):
+            said = typed("yes")
+            behind = link.ask().behind
+            done = typed("G0 X0")
         self.assertIn("given up: run begins that line again, from where the machine stands\n", said)
-        self.assertEqual(link.ask().behind, 0)
-        self.assertIn("idle; X 0.000000 Y 0.000000 Z 0.000000; next line 3 of 5", typed("G0 X0"))
+        self.assertEqual(behind, 0)
+        self.assertIn("idle; X 0.000000 Y 0.000000 Z 0.000000; next line 3 of 5", done)
         self.assertIn("nothing runs\n", typed("stop"))
         self.assertIn("from line 1, 41 bytes, 5 lines", typed("rewind"))
         cuts()
