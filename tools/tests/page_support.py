@@ -16,7 +16,7 @@ from player_support import built
 from session_support import PATIENCE_S, InFolder, ngc
 
 from ngc_tools.formats.record import Record
-from ngc_tools.link.progress import Link
+from ngc_tools.link.progress import Link, NoAnswer
 
 PAGE, OTHER = "page-number-1", "page-number-2"
 BEAT_S = 0.4
@@ -222,11 +222,20 @@ class Served(InFolder):
             Path("motion.toml").write_text(self.MACHINE)
             words += ["--machine", "motion.toml"]
         self.player = self.started(built("-O2"), self.OUT, "first.toml", "position", "--progress", "progress", *words)
-        self.wait_for("the player listens", lambda: os.path.exists("progress"))
+        self.wait_for("the player listens", self._listens)
         link = Link("progress", PATIENCE_S)
         self.addCleanup(link.close)
         link.ask()
         self.link = link
+
+    @staticmethod
+    def _listens() -> bool:
+        """Whether a player does: the socket of one that was killed stays."""
+        try:
+            Link("progress").close()
+        except NoAnswer:
+            return False
+        return True
 
     def page(self, name: str = PAGE) -> Page:
         """Opens a page."""

@@ -710,24 +710,27 @@ class PowerOfFile(Served):
         self.assertEqual((state["line"], state["word"]), (5, "Running"))
 
     def test_before_the_player(self) -> None:
-        """`ngc` is begun again before the player is back: it says why that can't be, at each try, and once the player
-        is back it begins. Before that no place is told, since the player isn't there to be told too."""
+        """`ngc` is begun again before the player is back: it says why that can't be, at each try, also where the socket
+        of the one that was killed stays, and once the player is back it begins. Before that no place is told, since the
+        player isn't there to be told too."""
         page = self.page()
         state = page.next()
-        self.player.kill()
-        self.player.wait()
-        os.unlink("progress")
-        page.until("it is seen", lambda state: state["player_gone"])
-        self.assertEqual(page.post("reference", {"at": ["1", "0", "0"], "anyway": True}), (409, {
-            "why": "the player is gone. Start it, then Start ngc again"}))
-        self.assertEqual(page.next()["at"], state["at"])
-        for _ in range(3):
-            status, said = page.post("restart")
-            self.assertEqual((status, said["why"].partition(": ")[2]), (422, "no player listens there: No such file or"
-                                                                             " directory"))
-        self.begin_player()
-        self.assertEqual(page.post("restart"), (200, {}))
-        page.until("it begins", lambda now: now["session"] != state["session"] and not now["ended"])
+        for stays, why in ((True, "Connection refused"), (False, "No such file or directory")):
+            self.player.kill()
+            self.player.wait()
+            if not stays:
+                os.unlink("progress")
+            page.until("it is seen", lambda state: state["player_gone"])
+            self.assertEqual(page.post("reference", {"at": ["1", "0", "0"], "anyway": True}), (409, {
+                "why": "the player is gone. Start it, then Start ngc again"}))
+            self.assertEqual(page.next()["at"], state["at"])
+            for _ in range(3):
+                status, said = page.post("restart")
+                self.assertEqual((status, said["why"].partition(": ")[2]), (422, f"no player listens there: {why}"))
+            self.begin_player()
+            self.assertEqual(page.post("restart"), (200, {}))
+            state = page.until("it begins", lambda now, last=state: now["session"] != last["session"]
+                               and not now["ended"])
 
     def test_measured(self) -> None:
         """Where somebody measured another place than the record's, the player takes that, and legs lead back from it.
