@@ -91,7 +91,9 @@ REFUSALS: tuple[tuple[str, Holds], ...] = (
     (r"the door is open", became("door")),
     (r"the emergency stop is on|^NOTHING IS DONE|home comes first", became("alarm", "inputs")),
     (r"^another page commands", became("yours")),
-    (r"the player is gone|doesn't answer", became("gone", "ended")),
+    (r"the player is gone|doesn't answer|the player answers", became("gone", "ended")),
+    (r"^ngc ended with status |^the session (is over|was ended)", became("ended")),
+    (r"^nothing failed: quit ends the session", became("ended", "broken", "gone")),
     (r"no player listens there", gone),
 )
 """The refusals that an enabled button may meet, each with what has to hold then. All others are wrong."""

@@ -307,7 +307,7 @@ function takeUpLines() {
     sheet.said('Recover lets the motors go there, each step asked. Drop cuts these lines off, and nothing makes them '
       + 'any more.')],
   [sheet.button('Back', sheet.close), sheet.gap('Nothing moves yet.'), drop,
-    sheet.asking('recover', sheet.go('Recover', does('recover')))]);
+    sheet.asking('recover', sheet.go('Recover', does('recover')), s => !s.recover?.problem)]);
 }
 
 // From the middle of a program what is on stays as it is, and a cut may come first: it is rehearsed before. Where
