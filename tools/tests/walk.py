@@ -194,7 +194,7 @@ class Walk:
         """Does a step, and looks at what comes of it. Raises Wrong."""
         self.done.append(step)
         self.covered.steps[step[0]] += 1
-        begun = time.monotonic()
+        begun, self.pressed = time.monotonic(), None
         getattr(self, f"_do_{step[0]}")(*step[1:])
         did = time.monotonic()
         self.settle()
@@ -337,7 +337,7 @@ class Walk:
 
     def _taken(self) -> None:
         """What was touched last is taken, or refused for what the page couldn't know; and that is told beside Log."""
-        (text, before), self.pressed = self.pressed, None
+        text, before = self.pressed
         until = time.monotonic() + ANSWER_S
         while True:
             after = self.tabs.see()
@@ -592,11 +592,12 @@ class Walk:
             self.bench.input(f"limit {name}", False)
             self.limit = ""
             return
-        if self.limit or self.truth.homes_at is not None and name != NO_HOME_SWITCH:
-            return
         is_seen = self.bench.has_player() and self.bench.has_server() and self.tabs.sessions
-        before, self.limit = self.tabs.see() if is_seen else None, name
-        pushed = time.monotonic()
+        before = self.tabs.see() if is_seen else None
+        homes = before is None or before.command == "home" or self.truth.homes_at is not None
+        if self.limit or homes and name != NO_HOME_SWITCH:
+            return
+        self.limit, pushed = name, time.monotonic()
         self.bench.input(f"limit {name}", True)
         self.judge.hold(pushed, is_dead=True)
         self._rests_now()
