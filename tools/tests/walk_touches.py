@@ -44,6 +44,11 @@ def entry(*names: str) -> Holds:
                              for post in press.posts)
 
 
+def asked(*names: str) -> Holds:
+    """One of these was asked for."""
+    return lambda press: any(post["what"] in names for post in press.posts)
+
+
 def became(*names: str) -> Holds:
     """One of these facts changed between the look at the button and the answer."""
     return lambda press: not press.changed().isdisjoint(names)
@@ -81,6 +86,8 @@ REFUSALS: tuple[tuple[str, Holds], ...] = (
     (r"^nothing moves: from a machine Z of at most ", entry("measurefrom")),
     (r"^refused X2 OutsideTravel: ", entry("reference", "recover", "stands")),
     (r"^refused [A-Z]\d+ |: that is so already: nothing is set$", entry("zero", "touch", "offset", "tool", "turn")),
+    # a line of a program that somebody loaded all the same
+    (r"^line \d+.*: refused [A-Z]\d+ ", asked("run")),
     # how it went on, once it was taken
     (r"nothing more moves$|counts for nothing$", became("at", "busy")),
     (r"^line \d+.*: refused [A-Z]\d+ ", became("at", "stored", "busy")),
