@@ -370,8 +370,8 @@ class Ball(Bench):
         """Where nobody said it, it is asked before anything moves, and the table keeps it. A surface needs none."""
         self.do("shape 1 none")
         for answer in ("", "x", "0", "-2", "100.1"):
-            self.assertEqual(self.refused(answer), "nothing moves: the ball of the probe is wider than 0 mm, and at most"
-                             " 100")
+            self.assertEqual(self.refused(answer), "nothing moves: the ball of the probe is wider than 0 mm, and at"
+                             " most 100")
         for typed in ("1", "1 6", "1 6 round", "1 6 v", "1 6 v 180", "1 6 flat 9", "1 0 flat", "1 x flat", "129 6 flat",
                       "x 6 flat", "1 6 flat none"):
             self.assertIn("shape N 6 flat: a slot,", self.do(f"shape {typed}")[0], typed)

@@ -29,8 +29,8 @@ class Touches:
 
 @dataclass(frozen=True, slots=True)
 class Probe:
-    """The slot of the tool table that is the probe's, and the radius of its ball in nm by the machine's file, None where
-    that doesn't say it: the table does."""
+    """The slot of the tool table that is the probe's, and the radius of its ball in nm by the machine's file; None
+    where that doesn't say it: the table does."""
 
     slot: int
     radius_nm: int | None = None
