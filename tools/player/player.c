@@ -59,7 +59,8 @@ void player_record(struct player *player, struct record *record) {
 }
 
 void player_leave_path(struct player *player) {
-    if (!player->has_path && !player->is_off) {
+    bool asks_for_tool = atomic_load(&player->tool) != NO_TOOL; /* its line leads on from there, also behind a jog */
+    if (!player->has_path && (!player->is_off || asks_for_tool)) {
         memcpy(player->path, player->steps, sizeof player->path);
         player->has_path = true;
     }

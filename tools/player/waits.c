@@ -9,6 +9,7 @@
 #include <time.h>
 
 #include "askers.h"
+#include "manual_moves.h"
 #include "motors.h"
 #include "off.h"
 #include "person.h"
@@ -246,29 +247,45 @@ bool await_look(struct play *play) {
     return true;
 }
 
-bool await_tool(struct play *play, unsigned slot) {
+/* Somebody pressed Enter. */
+static void take_tool(struct player *player) {
+    manual_take_tool(player);
+    if (atomic_load(&player->tool) != NO_TOOL) {
+        say("the motors aren't where the lines go on: they have to be back there first");
+    }
+}
+
+/* Looks a little at what a tool is waited for meanwhile. */
+static enum end wait_for_tool(struct play *play, const char *what) {
+    if (manual_is_there(play->player)) {
+        return make_manual_move(play);
+    }
+    if (person_has_pressed(SLICE_MS)) {
+        take_tool(play->player);
+        return CONTINUES;
+    }
+    return is_nobody_there(play, what) || heed_stops(play) || is_console_gone(play, what) ? STOPPED : CONTINUES;
+}
+
+bool asks_for_tool(const struct play *play, const struct line *line) {
+    return line->kind == 'S' && line->outputs.slot != play->player->outputs.slot && !play->options->asks_no_tool;
+}
+
+enum end await_tool(struct play *play, unsigned slot) {
     char what[32] = "take the tool out";
     if (slot != 0) {
         snprintf(what, sizeof what, "put in tool %u", slot);
     }
     if (!play->options->is_untimed && !wait_until_due(play)) {
-        return false;
+        return STOPPED;
     }
     person_forget();
     atomic_store(&play->player->tool, (int)slot);
     say("line %" PRIu64 ": %s, then press Enter", play->player->lines + 1, what);
-    while (atomic_load(&play->player->tool) != NO_TOOL) {
-        if (person_has_pressed(SLICE_MS)) {
-            atomic_store(&play->player->tool, NO_TOOL);
-        } else if (is_nobody_there(play, what) || heed_stops(play) || is_console_gone(play, what)) {
-            return false;
-        }
+    enum end end = CONTINUES;
+    while (end == CONTINUES && atomic_load(&play->player->tool) != NO_TOOL) {
+        end = wait_for_tool(play, what);
     }
     schedule_pause(&play->schedule);
-    return true;
-}
-
-bool await_tool_of(struct play *play, const struct line *line) {
-    bool changes_tool = line->kind == 'S' && line->outputs.slot != play->player->outputs.slot;
-    return !changes_tool || play->options->asks_no_tool || await_tool(play, line->outputs.slot);
+    return end;
 }

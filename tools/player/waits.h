@@ -30,11 +30,12 @@ bool is_left(struct play *play);
 /* Whether the seconds of --off-after have passed since the last writer was gone and the last question came. */
 bool have_seconds_passed(struct play *play);
 
-/* Waits until a person says that the tool is in, by Enter or over the socket; false where the play has to stop. */
-bool await_tool(struct play *play, unsigned slot);
+/* Whether a person has to put a tool in for a line. */
+bool asks_for_tool(const struct play *play, const struct line *line);
 
-/* Waits for the tool that a line changes to, if a person has to put it in; false where the play has to stop. */
-bool await_tool_of(struct play *play, const struct line *line);
+/* Waits until a person says that the tool of such a slot is in, by Enter or over the socket. Meanwhile the motors jog
+ * and seek, and have to be back then. STOPPED where the play has to stop, FAILED where the pins fail. */
+enum end await_tool(struct play *play, unsigned slot);
 
 /* Waits until a person says that what is switched on is as it should be; false where that isn't said, or the play has
  * to stop. */

@@ -322,6 +322,21 @@ class WithoutLines(Moving):
         self.assertEqual(self.at(), (-7.51, -7.01, 9.09))
         self.kept("reference -7.510000 -7.010000 9.090000", "screws - - -", "homed XYZ")
 
+    def test_at_a_tool_change(self) -> None:
+        """Where the motors jogged while a tool was waited for, the lines behind it make the extra steps that the screws
+        need by then."""
+        self.started(changes="--untimed")
+        self.assertEqual(self.how(self.link.home()), "done")
+        self.told()
+        self.pipe.write(b"P 1 1 -1 50\n" * 10 + b"S 0 0.000000 0 0 2 2\n" + b"P 1 1 1 50\n" * 10)
+        self.wait_for("it waits", lambda: self.link.ask().waits)
+        for way in ("X-", "X+", "Y+", "Y-", "Z+", "Z-"):
+            self.assertEqual(self.how(self.link.jog(way, "600", "0.1")), "done")
+        self.link.go()
+        self.link.last()
+        self.wait_for("lines go on", lambda: self.link.ask().carried == 21)
+        self.assertEqual((self.world.place, self.at()), ((-7_980, -7_980, 4_000), (-7.98, -6.98, 9)))
+
     def test_stopped(self) -> None:
         """A jog that ends amid extra steps moved nothing, and the next one makes what is left of them."""
         Path("position").write_bytes(text_of(Record("/before", screws="? - ?")))

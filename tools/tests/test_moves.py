@@ -354,6 +354,90 @@ class Jogging(Moving):
         self.link.stop()
         self.assertEqual(self.how((number, "")), "stopped")
 
+    def waits_for_tool(self, *words: str) -> None:
+        """Over a file as OUT, whose lines go 5 steps along X, ask for tool 3, and go 5 along Y: waits for it."""
+        Path("out").write_text("P 1 0 0 50\n" * 5 + "S 0 0.000000 0 0 3 3\n" + "P 0 1 0 50\n" * 5)
+        self.begins_over_file(*words)
+        self.link.synced(Path("out").stat().st_size)
+        self.wait_for("it waits", lambda: (self.link.ask().waits, self.link.ask().received) == (True, 11))
+
+    def begins_over_file(self, *words: str) -> None:
+        """Starts the player, which follows the file."""
+        self.child = self.begin("--untimed", "--follow", "--machine", "mill.toml", "--progress", "progress", *words,
+                                "out", "first.toml", "position")
+        self.link = self.linked()
+
+    def ends_over_file(self) -> None:
+        """The tool is in, the lines behind it are carried out, and lead where they do."""
+        self.link.go()
+        self.link.last()
+        self.wait_for("it is through", lambda: self.link.ask().carried == 11)
+        self.assertEqual((self.world.place, self.at()), ((5, 5, 0), (0.005, 0.005, 0)))
+        self.link.end()
+        self.child.communicate(timeout=PATIENCE_S)
+        self.assertEqual(self.child.returncode, 0)
+
+    def test_while_a_tool_is_waited_for(self) -> None:
+        """The motors jog and seek then, and don't home. The tool is in only once they are back: neither a word for that
+        counts before, nor a place that is told, and the lines behind it go on from where those before it lead."""
+        self.world.switch(3, PROBE, 2, -1, -3_000)
+        self.waits_for_tool()
+        self.assertEqual(self.how(self.link.home()), "refused: a tool is waited for: home once it is in")
+        for way, length in (("Z+", "2"), ("X+", "1"), ("Y-", "0.5")):
+            self.assertEqual(self.how(self.link.jog(way, "600", length)), "done")
+        for says in (self.link.go, lambda: self.link.at("1.005 -0.5 2"), self.link.go):
+            says()
+            report = self.link.ask()
+            self.assertEqual((report.waits, report.tool, report.carried, report.received), (True, 3, 5, 11))
+        self.assertEqual((self.world.place, self.link.leads()), ((1_005, -500, 2_000), "0.005000 0.000000 0.000000"))
+        self.assertEqual(self.how(self.link.seek("Z-", "600", "6")), "done")
+        self.assertEqual(self.link.machine().touched, "1.005000 -0.500000 -3.000000")
+        number, _ = self.link.jog("X-", "60", "1")
+        self.link.go()  # amid a move
+        self.assertTrue(self.link.ask().waits)
+        self.assertEqual(self.how((number, "")), "done")
+        for way, length in (("Z+", f"{-self.at()[2]:.3f}"), ("Y+", "0.5")):
+            self.assertEqual(self.how(self.link.jog(way, "600", length)), "done")
+        self.ends_over_file()
+
+    def test_tool_behind_a_jog(self) -> None:
+        """Where they were jogged before, the line that asks for a tool leads on from there: they have to be back there.
+        """
+        self.started(changes="--untimed")
+        self.assertEqual(self.how(self.link.jog("X+", "600", "1")), "done")
+        self.told()
+        self.pipe.write(b"S 0 0.000000 0 0 3 3\n")
+        self.wait_for("it waits", lambda: self.link.ask().waits)
+        self.assertEqual(self.how(self.link.jog("Z+", "600", "2")), "done")
+        self.wait_for("it is kept", lambda: self.link.leads() == "1.000000 0.000000 0.000000")
+        self.link.go()
+        self.assertTrue(self.link.ask().waits)
+        self.assertEqual(self.how(self.link.jog("Z-", "600", "2")), "done")
+        self.link.go()
+        self.wait_for("it is through", lambda: self.link.ask().carried == 1)
+        self.assertEqual(self.world.place, (1_000, 0, 0))
+        self.ended(0)
+
+    def test_power_lost_while_a_tool_is_waited_for(self) -> None:
+        """Wherever they were jogged then, the record says that and where the lines lead; the next player goes there by
+        legs alone, and asks for the tool again."""
+        self.waits_for_tool()
+        self.assertEqual(self.how(self.link.jog("Z+", "600", "2")), "done")
+        self.assertEqual(self.how(self.link.jog("X+", "600", "1")), "done")
+        self.wait_for("it is kept", lambda: Record.read("position").at_nm == (1_005_000, 0, 2_000_000))
+        self.child.kill()
+        self.child.communicate()
+        found = Record.read("position")
+        self.assertEqual((found.lines, found.at_nm, found.path_nm), (5, (1_005_000, 0, 2_000_000), (5_000, 0, 0)))
+        self.begins_over_file()
+        report = self.link.ask()
+        self.assertEqual((report.word, report.carried, report.received, report.waits), ("moved", 5, 5, False))
+        self.link.legs("3", "0.005 0 0", found.size)
+        self.wait_for("they are there", lambda: (self.at(), self.link.ask().word) == ((0.005, 0, 0), "works"))
+        self.link.synced(Path("out").stat().st_size)
+        self.wait_for("it waits again", lambda: self.link.ask().waits)
+        self.ends_over_file()
+
     def test_left_alone(self) -> None:
         """Nobody asks any more: a move of some length comes to rest."""
         self.started()
@@ -672,14 +756,16 @@ class Alarms(Moving):
         self.assertEqual(self.world.get(_PULSES), 300)
 
     def test_at_a_tool_change(self) -> None:
-        """Who is asked for a tool isn't any more, and the line isn't carried out."""
+        """Amid a jog there it stops dead; who is asked for a tool isn't any more, and the line isn't carried out."""
         self.started(changes="--untimed")
         self.pipe.write(b"S 0 0.000000 0 0 3 3\nP 1 0 0 50\n")
         self.wait_for("it waits", lambda: self.link.ask().waits)
-        self.assertEqual(self.how(self.link.jog("X+", "60", "1")), "refused: lines are in hand")
-        self.world.put(STOP, False)
-        self.wait_for("it is an alarm", lambda: self.link.ask().word == "alarm")
-        self.world.put(STOP, True)
+        self.world.set(_AT_PULSE, 300)
+        self.world.set(_TURNED, 1 << STOP)
+        self.assertEqual(self.how(self.link.jog("X+", "60", "1")),
+                         "the emergency stop is on, after line 0: the motors stopped at once")
+        self.assertEqual((self.world.get(_PULSES), self.link.ask().word), (300, "alarm"))
+        self.world.set(_AT_PULSE, 0)
         self.wait_for("it is known", lambda: not self.link.machine().on)
         self.assertEqual(self.how(self.link.home()), "done")
         report = self.link.ask()

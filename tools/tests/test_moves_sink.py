@@ -84,6 +84,27 @@ class MovesOverSink(OverSink):
         self.ended(0)
         self.assertEqual(self.made()[1], place)
 
+    def test_while_a_tool_is_waited_for(self) -> None:
+        """The motors jog and seek then too, and the lines behind it go on from where those before it lead, with the extra
+        steps that a screw needs which a jog turned."""
+        Path("mill.toml").write_text(Path("mill.toml").read_text() + "[backlash]\nsteps = [50, 0, 0]\n")
+        self.sink.tell(f"switch {PROBE} 2 -1 -1000")
+        self.started(changes="--off-after=10")
+        self.pipe.write(b"P 1 0 0 50\n" * 10 + b"S 0 0.000000 0 0 3 3\n" + b"P 1 0 0 50\n" * 10)
+        self.wait_for("it waits", lambda: self.link.ask().waits)
+        self.assertEqual(self.how(self.link.jog("X+", "600", "0.5")), "done")
+        self.assertEqual(self.how(self.link.seek("Z-", "600", "2")), "done")
+        self.link.go()
+        self.assertTrue(self.link.ask().waits)
+        for way, axis, to in (("Z+", 2, 0), ("X-", 0, 0.01)):
+            self.assertEqual(self.how(self.link.jog(way, "600", f"{abs(self.at()[axis] - to):.3f}")), "done")
+        self.link.go()
+        self.link.last()
+        self.wait_for("lines go on", lambda: self.link.ask().carried == 21)
+        self.assertEqual(self.at(), (0.02, 0, 0))
+        self.ended(0)
+        self.assertEqual(self.made()[1], (20, 0, 0))  # with 50 extra steps back, and 50 on again
+
     def test_held_jog(self) -> None:
         """It comes to rest once it isn't repeated; the record is the sink's count."""
         self.started()

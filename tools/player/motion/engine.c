@@ -29,6 +29,10 @@ void engine_end_here(struct engine *engine) {
     pace_end(&engine->pace);
 }
 
+const struct move *engine_newest(const struct engine *engine) {
+    return &engine->ring[(engine->end - 1) % PACE_ROOM].move;
+}
+
 static struct ahead *at(struct engine *engine, uint64_t number) {
     return &engine->ring[number % PACE_ROOM];
 }

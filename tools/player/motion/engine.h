@@ -73,6 +73,9 @@ void engine_begin(struct engine *engine, const struct move_source *source, struc
 /* Whether moves are known that aren't given. */
 bool engine_has_moves(const struct engine *engine);
 
+/* The newest of these. */
+const struct move *engine_newest(const struct engine *engine);
+
 /* What is known is given to its end, and comes to rest there. */
 void engine_end_here(struct engine *engine);
 

@@ -29,6 +29,14 @@ bool manual_is_there(struct player *player) {
     return is_there;
 }
 
+void manual_take_tool(struct player *player) {
+    player_lock(player);
+    if (!player->manual.is_there && !atomic_load(&player->is_untold)) {
+        atomic_store(&player->tool, NO_TOOL);
+    }
+    player_unlock(player);
+}
+
 const char NO_RECORD[] = "the record can't be kept";
 
 void manual_end(struct player *player, const char *how) {
@@ -109,6 +117,14 @@ static bool may_go(const struct player *player, const struct manual_wish *wish, 
     return true;
 }
 
+/* Whether lines are in hand that go on by themselves: not those behind a tool that a person is asked for. The lock is
+ * held. */
+static bool has_lines(const struct player *player) {
+    bool is_dropped = player->alarm != NO_ALARM || player->is_broken;
+    bool waits = atomic_load(&player->tool) != NO_TOOL;
+    return player->errand.is_there || (!is_dropped && !waits && player->source.received != player->lines);
+}
+
 /* Whether a wish can be taken now; false, with the cause. The lock is held. */
 static bool may_take(struct player *player, const struct manual_wish *wish, struct cause *why) {
     uint32_t on = atomic_load(&player->on);
@@ -122,9 +138,11 @@ static bool may_take(struct player *player, const struct manual_wish *wish, stru
     if (player->manual.is_there) {
         return because(why, "a move is under way");
     }
-    if (player->errand.is_there || (player->alarm == NO_ALARM && !player->is_broken
-                                    && player->source.received != player->lines)) {
+    if (has_lines(player)) {
         return because(why, "lines are in hand");
+    }
+    if (wish->kind == HOMES && player->alarm == NO_ALARM && atomic_load(&player->tool) != NO_TOOL) {
+        return because(why, "a tool is waited for: home once it is in");
     }
     if (input_is_on(on, player->machine->inputs.emergency_stop)) {
         return because(why, "the emergency stop is on");

@@ -53,6 +53,10 @@ bool manual_is_there(struct player *player);
 /* Why nothing moves where a record can't be kept. */
 extern const char NO_RECORD[];
 
+/* The tool that a person is asked for is in, but where a move without lines is under way, or left the motors elsewhere
+ * than where the line begins that asks for it: the lines behind it lead on from there. */
+void manual_take_tool(struct player *player);
+
 /* The move is over, if one was taken; `how` says how it ended. The lock is held. */
 void manual_end(struct player *player, const char *how);
 

@@ -137,9 +137,19 @@ static bool read_taken(const struct play *play, const char *text, size_t size, s
         && (!options_keep_times(play->options) || line_fits_clock(line, why));
 }
 
+/* Whether the newest line that is known asks for a tool: the motors may move meanwhile, and from then on their screws
+ * lie otherwise, so that none behind it is taken before. */
+static bool ends_at_tool(const struct engine *of) {
+    return engine_has_moves(of) && asks_for_tool(of->play, &engine_newest(of)->line);
+}
+
 /* Takes a line that stands in OUT. */
 static enum taken next(struct engine *of, struct ahead *newest) {
     struct play *play = of->play;
+    if (ends_at_tool(of)) {
+        end_here();
+        return NONE_NOW;
+    }
     if (!take_line(play, newest->text, &newest->size)) {
         bool is_end = !of->pace.is_plain && source_ends(&play->player->source) && !has_errand(play);
         return is_end ? NO_MORE_COME : NONE_NOW;
@@ -211,15 +221,26 @@ static uint64_t wanted(struct engine *of) {
     return pace_wanted(&of->pace, (unsigned)atomic_load(&player->percent));
 }
 
+/* Waits for the tool that the newest line asks for: screws lie then as the moves meanwhile left them. */
+static enum end get_tool(struct engine *of, const struct line *line) {
+    struct player *player = of->play->player;
+    enum end end = await_tool(of->play, line->outputs.slot);
+    player_lock(player);
+    memcpy(of->screws, player->screws, sizeof of->screws);
+    player_unlock(player);
+    return end;
+}
+
 /* Waits for what has to be before a line: that the motors stand, that a tool is in, and that what a person switched off
  * is on again. */
 static enum end prepare(struct engine *of, const struct line *line, bool *is_new) {
     struct play *play = of->play;
     bool may_ask = line->kind == 'S' && !play->options->asks_no_tool;
-    if ((may_ask && !play->motors->await_rest(play)) || !await_tool_of(play, line)) {
+    if (may_ask && !play->motors->await_rest(play)) {
         return STOPPED;
     }
-    return off_is_over(play, line, is_new);
+    enum end end = asks_for_tool(play, line) ? get_tool(of, line) : CONTINUES;
+    return end == CONTINUES ? off_is_over(play, line, is_new) : end;
 }
 
 static void heed_given(struct engine *of, const struct ahead *ahead) {

@@ -83,7 +83,7 @@ bool order_heed(struct player *player, const char *text, size_t size) {
     int percent = 0;
     uint64_t bytes = 0;
     if (is_word(text, size, "go")) {
-        atomic_store(&player->tool, NO_TOOL);
+        manual_take_tool(player);
     } else if (is_word(text, size, "hold")) {
         atomic_store(&player->is_held, true);
     } else if (is_word(text, size, "release")) {

@@ -12,7 +12,8 @@ static bool takes_place(const struct player *player, const int64_t steps[3]) {
     bool is_there = memcmp(player->steps, steps, sizeof player->steps) == 0;
     bool is_behind = player->source.received != player->lines && !player->is_broken && !is_there;
     bool moves = player->errand.is_there || player->manual.is_there;
-    return player->alarm == NO_ALARM ? !is_behind && !moves : alarm_takes_place(player, steps);
+    bool is_away = atomic_load(&player->is_untold) && atomic_load(&player->tool) != NO_TOOL; /* lines don't lead on */
+    return player->alarm == NO_ALARM ? !is_behind && !moves && !is_away : alarm_takes_place(player, steps);
 }
 
 /* It stands at these steps, and `ngc` knows it; where an alarm is over by that, `ngc` has to be told yet. The lock is
