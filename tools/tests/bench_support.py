@@ -39,13 +39,17 @@ REST = 110
 
 
 class AtMachine(ListFace):
-    """A face of somebody who puts in each tool that is asked for."""
+    """A face of somebody who puts in each tool that is asked for, and may do more before."""
+
+    def __init__(self, *answers: str) -> None:
+        super().__init__(*answers)
+        self.puts_in = ["go"]
 
     def say(self, text: str, kind: str = SAID) -> None:
         """Keeps it."""
         super().say(text, kind)
         if text.startswith("the player waits for"):
-            self.given.append("go")
+            self.given += self.puts_in
 
 
 class Bench(InFolder):

@@ -115,6 +115,7 @@ class Standing:
     is_door_open: bool = False
     is_apart: bool = False
     slot: int | None = 1  # what is in the spindle; 1 is the probe's
+    is_at_change: bool = False
 
 
 def told(standing: Standing) -> dict[str, bool]:
@@ -125,6 +126,7 @@ def told(standing: Standing) -> dict[str, bool]:
     inner = SimpleNamespace(program=SimpleNamespace(text=b"M2\n"), is_door_open=standing.is_door_open)
     touch = SimpleNamespace(setter=Setter(probe=Probe(1)))
     session = SimpleNamespace(ended=standing.ended, stand=stand, is_busy=bool(standing.under),
+                              is_at_change=standing.is_at_change,
                               under=SimpleNamespace(word=standing.under) if standing.under else None,
                               operator=SimpleNamespace(session=inner, touch=touch),
                               kept=SimpleNamespace(device=SimpleNamespace(slot=standing.slot)))
@@ -175,6 +177,11 @@ class Buttons(unittest.TestCase):
         runs.report = replace(runs.report, received=12, outputs=Switch(1, 5, False, False, 0, 0))
         self.check(runs, self.ALWAYS, self.CHOICES, {"stop", "go"})
         self.check(Standing(under="jog"), self.ALWAYS, self.CHOICES, {"stop", "go", "jog"})
+        waits = replace(runs, is_at_change=True, report=replace(runs.report, waits=True, tool=2))
+        self.check(waits, self.ALWAYS, self.CHOICES, {"stop", "off", "go", "jog"})
+        waits.report = replace(waits.report, outputs=OFF)
+        self.check(waits, self.ALWAYS, self.CHOICES, {"stop", "go", "jog", "seek"})
+        self.check(replace(waits, is_door_open=True), self.ALWAYS, self.CHOICES, {"stop", "go"})
 
     def test_held(self) -> None:
         """Within a block: it goes on, is ended, or its outputs go off; with lines in hand no place is told."""

@@ -212,6 +212,80 @@ class AtChange(Measured):
         self.assertEqual(self.lengths()[1], 12_000)
 
 
+class WhileWaited(Bench):
+    """Within a program, while its tool is waited for: where the motors were jogged, they go back first."""
+
+    words = ("--untimed",)
+    ASKS = ("the motors are at machine {}, and the lines go on from X2 Y1 Z0: {}down to Z0. Look whether that way is"
+            " free, with the tool that is in\nyes goes back and on, anything else moves nothing: ")
+
+    def runs(self, *before: str, answers: tuple[str, ...]) -> list[str]:
+        """What is said as the job runs, by somebody who does this before the tool is in, and answers so."""
+        self.do("G49", "tool 2 12", "measures off")
+        self.assertTrue(self.operator.load("part.ngc", JOB.encode()), self.face.said)
+        self.face.puts_in = [*before, "go"]
+        self.world.forget_reached()
+        return self.do("run", answers=answers)
+
+    def is_through(self, low: tuple[int, ...], high: tuple[int, ...]) -> None:
+        """The program came to its end, where it does without a jog, and the table stayed within this, in no body but
+        by a touch."""
+        self.assertEqual((self.status().does, self.status().at), ("idle", ("3.000000", "1.000000", "13.000000")))
+        self.assertEqual(self.world.place, (3_000, 1_000, 13_000))
+        self.stays_within(low, high)
+
+    def test_back(self) -> None:
+        """They go up, over and down to where the lines go on, by a yes, clear of what stands between; by a no they
+        stay, and the tool isn't in."""
+        agrees = self.face.agrees
+
+        def stands_between(question: str) -> bool:
+            self.world.solid(1, BOX, (3_500, -9_000, -60_000), (5_000, 9_000, 20_000))
+            return agrees(question)
+
+        self.face.agrees = stands_between
+        self.runs("jog Z+ 600 for 3", "jog X+ 600 for 4", "jog Y- 600 for 2", "home", "go", answers=("no", "yes"))
+        self.assertEqual(self.face.asked, [self.ASKS.format("X6 Y-1 Z3", "up to Z50, over to X2 and then to Y1, ")] * 2)
+        self.is_through((0, -1_000, 0), (6_000, 1_000, 50_000))
+
+    def test_up(self) -> None:
+        """From above that place they go straight down."""
+        self.runs("jog Z+ 600 for 3", answers=("yes",))
+        self.assertEqual(self.face.asked, [self.ASKS.format("X2 Y1 Z3", "")])
+        self.is_through((0, 0, 0), (3_000, 1_000, 13_000))
+
+    def test_there(self) -> None:
+        """Jogged there and back nobody is asked."""
+        self.runs("jog Z+ 600 for 3", "jog Z- 600 for 3", answers=())
+        self.assertEqual(self.face.asked, [])
+        self.is_through((0, 0, 0), (3_000, 1_000, 13_000))
+
+    def test_touched(self) -> None:
+        """They seek the setter too; that place isn't one for a length, as nothing says which tool that was."""
+        self.world.solid(0, BOX, (0, 0, -60_000), (9_000, 9_000, -23_000))
+        said = self.runs("seek Z- 600 within 9", answers=("yes",))
+        self.assertIn("and the lines go on from X2 Y1 Z0: up to Z0.", self.face.asked[0])
+        self.assertIn("the probe was touched at X 2.000000 Y 1.000000 Z -3.000000", said)
+        self.assertIsNone(self.operator.moves.touched)
+        self.is_through((0, 0, -3_000 - REST), (3_000, 1_000, 13_000))
+
+    def test_held(self) -> None:
+        """Whoever holds at the question holds the job; it goes on by `run`, and asks again before the tool is in."""
+        agrees = self.face.agrees
+
+        def hold(question: str) -> bool:
+            self.face.holds_at = self.face.looks + 1
+            return agrees(question)
+
+        self.face.agrees = hold
+        self.runs("jog Z+ 600 for 3", answers=("no",))
+        self.assertEqual((self.status().does, self.world.place), ("held", (2_000, 1_000, 3_000)))
+        self.assertEqual(self.do("jog Z+ 600 for 1")[-1], "jog Z+: held: release comes first")
+        self.face.agrees, self.face.puts_in = agrees, ["go"]
+        self.do("run", answers=("yes",))
+        self.is_through((0, 0, 0), (3_000, 1_000, 13_000))
+
+
 class Changes(unittest.TestCase):
     """Where a program changes its tool."""
 

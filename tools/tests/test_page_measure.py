@@ -117,6 +117,36 @@ class AtChange(AtMachine):
         state = self.seen.until("it is jogged", lambda s: not s["busy"] and s["motors"][2] == "2.000000")
         self.assertEqual((state["does"], self.world.place), ("stopped", (1_000, 0, 2_000)))
 
+    def test_jogged(self) -> None:
+        """While the tool is waited for jog and seek are offered, and home isn't. The motors are elsewhere then, which
+        is shown. Before the tool is in they go back to where the job goes on, by a yes; by a no they stay."""
+        self.seen.post("switch", {"name": "measures", "on": False})
+        self.load(self.seen, JOB)
+        self.seen.post("run")
+        state = self.seen.until("it asks for the tool", lambda s: s["waits"] and s["can"]["jog"])
+        self.assertEqual(([state["can"][word] for word in ("seek", "go", "home", "measure", "mdi")], state["apart"]),
+                         ([True, True, False, False, False], [False] * 3))
+        for axis, sign, motors in (("Z", 1, ["1", "0", "2"]), ("X", -1, ["-1", "0", "2"])):
+            words = {"axis": axis, "sign": sign, "rate": "600", "length": "2"}
+            self.assertEqual(self.seen.post("jog", words), (200, {}))
+            state = self.seen.until("it is jogged", lambda s: s["motors"] == [f"{at}.000000" for at in motors]
+                                    and s["machine"] == "stands")
+        self.assertEqual((state["waits_tool"], state["apart"], state["busy"], state["began_at"][0]),
+                         (2, [True, False, True], True, "1.000000"))
+        for agrees in (False, True):
+            self.seen.post("go", {"tool": 2, "shown": state["motors"]})
+            asked = self.seen.asked()
+            self.assertEqual(asked["question"]["text"], "the motors are at machine X-1 Y0 Z2, and the lines go on from"
+                             " X1 Y0 Z0: up to Z9, over to X1 and then to Y0, down to Z0. Look whether that way is"
+                             " free, with the tool that is in\nyes goes back and on, anything else moves nothing:")
+            self.assertEqual((self.world.place, asked["can"]["jog"]), ((-1_000, 0, 2_000), False))
+            self.seen.answered.add(asked["question"]["id"])
+            self.seen.post("answer", {"question": asked["question"]["id"], "yes": agrees})
+        self.seen.until("it is through", lambda s: s["finished"] and not s["busy"])
+        self.assertEqual((self.world.place, self.seen.said().count("refused")), ((2_000, 0, 4_000), 0))
+        _, least, greatest = self.world.reached
+        self.assertEqual((least, greatest), ((-1_000, 0, 0), (2_000, 0, 9_000)))
+
     def test_heights(self) -> None:
         """From where the setter is sought is said anew; what can't be gone isn't kept."""
         self.assertEqual(self.seen.post("measurefrom", {"down": "x", "within": "1"})[0], 422)
@@ -163,7 +193,33 @@ class Held(AtChange):
     """By the clock."""
 
     WORDS: list[str] = []
-    test_measured = test_not_measured = test_heights = test_off = test_switches = None
+    test_measured = test_not_measured = test_heights = test_off = test_switches = test_jogged = None
+
+    def test_jog_held(self) -> None:
+        """While the tool is waited for an axis goes for as long as that is said again and again, too; Hold ends it, and
+        holds the job."""
+        self.load(self.seen, JOB)
+        self.seen.post("run")
+        state = self.seen.until("it asks for the tool", lambda s: s["waits"] and s["can"]["jog"])
+        jog = {"axis": "Z", "sign": 1, "rate": "60", "press": state["press"] + 1}
+
+        def has_gone(um: int) -> bool:
+            self.assertEqual(self.seen.post("jog", jog), (200, {"goes": True}))
+            return self.world.place[2] > um
+
+        def rests(state: dict) -> bool:
+            return state["machine"] == "stands" and state["motors"][2] == f"{self.world.place[2] / 1000:.6f}"
+
+        self.wait_for("it goes", lambda: has_gone(300))
+        self.seen.post("jogstop", {"press": jog["press"]})
+        state = self.seen.until("it rests", rests)
+        self.assertEqual((state["waits"], state["apart"]), (True, [False, False, True]))
+        jog["press"] += 1
+        self.wait_for("it goes on", lambda: has_gone(900))
+        self.assertEqual(self.seen.post("hold", {"touch": "a-touch"})[0], 200)
+        state = self.seen.until("it is held", lambda s: not s["busy"] and rests(s))
+        self.assertEqual((state["does"], state["waits"], state["can"]["jog"]), ("held", True, False))
+        self.assertEqual(self.seen.post("jog", jog), (200, {"goes": False}))
 
     def test_held(self) -> None:
         """Hold amid the way: it comes to rest there, the job waits, and the length stays."""

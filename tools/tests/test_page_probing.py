@@ -4,6 +4,7 @@ import json
 import re
 import sys
 import unittest
+from collections.abc import Callable
 from contextlib import closing
 from dataclasses import replace
 from pathlib import Path
@@ -387,7 +388,7 @@ class Setter(OverBodies):
         self.load(JOB, JOB.count("\n"))
         self.do("G0 X0")  # a line of one's own before the program isn't what is asked about behind its change
         browser.press("Run", "#run")
-        browser.press("Tool 2 is in", "#run")
+        self.jogs_before(lambda: browser.press("Tool 2 is in", "#run"))
         self.refused("the probe isn't touched within 6.000000 mm: nothing more moves")
         self.assertEqual(world.place, (8 * MM, 6 * MM, -4 * MM))
         self.goes_on_from_here("X1 Y0 Z0. The machine is at X8 Y6 Z-4")
@@ -411,6 +412,21 @@ class Setter(OverBodies):
         self.assertEqual(world.place, (2 * MM, 0, 5 * MM))
         self.shows("4.000", length=4)
         self.no_complaints()
+
+    def jogs_before(self, is_in: Callable[[], None]) -> None:
+        """The axes are jogged by their buttons while the tool is waited for, and go back by a yes once it is in."""
+        browser = self.browser
+        browser.press("Setup", "nav button")
+        browser.press("0.1", "#tab-setup .lengths button")
+        for way, place in (("Z+", (MM, 0, 100)), ("Y+", (MM, 100, 100))):
+            browser.press(way, "#tab-setup .pad button")
+            self.wait_for("it is jogged", lambda place=place: self.world.place == place)
+            browser.wait("ngc.state.waits && ngc.state.machine === 'stands'"
+                         f" && ngc.state.motors.map(Number).join() === '{','.join(f'{at / MM:g}' for at in place)}'")
+        is_in()
+        self.assertIn("the lines go on from X1 Y0 Z0: up to Z9, over to X1 and then to Y0, down to Z0.", self.asked())
+        browser.press("Yes: goes back and on", "#over .go")
+        self.wait_for("it is back", lambda: self.world.place == (MM, 0, 0))
 
     def stands(self, length: float, y: float) -> None:
         """So long tool 2 is, and about that Y the setter stands, both in mm."""

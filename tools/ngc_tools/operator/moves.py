@@ -10,7 +10,7 @@ from ngc_tools.ngc.console import Status
 from ngc_tools.operator.alarm import Alarm
 from ngc_tools.operator.causes import busy, taken
 from ngc_tools.operator.commands import BY_WORD
-from ngc_tools.operator.face import REFUSED, SAID, WARNING, UnderWay, axes
+from ngc_tools.operator.face import REFUSED, SAID, WARNING, WHERE, UnderWay, axes
 from ngc_tools.operator.left import Left
 from ngc_tools.operator.look import Look
 from ngc_tools.operator.modes import trimmed
@@ -37,6 +37,9 @@ _ANEW = ("what the player had in hand in the alarm is never carried out: another
          " loss of power")
 _UNSURE = ("ngc isn't told where the machine is, since it wasn't known before, and not each axis is homed: reference"
            " player, or reference X Y Z")
+_AT_CHANGE = ("jog", "seek")
+"""What is taken while the player waits for a tool: `ngc` needn't be told, since the motors have to be back then."""
+_WAITS = "the tool is still waited for: once it is in, go leads back to where the lines go on"
 _HELD = ("{half} was held as the alarm came, and the spindle and the coolant that it had are off: another session"
          " begins, and goes on as after a loss of power")
 
@@ -104,12 +107,17 @@ class Moves:
             self.session.face.say("no player is known: --player SOCKET")
             return False
         status = self.session.console.status()
-        if self.session.is_in(ALARM, BROKEN):
+        if self.session.is_in(ALARM, BROKEN) or word in _AT_CHANGE and self._is_at_change():
             return True
         if status.does not in ("idle", "stopped"):
             self._refuse(busy(self.session, status, word))
             return False
         return self.motors.are_free()
+
+    def _is_at_change(self) -> bool:
+        """Whether the player waits for a tool."""
+        report = self.session.report()
+        return report is not None and report.waits
 
     def _read(self, word: str, form: re.Pattern[str], rest: str) -> tuple[str, str, str] | None:
         """The way, the rate and the length of a command, as the player takes them; None, which is said, for others."""
@@ -131,7 +139,11 @@ class Moves:
             return
         if keep is None or machine.how not in USUAL:
             self._say(name, machine)
-        self.tell(is_sure or machine.homed == "XYZ")
+        if self._is_at_change():
+            self.touched = None  # which tool that was isn't said yet
+            self.session.face.say(_WAITS, WHERE)
+        else:
+            self.tell(is_sure or machine.homed == "XYZ")
 
     def make(self, name: str, begin: Callable[[Link], MoveAnswer],
              keep: Callable[[int], None] | None = None) -> MoveReport | None:

@@ -13,6 +13,7 @@ from ngc_tools.formats.lines import Program
 from ngc_tools.formats.settings import Settings
 from ngc_tools.ngc.console import NO_TICK, Console, Status
 from ngc_tools.operator.alarm import Alarm
+from ngc_tools.operator.at_change import AtChange
 from ngc_tools.operator.causes import refused, taken
 from ngc_tools.operator.choices import Choices
 from ngc_tools.operator.commands import BY_WORD, Brings
@@ -90,12 +91,14 @@ class Operator:
         self.probing = Probing(self.session, self.moves, self.touch, self.shapes)
         self.measuring = Measuring(self.session, self.moves, self.touch)
         self.ways = Ways(self.session, self.left, self._line_done)
+        self.change = AtChange(self.session, self.moves, self.ways, self.work)
         self.runs = Runs(self.session)
         self.macros = Macros(self.session, self.left, self._line_done)
         self.from_line = FromLine(self.moves, self.recover.way, self.load, self._line_done, self._begun,
                                   lambda: self.go_on("continue", Typed.read("continue")), self.stopping.off)
         self.work.waits_at_change = lambda: self.measuring.is_on and self.measuring.can
         self.keys: Callable[[], AbstractContextManager[Keys]] | None = None
+        self.held_jog: Callable[[], None] | None = None  # of a page
         self.over = False
         self.taken_up: TakenUp | None = None
 
@@ -351,8 +354,10 @@ class Operator:
             self.face.say(str(error), WARNING)
 
     def jog(self, rest: str) -> None:
-        """Jogs as the words say; without any by keys, where there are some."""
-        if rest or self.keys is None:
+        """Jogs as the words say; without any by keys, where there are some, or as a page holds on."""
+        if not rest and self.held_jog is not None:
+            self.held_jog()
+        elif rest or self.keys is None or self.work.is_amid:
             self.moves.jog(rest)
         else:
             jog_by_keys(self.moves, self.keys())
@@ -505,7 +510,7 @@ class Operator:
             self.face.say("no player is known: --player SOCKET")
             return
         try:
-            self.session.meter.link.go()
+            self.change.go()
         except NoAnswer as error:
             self.face.say(str(error), WARNING)
 

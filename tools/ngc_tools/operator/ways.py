@@ -65,8 +65,12 @@ class Ways:
 
     def _up(self, device: Device) -> str:
         """The line by which Z goes up; nothing where it is higher already."""
-        z = self.session.settings.high_nm[2] if self.home_nm[2] is None else self.home_nm[2]
-        return self._line(device, Z=z) if device.state.point_nm[2] < z else ""
+        return self._line(device, Z=self.top_nm) if device.state.point_nm[2] < self.top_nm else ""
+
+    @property
+    def top_nm(self) -> int:
+        """The machine Z up to which it goes."""
+        return self.session.settings.high_nm[2] if self.home_nm[2] is None else self.home_nm[2]
 
     @staticmethod
     def _line(device: Device, **to_nm: int) -> str:

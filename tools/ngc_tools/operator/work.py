@@ -82,6 +82,7 @@ class Work:
         self._asked_at = 0.0  # when it was asked last what holds them
         self._still = Stillness()
         self.is_amid = False  # a command is done that was given while something runs
+        self.waits_at = ""  # while the player waits for a tool: from where the lines behind it go on
         self.waits_at_change: Callable[[], bool] = lambda: False
         self._changes: tuple[bytes, tuple[int, ...]] = (b"", ())  # of a program, where its lines with M6 begin
 
@@ -207,9 +208,12 @@ class Work:
             what = f"tool {report.tool} to be put in" if report.tool else "the tool to be taken out"
             self.session.face.say(f"the player waits for {what}: once that is done, type go here, or press Enter there",
                                   WHERE)
+            self.waits_at = self.session.meter.link.leads() or report.at
         self._tell_waits(report)
         self._is_unwanted = not self._wanted()
-        return not self._is_unwanted and not self.session.is_in(ALARM, BROKEN)
+        goes_on = not self._is_unwanted and not self.session.is_in(ALARM, BROKEN)
+        self.waits_at = self.waits_at if goes_on and report.waits else ""
+        return goes_on
 
     def _tell_waits(self, report: Report) -> None:
         """Says what else the motors wait for."""

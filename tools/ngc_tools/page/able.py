@@ -5,8 +5,12 @@ from ngc_tools.operator.alarm import is_forbidden
 from ngc_tools.operator.commands import COMMANDS, LINE_FROM_PLACE, Asked, Needs
 from ngc_tools.operator.display import on_words
 from ngc_tools.operator.session import ALARM, BROKEN, WAITS_SPINDLE
-from ngc_tools.page.session import MOVES, PageSession
+from ngc_tools.page.session import MOVES, TAKEN_AT_CHANGE, PageSession
 from ngc_tools.link.progress import MoveReport, Report, goes_on
+
+
+_AT_CHANGE = Needs.NOT_BUSY | Needs.NOTHING_BUT_JOG | Needs.TAKES_MOVES
+"""What a command that is taken while the player waits for a tool doesn't need then."""
 
 
 def is_given_before(session: PageSession, status: Status, report: Report | None) -> bool:
@@ -34,8 +38,9 @@ def able(session: PageSession, status: Status, report: Report | None, machine: M
     if session.operator.session.program.text and status.place > 0:
         holds |= Needs.BEGUN
     said = report.word if report else ""
-    enabled = {command.word: command.needs in holds and not is_forbidden(command.word, said) for command in COMMANDS
-               if command.asked is not Asked.NEVER}
+    at_change = _AT_CHANGE if session.is_at_change else Needs(0)
+    enabled = {command.word: command.needs in (holds | at_change if command.word in TAKEN_AT_CHANGE else holds)
+               and not is_forbidden(command.word, said) for command in COMMANDS if command.asked is not Asked.NEVER}
     # a page holds the motors whatever the player says
     return enabled | {"hold": Needs.SESSION in holds, "turn": enabled["mdi"] and LINE_FROM_PLACE in holds}
 

@@ -211,6 +211,8 @@ def _jog(given: Given) -> dict | None:
 def _step(given: Given) -> None:
     """A step by a key or a wheel, to its end: nobody asks for the next one before."""
     _said(given, OLDEST_STEP_S)
+    if given.session.is_at_change:
+        raise RequestRefused(HTTPStatus.CONFLICT, "a tool is waited for: jog by a key that is held, or by the buttons")
     line = f"jog {_way(given)} {given.number('rate')} for {given.number('length')}"
     given.session.ask("jog", lambda: given.session.operator.do(line), _STEP_S)
 

@@ -36,6 +36,7 @@ class HeldJog:
         self.taken = Wish("", "", 0)
         self._press = self._let_go = 0
         self._until = 0.0
+        self.is_going = False
 
     @property
     def last(self) -> int:
@@ -71,10 +72,12 @@ class HeldJog:
     def go(self, moves: Moves) -> None:
         """Jogs until the wish is over, or is one for another way; `ngc` is told where that ended."""
         wish = self.taken
-        if not self.is_wanted():
+        if not self.is_wanted() or self.is_going:
             return
+        self.is_going = True
         try:
             moves.jog_while(wish.way, wish.rate, lambda: self._press == wish.press and self.is_wanted())
         finally:
+            self.is_going = False
             if wish.is_by_keys or self.is_wanted():
                 self.let_go(wish.press)

@@ -30,7 +30,7 @@ from ngc_tools.operator.tool_shapes import ToolShapes
 from ngc_tools.page.aside import Aside, Child, NotDone, Wanted
 from ngc_tools.page.drawer import Drawer
 from ngc_tools.page.drawing import DrawingRequest, as_begun
-from ngc_tools.page.face import PageFace
+from ngc_tools.page.face import AsideCommand, PageFace
 from ngc_tools.page.findings import Check, find
 from ngc_tools.page.never_cut import LossRequest, NeverCutSearch
 from ngc_tools.page.jobs import Folder, Jobs
@@ -54,6 +54,8 @@ nothing is done: the motors have {count} in hand. Recover has them carry those o
 _MAY_END = words_that_bring(Brings.PROGRAM) | {"release"}  # the program runs to its end, or its last lines are made
 _CHOICES = words_that_bring(Brings.CHOICE)
 _ASIDES = words_taken(Taken.AMID) - {"release"}  # that one has a way of its own
+TAKEN_AT_CHANGE = WITHOUT_LINES & _ASIDES
+"""Those that are done beside a command whose player waits for a tool."""
 
 
 class Busy(Failure):
@@ -166,6 +168,7 @@ class PageSession:
         self.face.begin(self.face.holds)
         self.face.asides()  # none of the last session counts
         operator.following.opened = self._follow
+        operator.held_jog = lambda: self.jogs.go(operator.moves)
         operator.begin(self.opened.bound, self.opened.found)
         self._text = operator.session.program.text
         self.operator, self.ident = operator, secrets.token_hex(8)  # a page that saw another one begins anew
@@ -238,6 +241,12 @@ class PageSession:
         """Whether a command is under way."""
         return self.under is not None or self._next is not None or self._stops
 
+    @property
+    def is_at_change(self) -> bool:
+        """Whether a command is under way whose player waits for a tool, and nobody is asked: then jog and seek are
+        done beside it."""
+        return self.under is not None and bool(self.operator.work.waits_at) and self.face.question is None
+
     def moment(self) -> tuple[object, ...]:
         """What changes as a command begins or ends, or somebody is asked. Where it is the same before and after
         something was read, all that was read is of one moment."""
@@ -272,7 +281,11 @@ class PageSession:
 
     def type(self, line: str) -> None:
         """Does a command of the operator's core, as a person types it. Raises Busy."""
-        self.give(line.removeprefix("anyway ").split()[0], lambda: self.operator.do(line))
+        word = line.removeprefix("anyway ").split()[0]
+        if word in TAKEN_AT_CHANGE and self.is_at_change:
+            self.face.give_aside(line)
+        else:
+            self.give(word, lambda: self.operator.do(line))
 
     def line(self, line: str) -> None:
         """Does a line of G-code that a button stands for, and shows it. Raises Busy."""
@@ -350,7 +363,10 @@ class PageSession:
         if not self.jogs.wish(wish):
             return False
         command = self.under or self._next
-        if command is None or command.word != "jog":
+        if self.is_at_change:
+            if not self.jogs.is_going:
+                self.face.give_aside("jog")
+        elif command is None or command.word != "jog":
             self.give("jog", lambda: self.jogs.go(self.operator.moves))
         return True
 
@@ -561,10 +577,14 @@ class PageSession:
         if self._stops:
             self._stops = False
             return self._command("stop", lambda: self.operator.do("stop"))
-        if not (lines := self.face.asides()):
+        if not (lines := self._come_late()):
             return None
         holds = min(line.holds for line in lines)
         return self._command(lines[0].split()[0], lambda: list(map(self.operator.do, lines)), holds)
+
+    def _come_late(self) -> list[AsideCommand]:
+        """What was given while a command ran, and came too late for it; a move isn't done any more then."""
+        return [line for line in self.face.asides() if line.split()[0] not in WITHOUT_LINES]
 
     def _do(self, command: SessionCommand) -> None:
         """Does a command, and sees how it ended."""
@@ -575,7 +595,7 @@ class PageSession:
         ends = self.operator.runs.ends
         try:
             command.result = command.does()
-            for line in self.face.asides():  # that came too late for it
+            for line in self._come_late():
                 self.operator.do(line)
         except Ended:
             raise

@@ -136,7 +136,7 @@ class Pictured:
     def _began_at(self) -> list[str] | tuple[str, ...]:
         """Where the line under way began: one with a tool change where the motors wait for the tool."""
         if self._change is not None and self.report:
-            return self.report.at.split()
+            return (self.operator.work.waits_at or self.report.at).split()
         state = self.device.state
         return list(map(millimetres, state.point_nm)) if state.half else self.status.at
 
@@ -231,6 +231,8 @@ class Pictured:
         """Of each axis whether the motors rest at another place than where `ngc` takes them to be, by a step or more.
         While a command is under way that moves nothing that is as it was before it.
         """
+        if self.report and self.report.waits and (begun := self.operator.work.waits_at):
+            return self._differ(self.report.at, begun)
         if self.command is None:
             return self._apart_of(self.status, self.report)
         return [False] * 3 if self.command.word in MOVES else self._apart_of(self.stand.status, self.stand.report)
@@ -239,9 +241,13 @@ class Pictured:
         """The same, of what was told."""
         if report is None or report.behind or not status.known or self.stand.gone:
             return [False] * 3
-        steps = [Position(self.session.settings.step_nm, list(map(nanometres, at))).steps
-                 for at in (report.at.split(), status.at)]
-        return [one != other for one, other in zip(*steps, strict=True)]
+        return self._differ(report.at, " ".join(status.at))
+
+    def _differ(self, one: str, other: str) -> list[bool]:
+        """Of each axis whether two places differ, by a step or more."""
+        steps = [Position(self.session.settings.step_nm, list(map(nanometres, at.split()))).steps
+                 for at in (one, other)]
+        return [here != there for here, there in zip(*steps, strict=True)]
 
     @property
     def _is_unsure(self) -> bool:
