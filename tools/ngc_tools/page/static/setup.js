@@ -92,7 +92,8 @@ export class Setup {
     const isHome = i => i === 0 || (s.homes ?? 'XYZ').includes(AXES[i - 1]);
     this.home.forEach((one, i) => { one.disabled = !may(s, 'home') || !isHome(i); });
     this.jog.told = s.press;
-    this.jog.enable(may(s, 'jog'), s.busy, s.ends);
+    const isBusy = s.busy && (!s.waits || s.machine !== 'stands'); // while a tool is waited for it jogs too
+    this.jog.enable(may(s, 'jog'), isBusy, s.ends);
     this.keys.show(s);
     this.within.disabled = !may(s, 'seek');
     for (const one of this.seeks) one.disabled = this.within.disabled || typed(this.within) === null;
