@@ -8,8 +8,8 @@ import signal
 import socket
 import threading
 import time
-from collections.abc import Callable
-from contextlib import suppress
+from collections.abc import Callable, Iterator
+from contextlib import contextmanager, suppress
 from pathlib import Path
 
 from player_support import built
@@ -295,3 +295,13 @@ def slow_by() -> float:
     while time.thread_time() < begun_cpu + 0.03:
         pass
     return (time.monotonic() - begun) / 0.03
+
+
+@contextmanager
+def within_seconds(most: float) -> Iterator[None]:
+    """What is done meanwhile takes no longer, of a machine that has time for it."""
+    slowness, begun = slow_by(), time.monotonic()
+    yield
+    took_s, slowness = time.monotonic() - begun, max(slowness, slow_by(), slow_by())
+    if took_s > most * slowness:
+        raise AssertionError(f"it took {took_s:.1f} s, not {most} times {slowness:.1f}, by which this machine is slow")

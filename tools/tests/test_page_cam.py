@@ -4,14 +4,13 @@ import json
 import os
 import random
 import sys
-import time
 import unittest
 from pathlib import Path
 from unittest import mock
 
 sys.path.insert(0, str(Path(__file__).resolve().parent))
 
-from page_support import Page, Served, slow_by
+from page_support import Page, Served, within_seconds
 from session_support import FIRST, PATIENCE_S, InFolder, ngc, told, used_s
 
 from ngc_tools.cli.check import main as check
@@ -115,11 +114,10 @@ class Cam(Served):
         self.assertEqual(self.page("page-number-2").post("checking"), (200, {"told": None}))
         (child,) = set(self.started_by(self.server.pid)) - set(self.children())
         self.wait_for("it asks ngc", lambda: bool(self.started_by(child)))
-        slowness, begun = slow_by(), time.monotonic()
-        asking.close()
-        self.wait_for("it is ended", lambda: page.post("checking") == (200, {"told": None}))
-        self.wait_for("all of it is", lambda: not self.has_group(child))
-        self.assertLess(time.monotonic() - begun, max(slowness, slow_by(), slow_by()))
+        with within_seconds(1):
+            asking.close()
+            self.wait_for("it is ended", lambda: page.post("checking") == (200, {"told": None}))
+            self.wait_for("all of it is", lambda: not self.has_group(child))
         self.look(page, "M2\n")
 
     @staticmethod

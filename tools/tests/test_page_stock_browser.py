@@ -8,6 +8,7 @@ from pathlib import Path
 sys.path.insert(0, str(Path(__file__).resolve().parent))
 
 import test_page_browser
+from page_support import within_seconds
 from test_page_units import INCHES
 
 CROSSES = """G17 G21 G90 G94
@@ -35,6 +36,21 @@ COLOUR = """(() => {
     one.drawImage(canvas, ...at);
     return [...one.getImageData(0, 0, 1, 1).data].slice(0, 3);
 })()"""
+LONG = """(async () => {
+    const { Job } = await import(new URL('job.js', document.baseURI));
+    const steps = [], at = i => [i % 300 * 333, Math.floor(i / 300) * 1000, -1000 - i % 7 * 100];
+    for (let i = 0; i < 30000; i++) steps.push({ n: i + 1, k: 'c', us: 1, p: [...at(i), ...at(i + 1)] });
+    ngc.job = new Job({ steps, exact: true, refused: null });
+})()"""
+"""The job of a program of a mebibyte, 35 bytes a line."""
+ASKED = """(async () => {
+    const worker = () => ngc.stock.worker instanceof Worker;
+    document.getElementById('stock').click();
+    while (!worker()) await new Promise(done => setTimeout(done));
+    while (worker() || !ngc.stock.picture.found) await new Promise(done => setTimeout(done, 10));
+    return ngc.stock.picture.found.after.reduce((a, b) => Math.min(a, b));
+})()"""
+"""Asks for the picture, and waits until it is there: the lowest height in it."""
 NEVER = """void (window.Worker = class {
     postMessage() {}
     terminate() { window.ended = true; }
@@ -187,6 +203,18 @@ class Sheets(InSheet):
         self.assertEqual(browser.js("[window.ended, ngc.stock.isOpen]"), [True, False])
         browser.js("window.Worker = real")
         self.opened()
+        self.no_complaints()
+
+    def test_long(self) -> None:
+        """Of a program of a mebibyte the picture is there within five seconds after it was asked for."""
+        browser = self.browser
+        Path("first.shapes").write_text('[T0]\ndiameter_nm = 6000000\ntip = "flat"\n')
+        self.load(CROSSES, 7)
+        browser.wait("ngc.job?.exact")
+        browser.js(LONG)
+        with within_seconds(5):
+            lowest_um = browser.js(ASKED)
+        self.assertAlmostEqual(lowest_um, -1600)
         self.no_complaints()
 
     def test_policy(self) -> None:

@@ -2,17 +2,14 @@
 import os
 import subprocess
 import sys
-import time
 import unittest
-from collections.abc import Iterator
-from contextlib import contextmanager
 from functools import reduce
 from math import sqrt
 from pathlib import Path
 
 sys.path.insert(0, str(Path(__file__).resolve().parent))
 
-from page_support import Served, slow_by
+from page_support import Served, slow_by, within_seconds
 from session_support import PATIENCE_S, TOOLS, Terminal, ngc
 from test_documents import blocks, chapters
 from test_moves import AT_SPEED, MACHINE, PROBE, STOP, X_HIGH, Moving, program
@@ -26,15 +23,6 @@ JOB = "G17 G21 G90 G94\nM3 S1000\nM8\nG0 X1\nG1 X4 F60\nT2 M6\nG1 X5 F600\nM0\nG
 FAST = "G17 G21 G90 G94\nM3 S1000\nM8\n" + "G1 X9 F600\nG1 X0\n" * 50 + "M2\n"
 """Cuts at 10 mm/s, from which a ramp of 500 mm/s2 takes 0.1 mm."""
 IS_ON = 4  # a field of the world
-
-
-@contextmanager
-def in_two_seconds(test: unittest.TestCase) -> Iterator[None]:
-    """What is done meanwhile takes no longer, of a machine that has time for it."""
-    slowness, begun = slow_by(), time.monotonic()
-    yield
-    took_s = time.monotonic() - begun
-    test.assertLess(took_s, 2 * max(slowness, slow_by(), slow_by()))
 
 
 class Stopping(Served):
@@ -117,7 +105,7 @@ class OverFile(Stopping):
         self.assertEqual((state["spindle"], state["flood"], state["half"]), (0, False, "program"))
         at = self.world.place
         self.assertTrue(1_200 < at[0] < 4_000)
-        with in_two_seconds(self):
+        with within_seconds(2):
             self.seen.agree(state)
             state = self.until("it is over", lambda s: not s["busy"] and s["half"] == "none")
             place = self.world.place
@@ -205,7 +193,7 @@ class OverFile(Stopping):
         self.assertTrue(state["can"]["rewind"])
 
     def test_at_rest_with_nothing_on(self) -> None:
-        """At M0 with nothing on Stop has nothing to end, and isn't enabled; the program begins anew by its own button."""
+        """At M0 with nothing on Stop has nothing to end, and is dead; the program begins anew by its own button."""
         self.load(self.seen, "G17 G21 G90 G94\nG1 X0.2 F600\nM0\nM2\n")
         self.assertEqual(self.seen.post("run"), (200, {}))
         state = self.until("it is at M0", lambda state: state["does"] == "stopped" and not state["busy"])
@@ -316,7 +304,7 @@ class OverPipe(Stopping):
         state = self.stop()
         self.assertFalse(self.is_on())
         at = self.world.place
-        with in_two_seconds(self):
+        with within_seconds(2):
             self.seen.agree(state)
             state = self.until("it is over", lambda s: not s["busy"] and s["half"] == "none" and s["does"] == "idle")
             place = self.world.place
@@ -400,7 +388,7 @@ class OfConsole(Moving):
         said = typed("stop", "half-done: ")
         self.assertIn("Stopped in segment 0 of line 3: G1 X4 F60. Given up,", said)
         self.assertEqual((link.ask().outputs.spindle, self.world.get(IS_ON)), (0, 0))
-        with in_two_seconds(self):
+        with within_seconds(2):
             said = typed("yes")
             behind = link.ask().behind
             done = typed("G0 X0")
