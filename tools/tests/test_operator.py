@@ -116,6 +116,10 @@ class FileLink:
         if self.heeds:
             self.position = Position((1000, 1000, 1000), list(map(nanometres, place.split())))
 
+    def leads(self) -> str:
+        """Nothing: the motors are where the lines lead."""
+        return ""
+
     def end(self) -> None:
         """The session is over."""
         self.words.append("end")
