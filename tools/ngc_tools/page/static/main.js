@@ -141,13 +141,16 @@ function showControls(s) {
 function showFrom(s) {
   $('from').hidden = !program.chosen || program.chosen < s.program.second || !s.yours;
   $('from').disabled = !may(s, 'from') || !$('over').hidden;
+  if (!program.chosen) return;
   text($('from'), `From line ${program.chosen}\u2026`);
+  means($('from'), program.chosen);
 }
 
-// What is on can be switched off while the motors stand.
+// What is on can be switched off while the motors stand. The switches beside it make room.
 function showOff(s) {
   const on = [s.spindle && 'spindle', (s.mist || s.flood) && 'coolant'].filter(Boolean).join(' and ');
   $('off').hidden = !on || s.player_gone || s.ended;
+  means($('off').parentElement, $('off').hidden ? '' : on);
   $('off').disabled = !may(s, 'off');
   text($('off'), `${on.charAt(0).toUpperCase()}${on.slice(1)} off`);
 }

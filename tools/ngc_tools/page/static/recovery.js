@@ -159,7 +159,7 @@ export class Recovery {
     const begins = this.plan?.begins ?? this.stored?.begins, label = 'the segment begins';
     picture.marks = begins?.length ? [{ point: micrometres(begins), colour: 'amber', label }] : [];
     const way = this.step >= 2 && this.way();
-    picture.ways = way ? [{ points: way, colour: 'violet' }] : [];
+    picture.ways = way?.length ? [{ points: way, colour: 'violet' }] : []; // a tool change alone goes nowhere
     const typed = this.at.every(number => typedNumber(number) !== null) ? this.at : null;
     const here = state.busy ? state.motors ?? state.at : typed;
     picture.zero(zeroOf(state));
