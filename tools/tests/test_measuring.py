@@ -224,6 +224,7 @@ class WhileWaited(Bench):
         self.do("G49", "tool 2 12", "measures off")
         self.assertTrue(self.operator.load("part.ngc", JOB.encode()), self.face.said)
         self.face.puts_in = [*before, "go"]
+        self.face.holds_at = self.face.looks + 4_000  # some seconds, if the tool is never taken to be in
         self.world.forget_reached()
         return self.do("run", answers=answers)
 
@@ -263,10 +264,17 @@ class WhileWaited(Bench):
     def test_touched(self) -> None:
         """They seek the setter too; that place isn't one for a length, as nothing says which tool that was."""
         self.world.solid(0, BOX, (0, 0, -60_000), (9_000, 9_000, -23_000))
+        agrees, kept = self.face.agrees, []
+
+        def keeps(question: str) -> bool:
+            kept.append(self.operator.moves.touched)
+            return agrees(question)
+
+        self.face.agrees = keeps
         said = self.runs("seek Z- 600 within 9", answers=("yes",))
         self.assertIn("and the lines go on from X2 Y1 Z0: up to Z0.", self.face.asked[0])
         self.assertIn("the probe was touched at X 2.000000 Y 1.000000 Z -3.000000", said)
-        self.assertIsNone(self.operator.moves.touched)
+        self.assertEqual(kept, [None])
         self.is_through((0, 0, -3_000 - REST), (3_000, 1_000, 13_000))
 
     def test_held(self) -> None:
