@@ -48,6 +48,14 @@ CHAPTERS = {page: ("",) for page in (PLAYER, "tools/tests.md", *SYNOPSES)} | {
                     "4. Power comes back", "5. Resume"),
 }
 
+# The words of this project in README.md, and how each stands where it is told what it means.
+INTRODUCED = {
+    r"(?-i:OUT\b)": "a file, OUT", "player": "*player*", "step sink": "*step sink*", "segment": "*segment*",
+    "entry|entries": "*entries*", "device": "*device*", "session": "*session*", "block(?! delete)": "*blocks*",
+    "honest": "*honest*", "plain interpreter": "*plain interpreter*", "approach": "*approach*", "item": "*item*",
+}
+DEMO_ENDS = "`interpreter: no-answer`.*no endless loop.*`checked: ended status=0`"
+
 
 def chapters(page: str) -> dict[str, str]:
     """The texts of a page's chapters by their titles; what stands before the first has none."""
@@ -164,6 +172,17 @@ class Pages(unittest.TestCase):
         """Each chapter with a command is tried."""
         for page, tried in CHAPTERS.items():
             self.assertEqual(tuple(title for title, text in chapters(page).items() if commands(text)), tried, page)
+
+    def test_words(self) -> None:
+        """README.md introduces each word that a newcomer can't know where it first stands, and never speaks of ticks.
+        It says how the demo ends, of which `rt` says that it may loop forever."""
+        text = (DOCS / "../README.md").read_text()
+        running = " ".join(re.sub("(?m)^ {4}.*$|`[^`]*`", "", text).split())
+        for word, introduced in INTRODUCED.items():
+            before, found, _ = running.partition(introduced)
+            self.assertEqual((found, re.findall(rf"(?i)\b(?:{word})", before)), (introduced, []))
+        self.assertEqual(re.findall(r"(?i)\bticks?\b|loop\s+forever", text), [])
+        self.assertRegex(" ".join(chapters("../README.md")["Run and test it"].split()), DEMO_ENDS)
 
 
 class Tools(Documents):
