@@ -6,6 +6,7 @@ import signal
 import subprocess
 import sys
 import textwrap
+import tomllib
 import unittest
 import xml.etree.ElementTree as ElementTree
 from functools import cache
@@ -595,6 +596,18 @@ class Machine(Documents):
         Path("player.toml").write_text("\n".join(parts))
         said = self.shell("player -m player.toml out mill.toml position 2>&1", status=2)
         self.assertEqual(said, "player: player.toml: inputs: the pins of this player have none\n")
+
+    def test_goes_on(self) -> None:
+        """How far motors go on behind a touch is said of the rates and the acceleration that are shown."""
+        text = (DOCS / "MACHINE.md").read_text()
+        shown = tomllib.loads("\n".join(block for block in blocks(text) if block.startswith("[")))
+        accel = shown["motion"]["accel_mm_s2"][0]
+        rates = shown["home"]["fast_mm_min"][0], shown["setter"]["fast_mm_min"]
+        said = re.findall(r"v\^2 / 2a, (\S+) mm at (\S+) mm a minute and (\d+) mm/s2", text)
+        for (mm, *of), rate in zip(said, rates, strict=True):
+            way_mm = (rate / 60) ** 2 / 2 / accel
+            self.assertEqual(of, [f"{rate:,}", str(accel)])
+            self.assertAlmostEqual(float(mm), way_mm, delta=way_mm / 20)
 
     def test_pages(self) -> None:
         """What each page is for, of all that README.md names for a machine."""
