@@ -3,6 +3,7 @@
 
     read_device.py DEVICE     DEVICE is the file that `ngc format` made, or a disk that is used as one; it is only read"""
 import sys
+from importlib import import_module
 from pathlib import Path
 
 HERE = Path(__file__).resolve()
@@ -13,7 +14,5 @@ if not TOOLS:
     sys.exit(2)
 sys.path.insert(0, str(TOOLS[0]))
 
-from ngc_tools.cli.device import main  # noqa: E402
-
 if __name__ == "__main__":
-    sys.exit(main())
+    sys.exit(import_module("ngc_tools.cli.device").main())
