@@ -69,7 +69,7 @@ in force now: G1 (G0 before), F100 mm/min (F0 mm/min before)
 restore types: G53 G0 X2.000000; F0
 go on all the same? yes goes on: idle; X 1.000000 Y 1.000000 Z 0.000000; next line 1 of 7: G21 G90 G17
 ngc> refused E1 Unreadable: {E1}
-nor is halp a command; did you mean help? help lists them
+nor is hepl a command; did you mean help? help lists them
 ngc> ngc> status entries 10 place 0 at 1.000000 1.000000 0.000000 known half none idle
 idle; X 1.000000 Y 1.000000 Z 0.000000; next line 1 of 7: G21 G90 G17
 work X1.000 Y1.000 Z0.000; G54
@@ -122,7 +122,7 @@ yes
  g1 f100 x2
  Run\x20
 yes
-halp
+hepl
 
 status
 reference 1 2
