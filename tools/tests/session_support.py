@@ -21,6 +21,8 @@ from pathlib import Path
 TOOLS = Path(__file__).resolve().parents[1]
 sys.path.insert(0, str(TOOLS))
 
+from forked_tool import forked
+
 from ngc_tools.language import ENGLISH, of_environment
 from ngc_tools.link.out_file import born_ns
 
@@ -101,17 +103,17 @@ class InFolder(unittest.TestCase):
 
     def tool(self, name: str, *words: str, text: str = "") -> subprocess.CompletedProcess[str]:
         """Runs a tool to its end."""
-        return subprocess.run([sys.executable, TOOLS / name, *words], input=text, capture_output=True, text=True,
-                              timeout=PATIENCE_S)
+        return subprocess.run([name, *words], input=text, capture_output=True, text=True, timeout=PATIENCE_S,
+                              preexec_fn=forked(TOOLS / name, *words))
 
     def start(self, name: str, *words: str) -> subprocess.Popen[str]:
         """Starts a tool, and ends it with the test."""
-        return self.started(sys.executable, str(TOOLS / name), *words)
+        return self.started(name, *words, become=forked(TOOLS / name, *words))
 
-    def started(self, *command: str) -> subprocess.Popen[str]:
-        """Starts a program, and ends it with the test."""
+    def started(self, *command: str, become: Callable[[], None] | None = None) -> subprocess.Popen[str]:
+        """Starts a program, or a fork that is to become one, and ends it with the test."""
         child = subprocess.Popen(command, stdin=subprocess.PIPE, stdout=subprocess.PIPE, stderr=subprocess.PIPE,
-                                 text=True)
+                                 text=True, preexec_fn=become)
         self.addCleanup(self._end, child)
         return child
 

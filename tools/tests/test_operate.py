@@ -390,6 +390,9 @@ class FakePlayer:
                 if asked[0].startswith(b"progress"):
                     self._answer(*asked)
                     continue
+                if asked[0].startswith(b"kept"):
+                    self.listener.answer(asked[0] + b" lines %d bytes 0 age 0" % self.carried, asked[1])
+                    continue
                 self.words.append(asked[0])
                 self._move(asked[0])
                 if asked[0] == b"go":
