@@ -408,8 +408,9 @@ class Jogging(Moving):
         self.told()
         self.pipe.write(b"S 0 0.000000 0 0 3 3\n")
         self.wait_for("it waits", lambda: self.link.ask().waits)
+        self.assertEqual(self.link.leads(), "")  # at once, though the record may be older
         self.assertEqual(self.how(self.link.jog("Z+", "600", "2")), "done")
-        self.wait_for("it is kept", lambda: self.link.leads() == "1.000000 0.000000 0.000000")
+        self.assertEqual(self.link.leads(), "1.000000 0.000000 0.000000")
         self.link.go()
         self.assertTrue(self.link.ask().waits)
         self.assertEqual(self.how(self.link.jog("Z-", "600", "2")), "done")

@@ -54,7 +54,7 @@ void record_print(const struct record *record, char text[RECORD_SIZE]) {
     char whole[RECORD_SIZE];
     char place[PLACE_ROOM];
     char path[PLACE_ROOM + 8] = "";
-    bool has_left = record->is_off || record_leads_elsewhere(record);
+    bool has_left = record->is_off || memcmp(record->path, record->nm, sizeof record->path) != 0;
     if (record->has_path && has_left && record->mark.is_known) {
         place_print(place, sizeof place, record->path);
         snprintf(path, sizeof path, "path %s\n", place);
@@ -64,10 +64,6 @@ void record_print(const struct record *record, char text[RECORD_SIZE]) {
     memset(text, ' ', RECORD_SIZE);
     memcpy(text, whole, size < RECORD_SIZE ? (size_t)size : RECORD_SIZE - 1);
     text[RECORD_SIZE - 1] = '\n';
-}
-
-bool record_leads_elsewhere(const struct record *record) {
-    return record->has_path && memcmp(record->path, record->nm, sizeof record->path) != 0;
 }
 
 /* The next line, without its newline; false where there is none. */

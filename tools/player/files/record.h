@@ -48,9 +48,6 @@ extern const char RECORD_MOVING[];
 /* Whether a path of OUT can stand in a record. */
 bool record_takes(const char *out, struct cause *why);
 
-/* Whether the lines that are carried out lead elsewhere than to where the machine stands, and it is known where. */
-bool record_leads_elsewhere(const struct record *record);
-
 /* Writes a record, whose path it takes, as 512 bytes. */
 void record_print(const struct record *record, char text[RECORD_SIZE]);
 

@@ -127,15 +127,25 @@ static bool is_question(const char *text, size_t size, const char *word) {
     return scan_is_over(&scan);
 }
 
-/* What the record on the disk counts. */
+/* Whether it is known that the lines lead elsewhere than where the motors are, and where. */
+static bool lead_elsewhere(const struct player *player, int64_t nm[3]) {
+    for (int axis = 0; axis < 3; axis++) {
+        nm[axis] = player->path[axis] * player->step_nm[axis];
+    }
+    return player->has_path && memcmp(player->path, player->steps, sizeof player->path) != 0;
+}
+
+/* What the record on the disk counts, and where the lines lead by now: one that was taken since then leads on from where
+ * the motors are. */
 static int kept(struct player *player, char *text, size_t room, const char *question) {
+    int64_t nm[3];
     char place[PLACE_ROOM];
     player_lock(player);
     const struct record *kept = &player->kept;
     int size = snprintf(text, room, "%s lines %" PRIu64 " bytes %" PRIu64 " age %u", question, kept->lines, kept->bytes,
                         kept->age_ms);
-    if (record_leads_elsewhere(kept)) {
-        place_print(place, sizeof place, kept->path);
+    if (lead_elsewhere(player, nm)) {
+        place_print(place, sizeof place, nm);
         size += snprintf(text + size, room - (size_t)size, " path %s", place);
     }
     if (player->alarm == NO_ALARM && (player->is_sure || player->homed == ALL_AXES)) {
