@@ -229,6 +229,14 @@ class Chromium(Browser):
         """Goes to a page."""
         self.call("Page.navigate", url=address)
 
+    def open_with(self, script: str, address: str) -> None:
+        """Goes to the operator's page, in which a script runs before the page's own."""
+        added = self.call("Page.addScriptToEvaluateOnNewDocument", source=script)
+        self.open(address)
+        self.wait("window.ngc?.state?.yours && ngc.jobId !== null")
+        self.call("Page.removeScriptToEvaluateOnNewDocument", identifier=added["identifier"])
+        self.hurry()
+
     def js(self, expression: str) -> object:
         """The value of an expression. Raises Failed."""
         found = self.call("Runtime.evaluate", expression=expression, returnByValue=True, awaitPromise=True)

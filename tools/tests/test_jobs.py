@@ -241,7 +241,7 @@ class InBrowser(test_page_browser.InBrowser):
     def test_jobs(self) -> None:
         """A program is chosen from the folder, looked at, loaded and run; the record has it."""
         browser = self.browser
-        browser.js(MOCKED)
+        browser.open_with(MOCKED, self.address)
         browser.press("Load", "#load")
         browser.wait("document.querySelectorAll('#over .jobs button').length === 3")
         browser.wait("[...document.querySelectorAll('#over .jobs button:enabled img')].every(one => one.naturalWidth)")

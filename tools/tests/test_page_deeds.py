@@ -273,7 +273,7 @@ class Called(OverBodies):
         """Of a tool change amid a job the browser tells, once, by the band's words, and the screen stays on; then of
         the job's end."""
         browser = self.browser
-        browser.js(MOCKED)
+        browser.open_with(MOCKED, self.address)
         browser.press("Setup", "nav button")
         browser.press("Tell me at a stop", "#tab-setup button")
         browser.wait("Notification.permission === 'granted'")
@@ -294,7 +294,7 @@ class Called(OverBodies):
     def test_change_at_once(self) -> None:
         """So it does of one with which a job begins, before it was seen to run."""
         browser = self.browser
-        browser.js(MOCKED)
+        browser.open_with(MOCKED, self.address)
         browser.js("Notification.requestPermission()")
         self.load(CHANGE.replace("G1 X1 F60\n", ""), CHANGE.count("\n") - 1)
         browser.press("Run", "#run")
