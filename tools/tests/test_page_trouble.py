@@ -5,6 +5,7 @@ import os
 import signal
 import sys
 import unittest
+from dataclasses import replace
 from itertools import pairwise
 from math import hypot
 from pathlib import Path
@@ -148,6 +149,79 @@ class Limit(OverBodies):
         self.do("G0 X1 Y2 Z3")
         self.assertEqual(world.place, (MM, 2 * MM, 3 * MM))
         self.shows("")
+        self.no_complaints()
+
+
+class Named(test_page_browser.Moves):
+    """What the band calls what stops the machine, and what moves it, in both languages; the player is in this process.
+    """
+
+    test_setup = test_axis_without_home = test_ended_in_an_alarm = None
+
+    def setUp(self) -> None:
+        """Opens Setup. The page is left in English."""
+        super().setUp()
+        self.addCleanup(self.speaks, "en")
+        self.browser.press("Setup", "nav button")
+        self.browser.wait("document.querySelector('#tab-setup [lang=de]')")
+
+    def speaks(self, language: str) -> None:
+        """The page speaks a language."""
+        self.browser.js(f"document.querySelector('#tab-setup [lang={language}]').click()")
+        self.browser.wait(f"document.documentElement.lang === '{language}'")
+        self.browser.frame()
+
+    def names(self, word: str, detail: str, german_word: str, german: str) -> None:
+        """The band comes to say so, and in German that."""
+        for language, says, begins in (("en", word, detail), ("de", german_word, german)):
+            self.speaks(language)
+            self.browser.wait(f"document.getElementById('word').textContent === '{says}'"
+                              f" && document.getElementById('detail').textContent.startsWith('{begins}')")
+        self.speaks("en")
+
+    def alarms(self, cause: str, *on: str) -> None:
+        """An alarm comes, with these inputs on, in one moment."""
+        axes = self.machine.axes
+        axes.stands = axes.machine = replace(axes.stands, homed="", alarm=cause, on=on)
+        axes.word = "alarm"
+
+    def is_freed(self) -> None:
+        """The inputs are off, and the place is known again."""
+        self.machine.axes.release()
+        self.machine.axes.end_alarm()
+        self.browser.wait("ngc.state.alarm === '' && ngc.state.word === 'Idle'")
+
+    def test_alarms(self) -> None:
+        """Each limit by its axis and its end, two of them, and the emergency stop."""
+        for axis in "XYZ":
+            for end, german in (("low", "unten"), ("high", "oben")):
+                self.alarms("limits", f"limit_{axis.lower()}_{end}")
+                self.names("ALARM", f"Limit {axis} {end}. ", "ALARM", f"Endschalter {axis} {german}. ")
+                self.is_freed()
+        self.alarms("limits", "limit_x_high", "limit_z_low")
+        self.names("ALARM", "Limit X high and limit Z low. ", "ALARM", "Endschalter X oben und Endschalter Z unten. ")
+        self.is_freed()
+        self.alarms("emergency_stop", "emergency_stop")
+        self.names("ALARM", "Emergency stop. ", "ALARM", "Not-Halt. ")
+        self.is_freed()
+
+    def test_moves(self) -> None:
+        """Home by the axis that goes, a jog by its way; and the door."""
+        browser, axes = self.browser, self.machine.axes
+        axes.asks = 10**9
+        for number, says, detail in ((1, "Home all", "Z"), (3, "Y", "Y")):
+            browser.press(says, f"#tab-setup .four button:nth-child({number})")
+            self.names("Homing", detail, "Referenzfahrt", detail)
+            axes.finish()
+            browser.wait("!ngc.state.busy")
+        browser.press("10", ".jog .choices button")
+        axes.asks = 10**9
+        browser.press("X+", ".pad button")
+        self.names("Jogging", "X+", "Handfahrt", "X+")
+        axes.finish()
+        browser.wait("!ngc.state.busy")
+        axes.stands = axes.machine = replace(axes.stands, on=("door",))
+        self.names("Door open", "Nothing moves while it is open", "T\u00fcr offen", "Nichts bewegt sich")
         self.no_complaints()
 
 
