@@ -2,6 +2,7 @@
 that is gone, and power that is lost. What moves is told by the machine's model. In Chromium, or in Firefox where
 NGC_BROWSER says so."""
 import os
+import shutil
 import signal
 import sys
 import unittest
@@ -433,6 +434,31 @@ class Nowhere(test_page_browser.InBrowser):
         browser.wait("ngc.state.half === 'none' && ngc.state.known && !ngc.state.busy")
         self.assertEqual(browser.js(numbers), ["1.500", "0.000", "\u22120.250"])
         self.assertEqual(browser.js("document.getElementById('risk').textContent"), "")
+        self.no_complaints()
+
+
+class Counted(Nowhere):
+    """The same over one that was cut off within the third of the four segments of a cycle: over, down to R, and into
+    the work; then it would go back."""
+
+    TEXT = "G21 G90 G17 G94 G98\nG0 X0 Y0 Z2\nG81 X1 Y1 Z-1 R1 F60\nM2\n"
+    test_dash = None
+
+    def device(self) -> None:
+        """2 mm up, 1 mm over, 1 mm down, and half a millimetre into the work, in steps of a micrometre."""
+        test_page_browser.InBrowser.device(self)
+        self.run_ngc(f"load {len(self.TEXT)}\n{self.TEXT}start\ntick 4500\n", "before")
+
+    def test_segment(self) -> None:
+        """The page counts it from 0, says so, and names the number that the console names."""
+        shutil.copy("mill.dev", "copy.dev")
+        console = self.tool("ngc-operate", "--ngc", ngc(), "copy.dev", "first.toml", "before", text="quit\n")
+        self.assertIn("in segment 2 of 4, counted from 0. Nothing moves", console.stdout + console.stderr)
+        self.browser.wait("document.querySelector('#over .facts')?.textContent.includes('It begins at')")
+        facts = dict(self.browser.js("""[...document.querySelectorAll('#over .facts dt')].map(one =>
+            [one.textContent, one.nextSibling.textContent])"""))
+        self.assertEqual(facts["Under way"], "segment 2 of that line, counted from 0")
+        self.assertEqual(facts["Half-done"], "line 3 of 4")
         self.no_complaints()
 
 
