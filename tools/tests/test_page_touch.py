@@ -8,8 +8,11 @@ from pathlib import Path
 sys.path.insert(0, str(Path(__file__).resolve().parent))
 
 import test_page_browser
+from page_support import OTHER
 from test_page_browser import InBrowser
 
+TURNS = "G17 G21 G90 G94\nM3 S100\nG0 X0 Y0 Z0\nG1 X2 F3\nG1 X3\nM2\n"
+"""Its line 4 is a cut of 40 s."""
 CHANGE = "G17 G21 G90 G94\nT1 M6\nG1 X5 F60\nM2\n"
 FINGER = """void (window.finger = (kind, down) => {
     const what = { pointerType: 'touch', pointerId: 7, clientX: 100, clientY: 100 - down, button: 0, bubbles: true };
@@ -63,6 +66,145 @@ class Steady(InBrowser):
         browser.wait(f"ngc.state.busy && {ends}")
         browser.wait("ngc.state.motors[0] > 0")
         self.no_complaints()
+
+
+RESTS = """void (window.rests = new Map(), window.sent = [], window.ids = 0, ngc.dead.ms = 1000,
+    (later => { window.setTimeout = (does, ms, ...more) => (ms === ngc.dead.ms
+        ? rests.set(ids -= 1, does) && ids : later(does, ms, ...more)); })(window.setTimeout),
+    (never => { window.clearTimeout = id => (id < 0 ? void rests.delete(id) : never(id)); })(window.clearTimeout),
+    (fetched => { window.fetch = (what, how) => {
+        if (how?.method === 'POST' && what !== 'beat') sent.push(what);
+        return fetched(what, how);
+    }; })(window.fetch))"""
+"""What is dead for a second stays so until `second_passes`, however slow this machine is. What is asked for is noted.
+"""
+BELOW = """[...document.querySelectorAll('main button, main input')].filter(one => one.checkVisibility()
+    && !one.disabled && !one.closest('[inert]')).map(one => one.id || one.textContent)"""
+"""What takes a touch in the place of a sheet that went."""
+
+
+class Twice(InBrowser):
+    """Taps on buttons that come to mean something else under a finger."""
+
+    def tap(self, node: str) -> list[str]:
+        """A finger taps where a button is, dead or not; what the page asked for by that."""
+        self.browser.wait(f"document.querySelector('{node}')?.checkVisibility()")
+        at = self.browser.js("(box => [box.x + box.width / 2, box.y + box.height / 2])"
+                             f"(document.querySelector('{node}').getBoundingClientRect())")
+        self.browser.js("void sent.splice(0)")
+        self.browser.down(*at)
+        self.browser.up(*at)
+        return self.browser.js("sent.splice(0)")
+
+    def second_passes(self) -> None:
+        """What is dead isn't any more."""
+        self.browser.js("void ([...rests.values()].forEach(does => does()), rests.clear())")
+
+    def is_dead_first(self, node: str, says: str, asks: list[str]) -> None:
+        """Once it says so a tap does nothing, and one after the next state neither; after a second it asks for that."""
+        self.browser.wait(f"document.querySelector('{node}')?.textContent.startsWith('{says}')")
+        self.browser.wait(f"!document.querySelector('{node}').disabled")
+        self.assertEqual(self.tap(node), [], says)
+        seen = self.browser.js("ngc.state.now")
+        self.browser.wait(f"ngc.state.now > {seen}")
+        self.assertEqual(self.tap(node), [], says)
+        self.second_passes()
+        self.assertEqual(self.tap(node), asks, says)
+
+
+class Shut(Twice, test_page_browser.Moves):
+    """A door that holds the motors, with lines in hand; the player is in this process."""
+
+    test_setup = test_axis_without_home = test_ended_in_an_alarm = None
+
+    def test_go_on(self) -> None:
+        """`Go on`, once it is closed."""
+        browser, axes = self.browser, self.machine.axes
+        browser.js(RESTS)
+        axes.stands = axes.machine = replace(axes.stands, on=("door",))
+        self.machine.is_held, self.machine.received = True, 50
+        browser.wait("document.getElementById('run').textContent === 'Close the door'")
+        self.second_passes()
+        self.assertEqual(self.tap("#run"), [])
+        axes.stands = axes.machine = replace(axes.stands, on=())
+        self.is_dead_first("#run", "Go on", ["release"])
+
+
+class Changing(Twice):
+    """A tap does nothing before a second has passed, and then it does what the button says."""
+
+    OUT = "out"
+
+    def test_footer(self) -> None:
+        """The large button, the switches beside `Spindle off`, what Stop asks, and what was below that."""
+        browser, other = self.browser, self.page(OTHER)
+        self.load(TURNS, TURNS.count("\n"))
+        browser.js(RESTS)
+        self.assertEqual(self.tap("#run") + self.tap("#run"), ["run"])
+        browser.wait("ngc.state.line === 4 && ngc.state.motors[0] > 0 && ngc.state.spindle === 1")
+        browser.wait("document.getElementById('off').checkVisibility()")
+        self.is_dead_first("#delete", "Block delete", ["switch"])
+        other.post("hold", {"touch": "a-touch"})
+        self.is_dead_first("#run", "Continue", ["run"])
+        browser.wait("ngc.state.does === 'running'")
+        self.assertEqual(self.tap("#stop"), ["stop"])
+        self.is_dead_first("#over .go", "Yes: gives it up", ["answer"])
+        browser.wait("document.getElementById('over').hidden && !ngc.state.question")
+        self.assertEqual(browser.js(BELOW), [])
+        browser.wait("!ngc.state.busy && ngc.state.half === 'none' && ngc.state.spindle === 0")
+        self.is_dead_first("#run", "Run from 4", ["rehearse"])
+        self.is_dead_first("#over .go", "Run from 4", ["run"])
+
+    def test_same_sheet(self) -> None:
+        """A sheet that opens is dead at first, also where it was open before."""
+        self.browser.js(RESTS)
+        for says in ("Back", "Quit"):
+            self.assertEqual(self.tap("#quit"), [])
+            self.browser.wait("document.querySelector('#over h1')?.textContent === 'End the session?'")
+            self.assertEqual(self.tap("#over .go"), [])
+            self.second_passes()
+            self.browser.press(says, "#over .foot button")
+            self.second_passes()
+        self.browser.wait("document.getElementById('lost-says').textContent === 'The session has ended.'")
+
+    def test_from(self) -> None:
+        """`From line 3`, which a touch on another line makes `From line 4`."""
+        self.load(TURNS, TURNS.count("\n"))
+        self.browser.js(RESTS)
+        self.browser.press("G0 X0 Y0 Z0", "#program .row")
+        self.browser.wait("document.getElementById('from').textContent.startsWith('From line 3')")
+        self.browser.press("G1 X2 F3", "#program .row")
+        self.is_dead_first("#from", "From line 4", ["from"])
+
+    def test_steps(self) -> None:
+        """The large button of the steps after a loss of power, and `Give up`, which takes two touches."""
+        browser, step = self.browser, "document.querySelector('#over .steps .now b').textContent"
+        self.load(TURNS, TURNS.count("\n"))
+        browser.press("Run", "#run")
+        browser.wait("ngc.state.motors[0] > 0.05")
+        self.wait_for("the record has it", lambda: self.recorded().at_nm[0] > 0)
+        self.power_comes_back()
+        browser.goes_on()
+        browser.wait("document.querySelector('#over .facts')?.textContent.includes('It begins at')")
+        browser.wait("!document.getElementById('over').inert")
+        browser.js(RESTS)
+        self.assertEqual([self.tap("#over .go"), self.tap("#over .go"), browser.js(step)], [[], [], "2"])
+        self.second_passes()
+        for _ in "XYZ":
+            browser.press("Confirm", "#over button")
+        self.assertEqual(self.tap("#over .go"), ["rehearse"])
+        browser.wait("document.querySelector('#over details')")
+        self.assertEqual([self.tap("#over .go"), browser.js(step)], [[], "3"])
+        self.second_passes()
+        self.assertEqual([self.tap("#over .go"), browser.js(step)], [[], "4"])
+        gives_up = "#over .foot button:nth-of-type(2)"
+        for node, says in (("#over .go", "Go along the path"), (gives_up, "Give up")):
+            self.assertTrue(browser.js(f"document.querySelector('{node}').textContent === '{says}'"))
+            self.assertEqual(self.tap(node), [])
+        self.second_passes()
+        self.assertEqual(self.tap(gives_up), [])
+        self.is_dead_first(gives_up, "Yes, give it up", ["reference"])
+        browser.wait("ngc.state.half === 'none' && !ngc.state.busy")
 
 
 class Fingers(test_page_browser.Moves):

@@ -37,7 +37,7 @@ export function open(name, content, buttons, beside = null) {
 
 export function close() {
   end();
-  if (!$('over').hidden) rest(...document.querySelectorAll('main > .place, main > .side'));
+  if (!$('over').hidden) rest(...document.querySelectorAll('main > .place, main > .side, .path .views'));
   $('over').hidden = true;
   $('over').replaceChildren();
 }
