@@ -1,5 +1,6 @@
 """What a finger does on the page, and what it sees there: buttons that come to mean something else, refusals, scrolling
 on a jog button, and the units of the readout."""
+import os
 import sys
 import unittest
 from dataclasses import replace
@@ -8,8 +9,14 @@ from pathlib import Path
 sys.path.insert(0, str(Path(__file__).resolve().parent))
 
 import test_page_browser
+from listener import said
+from machine_support import STEP_NM
 from page_support import OTHER
 from test_page_browser import InBrowser
+
+from ngc_tools.formats.out import OFF
+from ngc_tools.formats.position import Position
+from ngc_tools.link.progress import Report
 
 TURNS = "G17 G21 G90 G94\nM3 S100\nG0 X0 Y0 Z0\nG1 X2 F3\nG1 X3\nM2\n"
 """Its line 4 is a cut of 40 s."""
@@ -375,6 +382,133 @@ class Fingers(test_page_browser.Moves):
         browser.open(self.address)
         browser.wait(f"window.ngc?.state?.yours && {unit} === 'in'")
         browser.js("void localStorage.removeItem('unit')")
+
+
+BESIDE = """(() => {
+    const toast = document.getElementById('toast').getBoundingClientRect();
+    const button = window.fingered.getBoundingClientRect();
+    return Math.max(toast.top - button.bottom, button.top - toast.bottom);
+})()"""
+"""How far what is told is above or below the button that a finger was on."""
+
+
+class WithTool(test_page_browser.WithRamps):
+    """Tool 1 is in the spindle."""
+
+    def _answer(self, question: bytes, sender: str | bytes | None) -> None:
+        if not question.startswith(b"progress "):
+            super()._answer(question, sender)
+            return
+        at, outputs = str(Position(STEP_NM, self.axes.at_nm)), replace(OFF, selected=1, slot=1)
+        report = Report(0, 0, False, at, self.out, outputs, wants=self.wants, word=self.axes.word)
+        self.listener.answer(question + b" " + said(report), sender)
+
+
+class Touching(test_page_browser.Moves):
+    """What a touch-off warns of, and refuses, beside the finger. The player is in this process; tool 1, 2 mm long, is
+    in the spindle, and no length is in force."""
+
+    MACHINE = "[motion]\naccel_mm_s2 = [500, 500, 300]\n[inputs]\nprobe = 6\n[setter]\nheight_um = -48000\n"
+    test_setup = test_axis_without_home = test_ended_in_an_alarm = None
+
+    def device(self) -> None:
+        """The tool is in."""
+        super().device()
+        self.run_ngc("reference 0 0 0\ntool 1 2\nmdi T1 M6\ntick 10\n", "before")
+
+    def begin_player(self) -> None:
+        """Its file says that there is a probe, and how high the setter is."""
+        Path("motion.toml").write_text(self.MACHINE)
+        pipe = os.open("axis", os.O_RDONLY | os.O_NONBLOCK)
+        self.addCleanup(os.close, pipe)
+        self.machine = WithTool(os.path.abspath("axis"))
+        self.addCleanup(self.machine.close)
+
+    def setUp(self) -> None:
+        """Opens the tab."""
+        super().setUp()
+        self.browser.press("Setup", "nav button")
+
+    def taps(self, says: str, *before: str) -> None:
+        """A finger taps a button, on a page that doesn't know yet what has changed, as which it is not dead."""
+        self.browser.js(f"""(() => {{
+            window.fingered = [...document.querySelectorAll('#tab-setup button')].find(one =>
+                one.textContent === '{says}');
+            fingered.scrollIntoView({{ block: 'center' }});
+            {"".join(before)}
+            fingered.disabled = false;
+            fingered.dispatchEvent(new PointerEvent('pointerdown', {{ bubbles: true }}));
+            fingered.click();
+        }})()""")
+
+    def is_told(self, begins: str) -> None:
+        """That is told, right above the button that was touched, or right below it."""
+        browser = self.browser
+        browser.wait("document.getElementById('toast').checkVisibility() && document.getElementById('toast')"
+                     f".textContent.startsWith({begins!r})")
+        browser.wait("!ngc.state.busy")
+        self.assertTrue(0 <= browser.js(BESIDE) < 30, (begins, browser.js(BESIDE)))
+        browser.js("void document.getElementById('toast').replaceChildren()")
+
+    def is_dead(self, says: str) -> bool:
+        """Whether a button is dead."""
+        return self.browser.js("[...document.querySelectorAll('#tab-setup button')].find(one =>"
+                               f" one.textContent === '{says}').disabled")
+
+    def test_not_touched(self) -> None:
+        """A setter that wasn't touched gives no length, nor one that something moved away from since, nor does its
+        place give a zero then."""
+        browser, setter = self.browser, "Tool 1 stands on the setter"
+        none = "the setter wasn't touched since the machine moved last"
+        self.assertTrue(self.is_dead(setter))
+        self.taps(setter)
+        self.is_told(none)
+        browser.press("Z\u2212", "#tab-setup .five button")
+        browser.wait("ngc.state.touched?.[2] === '-5.000000' && !ngc.state.busy")
+        self.assertFalse(self.is_dead(setter))
+        browser.press("1", ".jog .choices button:nth-child(3)")
+        browser.press("Z+", ".pad button")
+        browser.wait("ngc.state.touched === null && !ngc.state.busy")
+        self.assertTrue(self.is_dead(setter))
+        self.taps(setter)
+        self.is_told(none)
+        self.taps("Set Z", "(one => { one.hidden = false; one.setAttribute('aria-checked', 'true'); })([...document"
+                  ".querySelectorAll('#tab-setup .switch')].find(one => one.textContent.startsWith('Where the probe')));")
+        self.is_told("the probe wasn't touched since the machine moved last")
+        self.assertEqual(browser.js("[ngc.state.tools[0], ngc.state.origin.join()]"),
+                         ["2.000000", "0.000000,0.000000,0.000000"])
+
+    def test_far(self) -> None:
+        """A length over 5 mm other than before is asked, with both and how far they are apart, and so is a zero; a no
+        leaves it. That of the tool in the spindle, where none is in force, is warned of where that is asked, and beside
+        `Set Z` where nothing is."""
+        browser, setter = self.browser, "Tool 1 stands on the setter"
+        long = "tool 1, in the spindle, is 2 mm long: Z0 moves once G43 H1 takes that."
+        browser.press("Z\u2212", "#tab-setup .five button")
+        browser.wait("ngc.state.touched?.[2] === '-5.000000' && !ngc.state.busy")
+        self.taps(setter)
+        says = browser.wait("document.querySelector('#over .asked')?.textContent")
+        self.assertEqual(says, "tool 1 has 2 mm, and would get 43 mm, 41.000 mm longer")  # -5 above -48
+        self.refuses()
+        self.assertEqual(browser.js("ngc.state.tools[0]"), "2.000000")
+        self.taps("Set Z")
+        says = browser.wait("document.querySelector('#over .asked')?.textContent")  # 20 um behind the touch
+        self.assertEqual(says, "the zero of G54 would move in Z by 5.020 mm: to machine Z-5.02 from Z0")
+        self.assertIn(long, browser.js("document.querySelector('#over .words').textContent"))
+        self.refuses()
+        self.assertEqual(browser.js("ngc.state.origin[2]"), "0.000000")
+        browser.press("1", ".jog .choices button:nth-child(3)")
+        browser.press("Z+", ".pad button")
+        browser.wait("ngc.state.at[2] === '-4.020000' && !ngc.state.busy")
+        self.taps("Set Z")
+        self.is_told(long)
+        self.assertEqual(browser.js("ngc.state.origin[2]"), "-4.020000")
+
+    def refuses(self) -> None:
+        """A no."""
+        self.browser.press("No", "#over button")
+        self.browser.wait("!ngc.state.busy && document.getElementById('over').hidden")
+        self.browser.wait("!document.querySelector('.side').inert")
 
 
 if __name__ == "__main__":
