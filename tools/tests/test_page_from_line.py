@@ -6,7 +6,9 @@ from pathlib import Path
 sys.path.insert(0, str(Path(__file__).resolve().parent))
 
 import test_page_browser
+from page_support import OTHER
 from test_page_measure import AtMachine
+from test_page_probing import OverBodies
 
 PART = """G21 G90 G17 G54 G94 G49
 G0 X1 Y1
@@ -19,6 +21,15 @@ X1
 G0 Z4
 M2
 """
+
+
+LOOKS = """[...document.querySelectorAll('#over .look button')].map(one => [one.textContent,
+    one.getAttribute('aria-pressed'), one.disabled])"""
+"""What somebody has to look at: what is said of it, whether it is ticked, and whether it is dead."""
+UNSEEN = """fetch('answer', { method: 'POST',
+    body: JSON.stringify({ question: ngc.state.question.id, yes: true, seen: 2 }), headers: { 'Content-Type':
+    'application/json', 'X-Page': sessionStorage.page, 'X-Stamp': ngc.state.stamp } }).then(answer => answer.ok)"""
+"""Whether a yes is taken of which two of three were seen."""
 
 
 class OverMachine(AtMachine):
@@ -101,14 +112,7 @@ class InBrowser(test_page_browser.InBrowser):
         browser.wait("ngc.program.chosen === 1")
         browser.js("new Promise(done => setTimeout(done, 500))")  # some states come
         self.assertTrue(browser.js("document.getElementById('from').hidden"))  # Run begins with it
-        self.touch_row("Y5")
-        browser.press("From line 7", "#from")
-        for asked, answer in (("Up to which Z", "8"), ("How fast", "600")):
-            browser.wait(f"document.querySelector('#over .asked').textContent.includes('{asked}')")
-            browser.fill("#over .entry input", answer)
-            browser.press("Go on", "#over .go")
-        browser.press("Yes: stores and begins it", "#over .go")
-        browser.wait("document.querySelectorAll('#over .look button').length === 3")
+        self.to_look()
         self.look("the look")
         browser.js("document.querySelectorAll('#over .look button').forEach(one => one.click())")
         browser.press("Yes: goes there", "#over .go")
@@ -119,6 +123,69 @@ class InBrowser(test_page_browser.InBrowser):
         self.assertEqual(browser.js("document.getElementById('run').textContent"), "Run from 7")
         self.no_complaints()
 
+    def to_look(self) -> None:
+        """Line 7 is touched, and its button leads to the look."""
+        browser = self.browser
+        self.touch_row("Y5")
+        browser.press("From line 7", "#from")
+        for asked, answer in (("Up to which Z", "8"), ("How fast", "600")):
+            browser.wait(f"document.querySelector('#over .asked').textContent.includes('{asked}')")
+            browser.fill("#over .entry input", answer)
+            browser.press("Go on", "#over .go")
+        browser.press("Yes: stores and begins it", "#over .go")
+        browser.wait("document.querySelectorAll('#over .look button').length === 3")
+
+    def test_looks_anew(self) -> None:
+        """What was ticked, the tool's line too, isn't any more once the page is loaded anew, nor where another page
+        takes over; each is ticked there, before the yes is enabled. One that comes without that isn't taken."""
+        browser = self.browser
+        browser.press("Tools", "nav button")
+        browser.fill("#tab-tools input[aria-label='Length of tool 1']", "50")
+        browser.press("Add", "#tab-tools button")
+        browser.wait("ngc.state.tools.length === 1 && !ngc.state.busy")
+        browser.press("Program", "nav button")
+        browser.fill("#line", "T1 M6")
+        browser.press("Do", "#do")
+        browser.press("Tool 1 is in", "#run")
+        browser.wait("ngc.state.slot === 1 && !ngc.state.busy")
+        self.load(PART, 10)
+        browser.wait("document.querySelectorAll('#program .row').length > 9")
+        self.to_look()
+        self.assertEqual(browser.js(LOOKS), [["On, as it should be: the spindle, clockwise at 800", "false", False], [
+            "Tool 1 is in the spindle, and it is sound", "false", False], ["The way is free, and my hand is at Hold",
+                                                                        "false", False]])
+        self.ticks_all()
+        browser.open(self.address)
+        browser.wait("window.ngc?.state?.yours")
+        self.ticks_all()
+        self.assertEqual(self.page(OTHER).post("takeover")[0], 200)
+        browser.wait("!ngc.state.yours")
+        browser.js("void sessionStorage.removeItem('page')")
+        browser.open(self.address)  # a third page
+        browser.wait("window.ngc?.state && !ngc.state.yours && document.querySelectorAll('#over .look button')"
+                     ".length === 3")
+        self.assertEqual([one[1:] for one in browser.js(LOOKS)], [["false", True]] * 3)
+        browser.press("Take over", "#takeover")
+        browser.wait("ngc.state.yours && !document.querySelector('#over .look button').disabled")
+        self.assertFalse(browser.js(UNSEEN))
+        self.ticks_all()
+        self.assertEqual(browser.js("[ngc.state.motors.join(), ngc.state.question.purpose]"),
+                         ["0.000000,0.000000,0.000000", "look"])
+        browser.press("Yes: goes there", "#over .go")
+        browser.wait("ngc.state.finished && !ngc.state.busy")
+
+    def ticks_all(self) -> None:
+        """Nothing is ticked; each is by a touch, and then the yes is enabled, and not before."""
+        browser = self.browser
+        browser.wait("document.querySelectorAll('#over .look button').length === 3")
+        for number in range(3):
+            self.assertEqual([one[1:] for one in browser.js(LOOKS)], [[str(i < number).lower(), False]
+                                                                       for i in range(3)])
+            self.assertTrue(browser.js("document.querySelector('#over .foot .go').disabled"))
+            browser.press("", f"#over .look button:nth-child({number + 1})")
+            browser.wait(f"document.querySelectorAll('#over .look [aria-pressed=true]').length === {number + 1}")
+        self.assertFalse(browser.js("document.querySelector('#over .foot .go').disabled"))
+
     def touch_row(self, says: str) -> None:
         """A finger comes down on a line, and goes up once the rows were drawn anew, as where another line is under way.
         """
@@ -127,6 +194,43 @@ class InBrowser(test_page_browser.InBrowser):
         self.browser.js("void ngc.program.draw()")
         self.browser.frame()
         self.browser.up(*at)
+
+
+class Jogged(OverBodies):
+    """A machine that stands at 0."""
+
+    def test_heights(self) -> None:
+        """The heights that are asked, and where the machine stands, are those of now: after a jog, and after a zero,
+        which moves the line's place. A no moves nothing."""
+        browser = self.browser
+        self.load(PART, 10)
+        self.begins_at("1.000000", "the machine stands at X0 Y0 Z0")  # the line's Z is above
+        browser.press("Setup", "nav button")
+        browser.press("1", ".jog .choices button:nth-child(3)")
+        for z in (1, 2, 3):
+            browser.press("Z+", ".pad button")
+            self.rests(f"Number(s.motors[2]) === {z}")
+        self.begins_at("3.000000", "the machine stands at X0 Y0 Z3")
+        browser.press("Setup", "nav button")
+        browser.fill("input[aria-label='Work coordinate of this place, in mm']", "-1")
+        browser.wait("document.querySelector('#tab-setup .hint:has(+ .four)').textContent"
+                     ".startsWith('Takes machine X 0.000   Y 0.000   Z 3.000 mm, where the motors are')")
+        self.press("Set Z", "#tab-setup .four button")
+        self.begins_at("5.000000", "the tool is at X6 Y1 Z1 there, machine X6 Y1 Z5")  # the zero is at Z4
+        self.assertEqual(self.world.place, (0, 0, 3_000))
+        self.no_complaints()
+
+    def begins_at(self, low: str, says: str) -> None:
+        """From line 7 the way goes up to a height between this one and the travel's end, and says so much before."""
+        browser = self.browser
+        browser.press("Program", "nav button")
+        if browser.js("ngc.program.chosen") != 7:
+            browser.press("Y5", "#program .row")
+        browser.press("From line 7", "#from")
+        self.assertIn(f"Up to which Z, in machine mm, from {low} to 10.000000?", self.asked())
+        self.assertIn(says, browser.js("document.querySelector('#over .words').textContent"))
+        browser.press("No", "#over .foot button")
+        self.rests()
 
 
 if __name__ == "__main__":

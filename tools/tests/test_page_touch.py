@@ -472,8 +472,8 @@ class Touching(test_page_browser.Moves):
         self.assertTrue(self.is_dead(setter))
         self.taps(setter)
         self.is_told(none)
-        self.taps("Set Z", "(one => { one.hidden = false; one.setAttribute('aria-checked', 'true'); })([...document"
-                  ".querySelectorAll('#tab-setup .switch')].find(one => one.textContent.startsWith('Where the probe')));")
+        self.taps("Set Z", "(one => { one.hidden = false; one.setAttribute('aria-checked', 'true'); })([...document",
+                  ".querySelectorAll('#tab-setup .switch')].find(one => one.textContent.startsWith('Where the pro')));")
         self.is_told("the probe wasn't touched since the machine moved last")
         self.assertEqual(browser.js("[ngc.state.tools[0], ngc.state.origin.join()]"),
                          ["2.000000", "0.000000,0.000000,0.000000"])
