@@ -208,6 +208,13 @@ class InBrowser(Served):
         self.browser.press("Load", "#over button")
         self.browser.wait(f"ngc.state.program.lines === {count} && ngc.job && !ngc.state.busy")
 
+    def speaks(self, language: str) -> None:
+        """The page speaks a language, as chosen in Setup."""
+        self.browser.wait(f"document.querySelector('#tab-setup [lang={language}]')")
+        self.browser.js(f"document.querySelector('#tab-setup [lang={language}]').click()")
+        self.browser.wait(f"document.documentElement.lang === '{language}'")
+        self.browser.frame()
+
     def look(self, what: str) -> None:
         """In each size, dark and light, all is in the window, large enough, whole, and has contrast; no step after a
         loss of power scrolls. Upright, as tablets and phones are, nothing lies over anything, and Hold is in sight."""

@@ -55,6 +55,13 @@ TIMED = """void (window.took = [], (parse => {
     };
 })(JSON.parse))"""
 """Takes down how long each state takes until it is shown, in ms."""
+CHANGE_AND_STOP = """G17 G21 G90 G94
+G0 X0.1
+T1 M6
+G0 X0
+M0 (MSG, turn the part, and clamp it as deep as the drawing says)
+M2
+"""
 OWN = {"ngc", "split", "adapt", "out", "arc", "yes", "run", "load", "recover"}
 """Names and commands, which are the same in each language."""
 
@@ -161,6 +168,128 @@ class Runs(InGerman):
             browser.wait(f"took.length > {count + 5}")
         took_ms = browser.js("took")
         self.assertLess(median(took_ms), 3 * max(slowness), took_ms)
+
+
+class Whole(test_page_browser.InBrowser):
+    """In both languages: whatever the machine does, the text of each button is whole, and on a tablet and a phone,
+    upright, Hold is on the screen and nothing lies over anything."""
+
+    OUT = "out"
+    MACHINE = test_page_browser.Held.MACHINE
+
+    def setUp(self) -> None:
+        """The page is left in English, and as large as it was."""
+        super().setUp()
+        self.addCleanup(self.speaks, "en")
+        self.addCleanup(self.browser.size, *test_page_browser.SIZES[0])
+
+    def fits(self, what: str) -> None:
+        """It does so now; what is told beside the last touch goes first, as by another touch."""
+        self.browser.js("void (document.getElementById('toast').hidden = true)")
+        for language in ("de", "en"):
+            self.speaks(language)
+            for width, height in test_page_browser.UPRIGHT:
+                self.browser.size(width, height)
+                self.assertEqual(self.browser.js(test_page_browser.OVER), [], (what, language, width))
+            for width, height in test_page_browser.SIZES:
+                self.browser.size(width, height)
+                self.assertEqual(self.browser.js(test_page_browser.SIGHT), [], (what, language, width))
+        self.browser.size(*test_page_browser.SIZES[0])
+
+    def test_job(self) -> None:
+        """At rest, in a cut with all on, held, where Stop asks, at a tool change, at a stop with a long message, and
+        through."""
+        browser = self.browser
+        self.fits("idle")
+        self.load("M3 S1000 M8\n" + SLOW, 5)
+        self.fits("loaded")
+        browser.press("Run", "#run")
+        browser.wait("ngc.state.line === 4 && ngc.state.half === 'program' && ngc.state.spindle && ngc.state.flood")
+        self.fits("running")
+        browser.press("Hold", "#hold")
+        browser.wait("ngc.state.held_motors && !ngc.state.busy")
+        self.fits("held")
+        browser.press("Stop", "#stop")
+        browser.wait("ngc.state.question && document.querySelector('#over .asked')")
+        self.fits("Stop asks")
+        browser.press("Yes: gives it up", "#over .go")
+        browser.wait("!ngc.state.busy && ngc.state.half === 'none' && document.getElementById('over').hidden")
+        self.fits("stopped")
+        browser.press("Tools", "nav button")
+        browser.fill("#tab-tools input[aria-label='Length of tool 1']", "50")
+        browser.press("Add", "#tab-tools button")
+        browser.wait("ngc.state.tools.length === 1 && !ngc.state.busy")
+        self.load(CHANGE_AND_STOP, CHANGE_AND_STOP.count("\n"))
+        browser.press("Run", "#run")
+        browser.wait("ngc.state.waits && ngc.state.waits_tool === 1")
+        self.fits("a tool change")
+        browser.press("Tool 1 is in", "#run")
+        browser.wait("ngc.state.does === 'stopped' && !ngc.state.busy && ngc.state.message")
+        self.fits("a message")
+        browser.press("Continue", "#run")
+        browser.wait("ngc.state.finished && !ngc.state.busy")
+        self.fits("through")
+
+    def test_loss(self) -> None:
+        """The four steps after a loss of power, what is to be seen before it goes there, and a player that is gone."""
+        browser = self.browser
+        self.load("M3 S1000 M8\n" + SLOW, 5)
+        browser.press("Run", "#run")
+        browser.wait("ngc.state.line === 4 && ngc.state.motors[0] > 0.05")
+        self.wait_for("the record has it", lambda: self.recorded().at_nm[0] > 0)
+        self.power_comes_back()
+        browser.goes_on()
+        browser.wait("document.querySelector('#over .facts')?.textContent.includes('It begins at')")
+        self.fits("what was stored")
+        browser.press("Next", "#over button")
+        for _ in "XYZ":
+            browser.press("Confirm", "#over button")
+        self.fits("where it stands")
+        browser.press("Next", "#over button")
+        browser.wait("document.querySelector('#over details')")
+        self.fits("the rehearsal")
+        browser.press("Next", "#over button")
+        self.fits("the choice")
+        browser.press("Go along the path", "#over button")
+        browser.wait("ngc.state.question && document.querySelector('#over .asked')")
+        self.fits("what comes on")
+        browser.press("Yes", "#over .go")
+        browser.wait("document.querySelectorAll('#over .look button').length === 3")
+        self.fits("the look")
+        browser.press("No", "#over .foot button")
+        browser.wait("!ngc.state.busy && !ngc.state.question")
+        self.player.kill()
+        browser.wait("ngc.state.word === 'Player gone'")
+        self.fits("the player is gone")
+
+
+class WholeAlarm(Whole, test_page_browser.Moves):
+    """The player is in this process."""
+
+    OUT = "axis"
+    MACHINE = ""
+    test_job = test_loss = test_setup = test_axis_without_home = test_ended_in_an_alarm = None
+
+    def test_alarm(self) -> None:
+        """The way back, with what has to be free; the same put off; an axis that isn't homed; homed, and each tab."""
+        browser, axes = self.browser, self.machine.axes
+        axes.switches, axes.home_at[1] = "XZ", 0
+        axes.alarm("limits")
+        browser.wait("ngc.state.word === 'ALARM' && document.querySelector('#over .go')")
+        self.fits("an alarm")
+        browser.press("Back", "#over .foot button")
+        self.fits("an alarm that is put off")
+        browser.press("Home all", "#run")
+        browser.press("Home", "#over .go")
+        browser.wait("ngc.state.left === 'Y' && !ngc.state.busy")
+        browser.press("Where is Y?", "#run")
+        self.fits("an axis that isn't homed")
+        browser.fill("input[aria-label='Machine Y']", "0")
+        browser.press("It stands there", "#over button")
+        browser.wait("ngc.state.alarm === '' && ngc.state.word === 'Idle'")
+        for tab in ("setup", "tools", "log", "program"):
+            browser.js(f"document.querySelector('[data-tab={tab}]').click()")
+            self.fits(tab)
 
 
 @unittest.skipUnless(PATH, MISSING)

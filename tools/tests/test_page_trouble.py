@@ -164,13 +164,6 @@ class Named(test_page_browser.Moves):
         super().setUp()
         self.addCleanup(self.speaks, "en")
         self.browser.press("Setup", "nav button")
-        self.browser.wait("document.querySelector('#tab-setup [lang=de]')")
-
-    def speaks(self, language: str) -> None:
-        """The page speaks a language."""
-        self.browser.js(f"document.querySelector('#tab-setup [lang={language}]').click()")
-        self.browser.wait(f"document.documentElement.lang === '{language}'")
-        self.browser.frame()
 
     def names(self, word: str, detail: str, german_word: str, german: str) -> None:
         """The band comes to say so, and in German that."""
