@@ -392,6 +392,11 @@ BESIDE = """(() => {
 """How far what is told is above or below the button that a finger was on."""
 
 
+BY_PROBE = """(one => { one.hidden = false; one.setAttribute('aria-checked', 'true'); })([...document.querySelectorAll(
+    '#tab-setup .switch')].find(one => one.textContent === 'Where the probe was touched'));"""
+"""The place where the probe was touched is chosen."""
+
+
 class WithTool(test_page_browser.WithRamps):
     """Tool 1 is in the spindle."""
 
@@ -429,13 +434,13 @@ class Touching(test_page_browser.Moves):
         super().setUp()
         self.browser.press("Setup", "nav button")
 
-    def taps(self, says: str, *before: str) -> None:
-        """A finger taps a button, on a page that doesn't know yet what has changed, as which it is not dead."""
+    def taps(self, says: str, before: str = "") -> None:
+        """A finger taps a button that isn't dead, as on a page that doesn't know yet what has changed."""
         self.browser.js(f"""(() => {{
             window.fingered = [...document.querySelectorAll('#tab-setup button')].find(one =>
                 one.textContent === '{says}');
             fingered.scrollIntoView({{ block: 'center' }});
-            {"".join(before)}
+            {before}
             fingered.disabled = false;
             fingered.dispatchEvent(new PointerEvent('pointerdown', {{ bubbles: true }}));
             fingered.click();
@@ -472,8 +477,7 @@ class Touching(test_page_browser.Moves):
         self.assertTrue(self.is_dead(setter))
         self.taps(setter)
         self.is_told(none)
-        self.taps("Set Z", "(one => { one.hidden = false; one.setAttribute('aria-checked', 'true'); })([...document",
-                  ".querySelectorAll('#tab-setup .switch')].find(one => one.textContent.startsWith('Where the pro')));")
+        self.taps("Set Z", BY_PROBE)
         self.is_told("the probe wasn't touched since the machine moved last")
         self.assertEqual(browser.js("[ngc.state.tools[0], ngc.state.origin.join()]"),
                          ["2.000000", "0.000000,0.000000,0.000000"])
