@@ -970,6 +970,56 @@ class OnTheWay(InBrowser):
         self.no_complaints()
 
 
+class ToolOnTheWay(InBrowser):
+    """Power is lost before a tool change that was handed out, with motors that have ramps."""
+
+    OUT = "out"
+    MACHINE = Held.MACHINE
+
+    def test_put_in(self) -> None:
+        """The way leads on past the change: there the sheet's large button puts it in, and nothing goes on before that.
+        That of the page says, as long as something is asked, that it is answered first."""
+        browser = self.browser
+        browser.press("Tools", "nav button")
+        browser.fill("#tab-tools input[aria-label='Length of tool 1']", "50")
+        browser.press("Add", "#tab-tools button")
+        browser.wait("ngc.state.tools.length === 1 && !ngc.state.busy")
+        self.load("G17 G21 G90 G94\nG0 X0 Y0 Z0\nG1 X0.1 F3\nT1 M6\nG1 X2 F3\nM2\n", 6)
+        browser.press("Run", "#run")
+        browser.wait("ngc.state.line === 5 && ngc.state.half === 'program' && ngc.state.motors[0] > 0")
+        self.power_comes_back()
+        browser.goes_on()
+        browser.press("Next", "#over button")
+        for _ in range(3):
+            browser.press("Confirm", "#over button")
+        browser.press("Next", "#over button")
+        browser.wait("document.querySelector('#over details')")
+        browser.press("Next", "#over button")
+        browser.press("Go along the path", "#over button")
+        browser.wait("document.querySelectorAll('#over .look button').length === 3")
+        self.answers_first()
+        browser.js("document.querySelectorAll('#over .look button').forEach(one => one.click())")
+        browser.press("Yes: goes there", "#over .go")
+        browser.wait("document.querySelector('#over .asked')?.textContent === 'tool 1 comes on the way: put it in'")
+        self.answers_first()
+        self.assertEqual(browser.js("[ngc.state.motors[0], ngc.state.slot]"), ["0.100000", 0])
+        browser.press("It is done", "#over .go")
+        browser.wait("ngc.state.question?.text.includes('goes on with the cut')")
+        self.answers_first()
+        self.assertEqual(browser.js("[ngc.state.motors[0], ngc.state.slot]"), ["0.100000", 1])
+        browser.press("Yes: goes on with the cut", "#over .go")
+        browser.wait("ngc.state.does === 'running' && ngc.state.motors[0] > 0.12")
+        self.no_complaints()
+
+    def answers_first(self) -> None:
+        """Something is asked, and stays so: the large button is dead, and says why."""
+        browser = self.browser
+        seen = browser.js("ngc.state.now")
+        browser.wait(f"ngc.state.now > {seen} + 0.5 && ngc.state.question")
+        run = browser.js("(run => [run.textContent, run.disabled])(document.getElementById('run'))")
+        self.assertEqual(run, ["Answer first", True])
+
+
 class LinesLeft(InBrowser):
     """Power is lost behind the last line of a job, with motors that have ramps."""
 
