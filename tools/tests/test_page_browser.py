@@ -164,6 +164,8 @@ LATE = """void (window.fetched = window.fetch, window.late = new Promise(done =>
 RUN = """fetch('run', { method: 'POST', body: '{}', headers: { 'Content-Type': 'application/json', 'X-Page':
     sessionStorage.page, 'X-Stamp': ngc.state.stamp } }).then(answer => answer.ok || null)"""
 """Asks for it as a touch does that was made before."""
+BUTTONS = "[...document.querySelectorAll('#over %s button')].map(one => one.textContent)"
+"""What the buttons of a part of the sheet say."""
 
 
 def keep_checking(page: Page, over: threading.Event) -> None:
@@ -262,8 +264,9 @@ class InBrowser(Served):
         os.environ["NGC_PAGE_KEY"] = key
         self.addCleanup(os.environ.pop, "NGC_PAGE_KEY")
         self.begin_player()
+        words = ["--machine", "motion.toml"] if self.MACHINE else []
         self.server = self.start("ngc-page", "mill.dev", "first.toml", self.OUT, "--player", "progress", "--ngc", ngc(),
-                                 "--listen", f"127.0.0.1:{port}")
+                                 "--listen", f"127.0.0.1:{port}", *words)
         self.assertEqual(self.server.stdout.readline().strip(), self.address)
 
     def power_comes_back(self) -> None:
@@ -967,6 +970,37 @@ class OnTheWay(InBrowser):
         self.gives_line_up()
         browser.wait("ngc.state.half === 'none' && !ngc.state.busy")
         self.assertEqual(browser.js("ngc.state.at.join()"), browser.js("ngc.state.motors.join()"))
+        self.no_complaints()
+
+
+class WithoutSwitches(InBrowser):
+    """Power is lost in a cut of a machine whose file has no [home]."""
+
+    OUT = "out"
+    MACHINE = Held.MACHINE
+
+    def test_where(self) -> None:
+        """Home isn't proposed where nothing is to be homed at. How far the motors may be past the record stands on each
+        button, as long as the axis is said to be where that has it: it was 50 ms old, and a pulse of 1 um takes 20 ms,
+        so three of them began by then."""
+        browser = self.browser
+        self.load(SLOW, 4)
+        browser.press("Run", "#run")
+        browser.wait("ngc.state.motors[0] > 0.1")
+        self.wait_for("the record has it", lambda: self.recorded().at_nm[0] > 50_000)
+        before = browser.js("ngc.state.session")
+        self.pull()
+        Path("position").write_bytes(text_of(replace(self.recorded(), age_ms=50)))
+        self.begin_again()
+        browser.wait(f"ngc.state?.session && ngc.state.session !== '{before}'")
+        browser.goes_on()
+        browser.press("Next", "#over button")
+        browser.wait("document.querySelectorAll('#over .confirm').length === 3")
+        self.assertEqual(browser.js(BUTTONS % ".foot"), ["Back", "Next: rehearsal"])
+        self.assertNotIn("Home first", browser.js("document.querySelector('#over').textContent"))
+        self.assertEqual(browser.js(BUTTONS % ".confirm"), ["Confirm, \u00b1\u00a00.003\u00a0mm"] * 3)
+        browser.fill("input[aria-label='Machine Y']", "0.25")
+        self.assertEqual(browser.js(BUTTONS % ".confirm")[1], "Confirm")
         self.no_complaints()
 
 
