@@ -159,6 +159,7 @@ class Changing(Twice):
         browser.wait("document.getElementById('over').hidden && !ngc.state.question")
         self.assertEqual(browser.js(BELOW), [])
         browser.wait("!ngc.state.busy && ngc.state.half === 'none' && ngc.state.spindle === 0")
+        self.assertEqual(browser.js("document.getElementById('toast').textContent"), "")  # nothing leads on with it
         self.is_dead_first("#run", "Run from 4", ["rehearse"])
         self.is_dead_first("#over .go", "Run from 4", ["run"])
 

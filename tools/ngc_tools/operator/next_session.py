@@ -21,11 +21,11 @@ _PATIENCE_S = 5.0  # how long motors may take to come to rest, and a player to l
 
 
 class NextSession:
-    """Ends this session and begins the next one. `opens` says what that begins with, of the device as it stood before;
-    `opened` is called once it has."""
+    """Ends this session and begins the next one. `opens` says what that begins with, of the device as it stood before,
+    and is told whether what is left is given up at once; `opened` is called once it has."""
 
     def __init__(self, session: Session, motors: Motors, left: Left, recover: Recover,
-                 opens: Callable[[Device | None], None]) -> None:
+                 opens: Callable[[Device | None, bool], None]) -> None:
         self.session, self.motors, self.left, self.recover, self.opens = session, motors, left, recover, opens
         self.opened: Callable[[Device | None], None] = lambda _: None
 
@@ -51,7 +51,7 @@ class NextSession:
                 console.ask(f"{name} on")
         session.own, self.motors.is_told = "", False
         self.left.forget()
-        self.opens(found)
+        self.opens(found, drops)
         self.opened(found)
 
     def let_go(self) -> None:

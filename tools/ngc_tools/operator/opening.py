@@ -11,19 +11,21 @@ from ngc_tools.operator.rehearsing import count_segments
 from ngc_tools.operator.session import Session
 
 
-def say_opening(session: Session, places: Places, left: Left, found: Device | None) -> None:
+def say_opening(session: Session, places: Places, left: Left, found: Device | None, gives_up: bool) -> None:
     """Says what a session begins with. `found` is the device as it stood before `ngc` was started: its log tells how
-    the program was left."""
+    the program was left. Of what is given up at once nothing is said, nor of the place, which is told then."""
     status = session.console.status()
     if session.program.text:
         session.face.say(f"stored: a program of {session.program.count} lines")
     if status.half != "none":
-        session.face.say(broken_off(session, status), WARNING)
+        if not gives_up:
+            session.face.say(broken_off(session, status), WARNING)
     elif found is not None:
         left.find(found)
     Look(session).after_work()
     _say_steps(session)
-    places.warn(status)
+    if not gives_up:
+        places.warn(status)
 
 
 def broken_off(session: Session, status: Status) -> str:

@@ -114,15 +114,16 @@ class Operator:
         self.touch.know(setter)
         self.ways.know(setter)
 
-    def _open(self, found: Device | None) -> None:
-        """Says what a session of `ngc` begins with, and sees how it stands."""
+    def _open(self, found: Device | None, gives_up: bool = False) -> None:
+        """Says what a session of `ngc` begins with, and sees how it stands. Nothing leads on with what is left where
+        that is given up at once."""
         self.session.program = Program(self.stored().program)
-        say_opening(self.session, self.places, self.left, found)
+        say_opening(self.session, self.places, self.left, found, gives_up)
         status = self.console.status()
         self.taken_up = None
         self.runs.is_handed_out = False
         self.choices.forget_given()
-        self.recover.begin(status, self.left.is_as_left() and status.half != "mdi")
+        self.recover.begin(status, self.left.is_as_left() and status.half != "mdi", gives_up)
         self.session.noted = status.entries
         self.session.told = status.place
 

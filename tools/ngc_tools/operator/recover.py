@@ -98,9 +98,9 @@ class Recover:
         self.found.look_again(self.found.link.ask())
         return not self.found.is_left()
 
-    def begin(self, status: Status, as_left: bool = False) -> None:
+    def begin(self, status: Status, as_left: bool = False, gives_up: bool = False) -> None:
         """Says as the session begins what is left. `as_left`: nothing was done since the program was left for its next
-        line."""
+        line; `gives_up`: what is half-done is given up at once."""
         self._entries = status.entries
         if self.found is None:
             return
@@ -112,7 +112,7 @@ class Recover:
             self.session.face.say(LEFT.format(line=self.found.recovery.lines), WARNING)
         elif status.half == "none" and beginning and beginning.is_new:
             self.session.face.say(LOST.format(out=self.found.link.out, count=beginning.missing.count(b"\n")), WARNING)
-        elif status.half != "none":
+        elif status.half != "none" and not gives_up:
             self.session.face.say(HALF, WARNING)
 
     def keeps_lost(self) -> bool:
