@@ -123,9 +123,11 @@ class Connection:
 
     async def _posted(self, request: Request, path: str, body: bytes) -> bytes:
         """Does what is asked. Raises what `do`, `check` and `draw` raise."""
-        page = request.headers.get("x-page", "")
+        page, touch = request.headers.get("x-page", ""), request.headers.get("x-touch", "")
         if not _PAGE.fullmatch(page):
             raise RequestRefused(HTTPStatus.BAD_REQUEST, "no page")
+        if touch and not _PAGE.fullmatch(touch):
+            raise RequestRefused(HTTPStatus.BAD_REQUEST, "no touch")
         if path in _UPLOADS:
             return await self._while_there(self.server.upload(path, page, request, body))
         if request.headers.get("content-type", "").partition(";")[0].strip() != _JSON:
@@ -137,7 +139,7 @@ class Connection:
         if not isinstance(words, dict):
             raise RequestRefused(HTTPStatus.BAD_REQUEST, "no object")
         does = self.server.do(path, page, words, request.headers.get("x-stamp", ""))
-        return packed(await (self._while_there(does) if path == "rehearse" else does))
+        return packed(await (self._while_there(does) if path == "rehearse" else self.server.once(page, touch, does)))
 
     async def _while_there(self, work: Coroutine) -> Any:
         """The result of work that takes long, which ends where nobody waits for it any more. Raises OSError, and what

@@ -42,6 +42,7 @@ _AT_ANY_AGE = ("hold", "stop", "jogstop")
 """What ends motion, and is done however late it comes."""
 _UNSENT = 1 << 17  # bytes that the system keeps of answers that nobody takes, of each connection
 _STAMP_S = 0.25  # and a stamp
+_TOUCHES = 256  # that are remembered: more than pages make before one is too old
 
 
 class Server:
@@ -59,6 +60,7 @@ class Server:
         self._all: dict[asyncio.Task, Connection] = {}
         self._count = 0
         self._held_by = ""  # the touch that held last
+        self._touched: dict[tuple[str, str], asyncio.Task] = {}  # by the page, and how it named the touch
         self._new = asyncio.Event()
         self._uploads = asyncio.Semaphore(4)
         self._loop = asyncio.new_event_loop()
@@ -229,6 +231,19 @@ class Server:
         if not touch or touch != self._held_by:
             self._held_by = touch
             self.session.hold(page)
+
+    async def once(self, page: str, touch: str, does: Coroutine) -> dict:
+        """Does what a page asks for, unless it was asked for by this touch, which the page names by chance: a browser,
+        or a proxy, asks again where a connection broke, and is answered as before. Raises what that raises."""
+        if not touch:
+            return await does
+        if (page, touch) in self._touched:
+            does.close()
+        else:
+            self._touched[page, touch] = asyncio.ensure_future(does)
+            for old in list(self._touched)[:-_TOUCHES]:
+                del self._touched[old]
+        return await asyncio.shield(self._touched[page, touch])  # it is done to its end, whatever breaks
 
     async def do(self, name: str, page: str, words: dict, stamp: str) -> dict:
         """Does what a page asks for, as it had read a stamp. Whoever sees that something is wrong may hold, a page that

@@ -122,9 +122,10 @@ async function answered(request) {
   return said;
 }
 
-// Asks for something. Throws an Error that says why it isn't done.
+// Asks for something, by a touch that has a name, so that it is done once, however often it is sent. Throws an Error
+// that says why it isn't done.
 export function post(what, body = {}, signal = undefined) {
-  const headers = { 'Content-Type': 'application/json', 'X-Page': page, 'X-Stamp': now() };
+  const headers = { 'Content-Type': 'application/json', 'X-Page': page, 'X-Stamp': now(), 'X-Touch': named() };
   return answered(fetch(what, { method: 'POST', headers, body: JSON.stringify(body), signal }));
 }
 
