@@ -81,6 +81,53 @@ class Recorded(Core):
         self.do("rewind")
         self.assertEqual(self.lines(), lines)
 
+    def test_tools(self) -> None:
+        """A tool that is in already isn't told again, and one that is taken out is."""
+        self.begin_with_tools()
+        self.load("G21 G90\nT2 M6\nM0\nT2 M6\nM0\nT0 M6\nM0\nT2 M6\nM2\n")
+        self.do("run", "run", "run", "run")
+        self.assertEqual([line for line in self.lines() if line.startswith("tool")],
+                         ["tool 2 is in", "tool out", "tool 2 is in"])
+
+    def test_refused(self) -> None:
+        """A line that is refused is told, and is no hold; what is given up says so far."""
+        self.begin_with_tools()
+        self.load("G21 G90\nM0\nG0 X999.5\nM2\n")
+        self.do("run", "G10 L2 P1 X5", "run", answers=("yes",))
+        self.assertEqual(self.lines()[1:], ["began part.ngc", "stopped before line 3", "went on in line 3",
+                                            "refused at line 3"])
+        self.load(PART)
+        self.assertEqual(self.lines()[5], "given up, after 0:NN, 1 stop")
+
+    def test_begun_within(self) -> None:
+        """A run of which the record has no beginning begins with its line; one that broke off at a stop didn't break
+        off."""
+        self.begin_with_tools()
+        self.load(PART)
+        self.do("run")
+        self.cut()
+        before = RECORD.read_bytes()
+        self.begin(FileLink("1 0 0"))
+        self.assertEqual(RECORD.read_bytes(), before)
+        self.cut()
+        RECORD.unlink()
+        self.begin(FileLink("1 0 0"))
+        self.do("run")
+        self.assertEqual(self.lines(), ["began the stored program in line 5", "tool 2 is in",
+                                        "ended, through, after 0:NN"])
+
+    def test_from_line(self) -> None:
+        """The rest of a program, and the rest of that, have its name, and its last run is that of their line."""
+        self.begin_with_tools()
+        self.load(PART)
+        for first in (5, 6):
+            text = f"(ngc: the way to line {first}, tool 0)\nG0 X1\n(ngc: line {first})\nG0 X2\nM2\n"
+            self.assertTrue(self.operator.load(f"the program from line {first} on", text.encode()))
+        self.assertTrue(self.operator.runs.goes())
+        self.assertEqual([line.partition(": ")[2] for line in self.lines()[:3]],
+                         ["part.ngc", "part.ngc, from line 5", "part.ngc, from line 6"])
+        self.assertEqual(list(last_runs(read_lines(RECORD))), ["part.ngc"])
+
     def test_single(self) -> None:
         """With single block it is one run, which ends with the program's last line."""
         self.begin(FileLink())
@@ -140,6 +187,36 @@ class Recorded(Core):
         self.assertTrue(text.startswith(whole[:-9] + b" (torn)\n"), text)
         self.assertTrue(text.endswith(b"broke off in line 5: power was lost, or the session ended amid it\n"))
 
+    def test_synced(self) -> None:
+        """Each line is on the disk before what comes next, and the new file's name is too."""
+        synced, folders, sync = [], [], os.fdatasync
+
+        def syncs(file: int) -> None:
+            """Notes what it has."""
+            sync(file)
+            synced.append(RECORD.read_text())
+
+        self.begin_with_tools()
+        with mock.patch.object(os, "fdatasync", syncs), mock.patch.object(
+                os, "fsync", lambda file: folders.append(os.readlink(f"/proc/self/fd/{file}"))):
+            self.load(PART)
+            self.do("run")
+        lines = RECORD.read_text().splitlines(True)
+        self.assertEqual([text for text in synced if text], ["".join(lines[:end]) for end in range(1, len(lines) + 1)])
+        self.assertIn(os.getcwd(), folders)
+
+    def test_long(self) -> None:
+        """Of a long record its end is read: a line that this begins within is none. Its last 20 lines are shown."""
+        line = "2026-01-02 03:05:00 +0000 began a.ngc"
+        lines = [f"{line}{number:05d}" for number in range(30_000)]
+        RECORD.write_text("\n".join(lines) + "\n")
+        found = read_lines(RECORD)
+        self.assertEqual((found[-1], set(map(len, found)), found), (lines[-1], {len(line) + 5}, lines[-len(found):]))
+        self.assertTrue(1 << 20 >= len("\n".join(found)) > (1 << 20) - 99)
+        self.begin()
+        self.assertEqual(self.do("runs")[0].split("\n")[-20:-1], lines[-19:])
+        self.assertEqual(len(self.do("runs")[0].split("\n")), 20)
+
     def test_not_kept(self) -> None:
         """A record that can't be written is said once, and the program runs; no link is followed."""
         Path("elsewhere").write_text("")
@@ -156,7 +233,8 @@ class Recorded(Core):
         said = ["2026-01-02 03:04:05 +0000 loaded 9 bytes, mark 00000001: a.ngc",
                 "2026-01-02 03:05:00 +0000 began a.ngc", "2026-01-02 03:06:00 +0000 ended, through, after 1:00",
                 "2026-01-02 04:00:00 +0000 loaded 9 bytes, mark 00000002: b.ngc", "nonsense",
-                "2026-01-02 04:01:00 +0000 began b.ngc", "2026-13-02 04:01:00 +0000 ended", "2026-01-02 04:02:0 (torn)"]
+                "2026-01-02 04:01:00 +0000 began b.ngc", "2026-13-02 04:01:00 +0000 ended", "2026-01-02 04:01:01 +0000 tool 2 is in",
+                "2026-01-02 04:02:0 (torn)"]
         found = {name: what[17:] for name, what in last_runs(said).items()}
         self.assertEqual(found, {"a.ngc": "ended, through, after 1:00", "b.ngc": "began b.ngc"})
         run = RecordedRun()
