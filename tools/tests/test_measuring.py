@@ -2,12 +2,14 @@
 model."""
 import sys
 import unittest
+from collections.abc import Callable
 from pathlib import Path
+from typing import NamedTuple
 
 sys.path.insert(0, str(Path(__file__).resolve().parent))
 
 from bench_support import REST, Bench
-from test_moves import BOX
+from test_moves import _AT_PULSE, _CHANCE, _PULSES, _TURNED, BOX, PROBE, World
 
 from ngc_tools.formats.lines import Program
 from ngc_tools.operator.setter import Setter
@@ -292,6 +294,145 @@ class WhileWaited(Bench):
         self.face.agrees, self.face.puts_in = agrees, ["go"]
         self.do("run", answers=("yes",))
         self.is_through((0, 0, 0), (3_000, 1_000, 13_000))
+
+
+OVER = 630
+"""Steps of 1 um within which the motors rest behind a touch on the way over the setter, from 1,500 mm a minute."""
+
+
+class Fault(NamedTuple):
+    """What is wrong as tool 2, 15 mm long, is measured; why that ends; between which places it does then; and how deep
+    the tool goes into the setter. All are steps of 1 um."""
+
+    does: Callable[[World], None]
+    why: str
+    low: tuple[int, int, int]
+    high: tuple[int, int, int]
+    deepest: int = REST
+
+
+def _sticks(world: World) -> None:
+    """It comes on 1.5 mm before the touch, and stays on."""
+    x, y, z = world.place
+    way = 35_000 - z + abs(40_000 - x) + abs(30_000 - y) + 30_000 + 20_000
+    world.set(_AT_PULSE, world.get(_PULSES) + way - 1_500)
+    world.set(_TURNED, 1 << PROBE)
+
+
+ABOVE = (40_000, 30_000)
+FAULTS = {
+    "no setter": Fault(lambda world: world.solid(0, 0, (0, 0, 0), (0, 0, 0)), "the probe isn't touched within 25.000000"
+                       " mm: nothing more moves", (*ABOVE, -20_000), (*ABOVE, -20_000)),
+    "never on": Fault(lambda world: world.touching(PROBE, is_dumb=True), "the probe isn't touched within 25.000000 mm:"
+                      " nothing more moves", (*ABOVE, -20_000), (*ABOVE, -20_000), 5_000),
+    "shorter": Fault(lambda world: world.tool(2, 9_999), "the probe isn't touched within 25.000000 mm: nothing more"
+                     " moves", (*ABOVE, -20_000), (*ABOVE, -20_000)),
+    "longer": Fault(lambda world: world.tool(2, 38_000), "the probe was touched on the way, at Z 8, where nothing may"
+                    " be: nothing more moves", (*ABOVE, 8_000 - REST), (*ABOVE, 8_000)),
+    "much longer": Fault(lambda world: world.tool(2, 66_000), "the probe was touched on the way, at Y 28, where nothing"
+                         " may be: nothing more moves", (40_000, 28_000, 35_000), (40_000, 28_000 + OVER, 35_000),
+                         OVER),
+    "on at first": Fault(lambda world: world.put(PROBE, True), "the probe is on before it moves, and nothing may touch"
+                         " it: nothing moves", (-1, -1, -1), (-1, -1, -1)),
+    "sticks": Fault(_sticks, "the probe is on behind a touch, and nothing may touch it: nothing moves",
+                    (*ABOVE, -15_000), (*ABOVE, -12_000)),
+    "sooner again": Fault(lambda world: world.touching(PROBE, grows=300), "two touches differ: Z -15 by the fast one,"
+                          " and -14.7 by the slow one. That counts for nothing", (*ABOVE, -15_000), (*ABOVE, -14_600)),
+    "later again": Fault(lambda world: world.touching(PROBE, grows=-300), "the slow touch didn't come where the fast"
+                         " one was, at Z -15, nor 0.05 mm behind it. That counts for nothing", (*ABOVE, -15_050),
+                         (*ABOVE, -15_050))}
+"""By hand: the setter's top is at Z-30, and it is sought from Z5 to Z-20; at Y it begins at 28."""
+
+
+class EachWrong(Bench):
+    """Each fault of tool and setter, wherever a tool is measured: it ends there, or where that was said, the length
+    stays, and nothing goes on. Once all is well it is measured from there."""
+
+    words = ("--untimed",)
+
+    def setUp(self) -> None:
+        """Tool 2 has 12 mm by the table."""
+        super().setUp()
+        self.do(FROM, "G49", "tool 2 12")
+        self.well_again()
+
+    def well_again(self) -> None:
+        """All is well, and the machine goes back, up first."""
+        self.world.touching(PROBE)
+        self.world.put(PROBE, False)
+        self.world.set(_AT_PULSE, 0)
+        self.world.tool(2, 15_000)
+        x, y, z = self.world.place
+        if z < 0 or x or y:
+            self.do(f"jog Z+ 3000 for {(50_000 - z) / 1000}")
+        self.world.solid(0, BOX, *SETTER)
+        for axis, at in (("X", x), ("Y", y), ("Z", self.world.place[2])):
+            if at:
+                self.do(f"jog {axis}{'-' if at > 0 else '+'} 3000 for {abs(at) / 1000}")
+        self.assertEqual(self.world.place, (0, 0, 0))
+
+    def refused(self, name: str, measure: Callable[[], list[str]]) -> None:
+        """It ends by a fault, as that says; the length is that of before."""
+        fault, stood = FAULTS[name], self.world.place
+        fault.does(self.world)
+        self.world.forget_reached()
+        said = measure()
+        self.assertIn(f"measure: {fault.why}", said, name)
+        at, (deepest, least, greatest) = self.world.place, self.world.reached
+        low, high = (stood, stood) if min(fault.low[:2]) < 0 else (fault.low, fault.high)
+        self.assertTrue(all(a <= b <= c for a, b, c in zip(low, at, high)), (name, at))
+        self.assertTrue(all(min(a, b) <= c for a, b, c in zip(stood, at, least)), (name, least))
+        self.assertTrue(all(c <= max(a, b) for a, b, c in zip(stood, (40_000, at[1], 35_000), greatest)), name)
+        self.assertLessEqual(deepest, fault.deepest, name)
+        self.assertEqual(self.operator.stored().tools_nm[1], 12_000_000, name)
+
+    def measured(self) -> None:
+        """All is well: the length is 15 mm."""
+        self.well_again()
+        self.do("measure", answers=("yes",))
+        self.assertEqual(self.operator.stored().tools_nm[1], 15_000_000)
+
+    def test_at_rest(self) -> None:
+        """By its command."""
+        self.do("T2 M6")
+        for name in FAULTS:
+            self.refused(name, lambda: self.do("measure", answers=("yes",)))
+            self.assertEqual(self.status().does, "idle")
+            self.well_again()
+        self.measured()
+
+    def test_at_change(self) -> None:
+        """Behind a program's M6: the program waits there, goes on with nothing by itself, and takes the new length."""
+        for name in FAULTS:
+            self.assertTrue(self.operator.load("part.ngc", JOB.encode()), self.face.said)
+            self.do("single on", "run", "run", "run", "run", "run", "single off")
+            stood = self.world.place
+            self.assertEqual((stood, self.operator.session.program.number(self.status().place)), ((2_000, 1_000, 0), 6))
+            self.refused(name, lambda: self.do("run", answers=("yes",)))
+            self.assertIn("the program waits behind the tool change: run goes on",
+                          [text for _, text in self.face.said])
+            self.assertEqual((self.status().does, self.operator.session.program.number(self.status().place)),
+                             ("stopped", 7))
+            self.well_again()
+        self.measured()
+        self.do("run")
+        self.assertEqual((self.status().does, self.world.place), ("idle", (3_000, 1_000, 16_000)))
+
+    def test_bounces(self) -> None:
+        """A probe that bounces within what two touches may differ by gives the length as exactly; one that bounces
+        farther is refused, or as far off at most. Nothing goes deeper than that."""
+        self.do("T2 M6")
+        for seed in range(6):
+            for bounces in (30, 400):
+                self.world.set(_CHANCE, 1 + seed)
+                self.world.touching(PROBE, bounces=bounces)
+                self.do("tool 2 12")
+                self.world.forget_reached()
+                self.do("measure", answers=("yes",))
+                length = self.operator.stored().tools_nm[1] / 1e6
+                self.assertTrue(abs(length - 15) <= bounces / 1000 or bounces == 400 and length == 12, (seed, length))
+                self.stays_within((0, 0, -20_000), (40_000, 30_000, 35_000), REST + bounces)
+                self.well_again()
 
 
 class Changes(unittest.TestCase):

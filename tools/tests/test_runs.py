@@ -233,8 +233,8 @@ class Recorded(Core):
         said = ["2026-01-02 03:04:05 +0000 loaded 9 bytes, mark 00000001: a.ngc",
                 "2026-01-02 03:05:00 +0000 began a.ngc", "2026-01-02 03:06:00 +0000 ended, through, after 1:00",
                 "2026-01-02 04:00:00 +0000 loaded 9 bytes, mark 00000002: b.ngc", "nonsense",
-                "2026-01-02 04:01:00 +0000 began b.ngc", "2026-13-02 04:01:00 +0000 ended", "2026-01-02 04:01:01 +0000 tool 2 is in",
-                "2026-01-02 04:02:0 (torn)"]
+                "2026-01-02 04:01:00 +0000 began b.ngc", "2026-13-02 04:01:00 +0000 ended",
+                "2026-01-02 04:01:01 +0000 tool 2 is in", "2026-01-02 04:02:0 (torn)"]
         found = {name: what[17:] for name, what in last_runs(said).items()}
         self.assertEqual(found, {"a.ngc": "ended, through, after 1:00", "b.ngc": "began b.ngc"})
         run = RecordedRun()
