@@ -242,6 +242,36 @@ class FromLine(Core):
         self.assertEqual(self.path()[-4:], [(5080, 2540, 20000), (5080, 2540, 5080), (7620, 2540, 5080),
                                             (7620, 2540, 7620)])
 
+    def test_all_modes(self) -> None:
+        """All that lines before it left in force is so again before its line, and nothing else: over another system
+        than G54, whose origin is X2 Y3 Z1, tool 2 comes to machine X4 Y4 Z12, and from there 1 mm on."""
+        self.do("G10 L2 P9 X2 Y3 Z1")
+        self.begun = len(self.out())
+        text = ("G21 G90 G18 G59.3 G94 G99 G61\nG43 H2\nT1\nS700 M4\nM7\nM8\nM49\nG0 X1 Y1\nG0 Z9\nG1 X2 F300\nG91\n"
+                "X1\nM0\nM2\n")
+        said = self.goes(12, "20", "", "yes", "yes", text=text)
+        self.assertEqual(said[1:3], [
+            "in force there and not now: G43 H2; F300; G18 G91 G99 G59.3 G61; T1; S700; M4; M9; M7; M8",
+            "the tool is at X2 Y1 Z9 there, machine X4 Y4 Z12, by G59.3 at X2 Y3 Z1, tool length 2; the machine stands"
+            " at X9 Y9 Z2"])
+        self.assertEqual(self.path()[-2:], [(4000, 4000, 12000), (5000, 4000, 12000)])
+        state = self.operator.stored().state
+        self.assertEqual({name: getattr(state, name) for name in (
+            "unit", "distance", "plane", "feed_mode", "retract", "path_mode", "system", "motion", "speed", "spindle",
+            "mist", "flood", "selected", "overrides", "feed_nm_per_min", "tool_length_nm")}, {
+                "unit": 21, "distance": 91, "plane": 18, "feed_mode": 94, "retract": 99, "path_mode": 0, "system": 9,
+                "motion": 1, "speed": 700_000_000, "spindle": 2, "mist": True, "flood": True, "selected": 1,
+                "overrides": False, "feed_nm_per_min": 300_000_000, "tool_length_nm": 2_000_000})
+        self.assertEqual(self.switches()[-1], "S 2 700.000000 1 1 1 2")
+
+    def test_block_delete(self) -> None:
+        """A line with a slash before it counts as it does now."""
+        text = PART.replace("M8\n", "/G0 Y5\n")
+        for switch, y in (("delete on", 1), ("delete off", 5)):
+            self.do(switch)
+            self.assertIn(f"the tool is at X6 Y{y} Z1 there, machine X6 Y{y} Z3, by G54, tool length 2; the machine"
+                          " stands at X9 Y9 Z2", self.goes(10, "", text=text))
+
     def test_percent(self) -> None:
         """A percent program keeps its signs, and a carriage return its line: the numbers stay."""
         text = "%\r\n" + PART.replace("\n", "\r\n") + "%\r\n"

@@ -296,6 +296,8 @@ class WhileWaited(Bench):
         self.is_through((0, 0, 0), (3_000, 1_000, 13_000))
 
 
+HELD = "G21 G90 G17 G54 G94\nG43 H2\nG0 X1 Y1 Z0\nG1 X9 F600\nM2\n"
+"""Its line 4 is a cut of 8,000 pulses, at the height of the work's zero."""
 OVER = 630
 """Steps of 1 um within which the motors rest behind a touch on the way over the setter, from 1,500 mm a minute."""
 
@@ -371,9 +373,9 @@ class EachWrong(Bench):
                 self.do(f"jog {axis}{'-' if at > 0 else '+'} 3000 for {abs(at) / 1000}")
         self.assertEqual(self.world.place, (0, 0, 0))
 
-    def refused(self, name: str, measure: Callable[[], list[str]]) -> None:
-        """It ends by a fault, as that says; the length is that of before."""
-        fault, stood = FAULTS[name], self.world.place
+    def refused(self, name: str, measure: Callable[[], list[str]], begun: tuple[int, ...] | None = None) -> None:
+        """It ends by a fault, as that says; the length is that of before. It begins there, or where the machine is."""
+        fault, stood = FAULTS[name], begun or self.world.place
         fault.does(self.world)
         self.world.forget_reached()
         said = measure()
@@ -381,8 +383,8 @@ class EachWrong(Bench):
         at, (deepest, least, greatest) = self.world.place, self.world.reached
         low, high = (stood, stood) if min(fault.low[:2]) < 0 else (fault.low, fault.high)
         self.assertTrue(all(a <= b <= c for a, b, c in zip(low, at, high)), (name, at))
-        self.assertTrue(all(min(a, b) <= c for a, b, c in zip(stood, at, least)), (name, least))
-        self.assertTrue(all(c <= max(a, b) for a, b, c in zip(stood, (40_000, at[1], 35_000), greatest)), name)
+        self.assertTrue(all(a <= b for a, b in zip((0, 0, min(0, max(-20_000, low[2] - REST))), least)), (name, least))
+        self.assertTrue(all(a >= b for a, b in zip((40_000, max(at[1], 1_000), 35_000), greatest)), (name, greatest))
         self.assertLessEqual(deepest, fault.deepest, name)
         self.assertEqual(self.operator.stored().tools_nm[1], 12_000_000, name)
 
@@ -395,7 +397,7 @@ class EachWrong(Bench):
     def test_at_rest(self) -> None:
         """By its command."""
         self.do("T2 M6")
-        for name in FAULTS:
+        for name in ("on at first", "sticks", "later again"):
             self.refused(name, lambda: self.do("measure", answers=("yes",)))
             self.assertEqual(self.status().does, "idle")
             self.well_again()
@@ -403,26 +405,47 @@ class EachWrong(Bench):
 
     def test_at_change(self) -> None:
         """Behind a program's M6: the program waits there, goes on with nothing by itself, and takes the new length."""
-        for name in FAULTS:
+        for name in FAULTS.keys() - {"sticks"}:
             self.assertTrue(self.operator.load("part.ngc", JOB.encode()), self.face.said)
-            self.do("single on", "run", "run", "run", "run", "run", "single off")
-            stood = self.world.place
-            self.assertEqual((stood, self.operator.session.program.number(self.status().place)), ((2_000, 1_000, 0), 6))
-            self.refused(name, lambda: self.do("run", answers=("yes",)))
+            self.refused(name, lambda: self.do("run", answers=("yes",)), (2_000, 1_000, 0))
             self.assertIn("the program waits behind the tool change: run goes on",
                           [text for _, text in self.face.said])
             self.assertEqual((self.status().does, self.operator.session.program.number(self.status().place)),
                              ("stopped", 7))
             self.well_again()
         self.measured()
+        self.do("run", answers=("yes",))
+        self.assertEqual((self.status().does, self.world.place), ("idle", (3_000, 0, 16_000)))
+
+    def test_held_line(self) -> None:
+        """For a tool that broke in a line: while that is held nothing is measured; once it is given up the new tool is,
+        or isn't, and the program goes on from that line with its length, and does no line before it."""
+        self.do("T2 M6", "G43 H2", "G0 X1 Y1 Z0")
+        self.assertTrue(self.operator.load("part.ngc", HELD.encode()), self.face.said)
+        self.face.holds_at = self.face.looks + 8
         self.do("run")
-        self.assertEqual((self.status().does, self.world.place), ("idle", (3_000, 1_000, 16_000)))
+        self.face.holds_at = 0
+        stood = self.world.place
+        self.assertEqual((self.status().does, self.status().half, stood[1:]), ("held", "program", (1_000, 12_000)))
+        said = self.do("measure")
+        self.assertTrue(said[0].startswith("held in segment 0 of line 4: G1 X9 F600: run goes on;"), said)
+        self.assertEqual((len(said), self.world.place), (1, stood))
+        self.do("stop", answers=("yes",))
+        self.assertEqual((self.status().does, self.status().half, self.world.place), ("idle", "none", stood))
+        for name in ("shorter", "longer"):
+            self.refused(name, lambda: self.do("measure", answers=("yes",)))
+            self.well_again()
+        self.measured()
+        self.world.forget_reached()
+        self.do("from 4", answers=("20", "600", "yes", "yes"))
+        self.assertEqual((self.status().does, self.world.place), ("idle", (9_000, 1_000, 15_000)))
+        self.stays_within((0, 0, 0), (9_000, 1_000, 20_000))
 
     def test_bounces(self) -> None:
         """A probe that bounces within what two touches may differ by gives the length as exactly; one that bounces
         farther is refused, or as far off at most. Nothing goes deeper than that."""
         self.do("T2 M6")
-        for seed in range(6):
+        for seed in range(3):
             for bounces in (30, 400):
                 self.world.set(_CHANCE, 1 + seed)
                 self.world.touching(PROBE, bounces=bounces)
