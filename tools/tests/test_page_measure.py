@@ -4,6 +4,7 @@ import os
 import subprocess
 import sys
 import unittest
+from collections.abc import Callable
 from pathlib import Path
 
 sys.path.insert(0, str(Path(__file__).resolve().parent))
@@ -117,6 +118,57 @@ class AtChange(AtMachine):
         state = self.seen.until("it is jogged", lambda s: not s["busy"] and s["motors"][2] == "2.000000")
         self.assertEqual((state["does"], self.world.place), ("stopped", (1_000, 0, 2_000)))
 
+    def test_wrong(self) -> None:
+        """A probe that fails in each way, and a tool that is longer: nothing moves past what was said, the length stays,
+        and the job waits; a probe that bounces within what two touches may differ by gives the length as exactly."""
+        self.wrong(lambda: self.world.touching(PROBE, is_dumb=True), "the probe isn't touched within 6.000000 mm", -4,
+                   self.asked())
+        for does, why, z in (
+                (lambda: self.world.touching(PROBE, grows=300), "two touches differ: Z -1 by the fast one, and -0.7 by"
+                 " the slow one", -0.7),
+                (lambda: self.world.touching(PROBE, grows=-300), "the slow touch didn't come where the fast one was, at"
+                 " Z -1, nor 0.05 mm behind it", -1.05),
+                (lambda: self.world.tool(2, 9_000), "the probe was touched on the way, at Z 4", 4)):
+            self.goes_back()
+            self.wrong(does, why, z, self.measures())
+        self.goes_back()
+        self.world.touching(PROBE, bounces=40)
+        self.seen.agree(self.measures())
+        state = self.seen.until("it is measured", lambda s: not s["busy"] and s["tools"][1] != "3.000000")
+        self.assertAlmostEqual(float(state["tools"][1]), 4, delta=0.04)
+        self.assertEqual((state["does"], self.world.place), ("stopped", (1_000, 0, 0)))
+
+    def wrong(self, does: Callable[[], None], why: str, z: float, state: dict) -> None:
+        """It ends with that cause, once that is agreed to, over the setter at that machine Z, or as far from there as
+        the motors need to rest; nothing went below that, nor over it lower than was said."""
+        does()
+        self.world.forget_reached()
+        told = len(self.seen.log)
+        self.seen.agree(state)
+        state = self.seen.until("it rests", lambda s: not s["busy"])
+        self.assertIn(f"measure: {why}", "\n".join(entry["text"] for entry in self.seen.log[told:]))
+        self.assertEqual((state["does"], state["tools"][1], state["question"]), ("stopped", "3.000000", None))
+        x, y, at = self.world.place
+        self.assertEqual((x, y), (8_000, 6_000))
+        self.assertTrue(abs(at - 1000 * z) <= 110, at)
+        _, least, greatest = self.world.reached
+        self.assertTrue(least[2] >= min(-1_110, 1000 * z) and greatest == (8_000, 6_000, 8_000), (least, greatest))
+
+    def measures(self) -> dict:
+        """The state once its button was touched."""
+        self.assertEqual(self.seen.post("measure"), (200, {}))
+        return self.seen.asked()
+
+    def goes_back(self) -> None:
+        """All is well, and the machine is where the job waits."""
+        self.world.touching(PROBE)
+        self.world.tool(2, 4_000)
+        for line in ("G53 G0 Z8", "G53 G0 X1 Y0", "G53 G0 Z0"):
+            entries = self.seen.rested()["entries"]
+            self.assertEqual(self.seen.post("mdi", {"line": line}), (200, {}))
+            self.seen.until("it is there", lambda s, before=entries: not s["busy"] and s["entries"] > before)
+        self.assertEqual(self.world.place, (1_000, 0, 0))
+
     def test_jogged(self) -> None:
         """While the tool is waited for jog and seek are offered, and home isn't. The motors are elsewhere then, which
         is shown. Before the tool is in they go back to where the job goes on, by a yes; by a no they stay."""
@@ -193,7 +245,7 @@ class Held(AtChange):
     """By the clock."""
 
     WORDS: list[str] = []
-    test_measured = test_not_measured = test_heights = test_off = test_switches = test_jogged = None
+    test_measured = test_not_measured = test_heights = test_off = test_switches = test_jogged = test_wrong = None
 
     def test_jog_held(self) -> None:
         """While the tool is waited for an axis goes for as long as that is said again and again, too; Hold ends it, and
