@@ -1,5 +1,5 @@
-"""The way to a line that is chosen, and the way back to one that broke off, from another place: a page is asked the same,
-in the same order, and at the same look, which the server keeps."""
+"""The way to a line that is chosen, and the way back to one that broke off, from another place: a page is asked the
+same, in the same order, and at the same look, which the server keeps."""
 import re
 import sys
 import unittest

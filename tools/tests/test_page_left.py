@@ -1,5 +1,5 @@
-"""Lines that stand in OUT and that no motor carried out, where nothing tells which way leads along them: the console and
-the page say why, and take neither back nor on. In Chromium, or in Firefox where NGC_BROWSER says so."""
+"""Lines that stand in OUT and that no motor carried out, where nothing tells which way leads along them: the page says
+why, and goes neither back nor on. In Chromium, or in Firefox where NGC_BROWSER says so."""
 import os
 import sys
 import unittest

@@ -119,8 +119,8 @@ class AtChange(AtMachine):
         self.assertEqual((state["does"], self.world.place), ("stopped", (1_000, 0, 2_000)))
 
     def test_wrong(self) -> None:
-        """A probe that fails in each way, and a tool that is longer: nothing moves past what was said, the length stays,
-        and the job waits; a probe that bounces within what two touches may differ by gives the length as exactly."""
+        """A probe that fails in each way, and a tool that is longer: nothing moves past what was said, the length
+        stays, and the job waits; one that bounces within what two touches may differ by gives the length as exactly."""
         self.wrong(lambda: self.world.touching(PROBE, is_dumb=True), "the probe isn't touched within 6.000000 mm", -4,
                    self.asked())
         for does, why, z in (

@@ -1,5 +1,5 @@
 """What a page asks for is done once, though a connection breaks before it is answered, and it is sent again: by the
-server, and by the page in Chromium, or in Firefox where NGC_BROWSER says so. The player is in this process."""
+server, and by the page in Chromium, or in Firefox where NGC_BROWSER says so."""
 import re
 import socket
 import sys
@@ -12,20 +12,20 @@ sys.path.insert(0, str(Path(__file__).resolve().parent))
 
 import test_page
 import test_page_browser
+from page_support import Served
 from session_support import PATIENCE_S
+from test_page_measure import SETTER, OverWorld
 
 JOG = {"axis": "X", "sign": 1, "rate": "600", "length": "2"}
 PROXY = "127.0.0.2"
 """As long as the server's own address, so that one stands for the other in a request."""
 
 
-class Sent(test_page.Moves):
-    """The same request again and again, as soon as what it asks for is over."""
-
-    test_moves = test_held = test_held_by_another = test_alarm = test_axis_without_home = None
+class Again(Served):
+    """A page that sends a request again and again, as soon as what it asks for is over."""
 
     def setUp(self) -> None:
-        """Opens a page."""
+        """Opens it."""
         super().setUp()
         self.seen = self.page()
         self.seen.rested()
@@ -37,6 +37,12 @@ class Sent(test_page.Moves):
             self.assertEqual(self.seen.post(what, words, X_Stamp=stamp, X_Touch=f"touch-{what}-{stamp}"), (200, {}))
             state = self.seen.rested()
         return state
+
+
+class Sent(Again, test_page.Moves):
+    """Moves without lines, and what is set."""
+
+    test_moves = test_held = test_held_by_another = test_alarm = test_axis_without_home = None
 
     def jogged(self) -> list[str]:
         """What the player was told to jog."""
@@ -74,6 +80,34 @@ class Sent(test_page.Moves):
         for one in both:
             one.join()
         self.assertEqual((sorted(answers), self.seen.rested()["at"][0]), ([200, 409], "2.000000"))
+
+
+class Lines(Again, OverWorld):
+    """Over a simulated machine, whose tool 2 is in the spindle."""
+
+    EXTRA = SETTER
+
+    def device(self) -> None:
+        """From where the setter is sought."""
+        super().device()
+        Path("mill.dev.measure").write_text('{"down_nm": 2000000, "within_nm": 6000000}')
+        self.run_ngc("tool 1 0\ntool 2 3\nmdi T2 M6\ntick 9\n", "before")
+
+    def test_line(self) -> None:
+        """A line by G91 moves once."""
+        self.assertEqual(self.sent("mdi", {"line": "G91 G0 X3"})["at"][0], "3.000000")
+        self.assertEqual(self.world.place, (3_000, 0, 0))
+
+    def test_measure(self) -> None:
+        """A tool is measured once: after a no nothing is asked any more."""
+        stamp = self.seen.now()
+        for _ in range(2):
+            self.assertEqual(self.seen.post("measure", X_Stamp=stamp, X_Touch="touch-measure"), (200, {}))
+        question = self.seen.asked()["question"]["id"]
+        self.seen.post("answer", {"question": question, "yes": False})
+        self.seen.rested()
+        self.assertEqual(self.seen.post("measure", X_Stamp=stamp, X_Touch="touch-measure"), (200, {}))
+        self.assertEqual((self.seen.rested()["question"], self.world.place), (None, (0, 0, 0)))
 
 
 class Cutting:
