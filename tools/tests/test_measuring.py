@@ -67,6 +67,19 @@ class Measured(Bench):
         self.do("undo")
         self.assertEqual(self.lengths()[2], 28_000)
 
+    def test_way(self) -> None:
+        """It goes up before it goes over, there and back, and along X first, and back along X last: so over a wall that
+        its end would meet lower down, and round a post that stands over there."""
+        self.do("tool 3 28", "T3 M6")
+        for wall in (((20_000, -9_000, -60_000), (22_000, 40_000, 4_000)),
+                     ((-5_000, 20_000, -60_000), (5_000, 40_000, 50_000))):
+            self.world.solid(1, BOX, *wall)
+            self.do("tool 3 28")
+            self.world.forget_reached()
+            said = self.do("measure", answers=("yes",))
+            self.assertEqual((self.lengths()[2], self.world.place), (30_000, (0, 0, 0)), said)
+            self.stays_within((0, 0, -REST), (40_000, 30_000, 35_000))
+
     def test_far(self) -> None:
         """A length that is by more than 5 mm another one is asked."""
         self.do("tool 3 12", "T3 M6")
@@ -142,6 +155,7 @@ class AtChange(Measured):
     """Within a program, behind its M6."""
 
     test_by_itself = test_far = test_asked_once = test_longer = test_missed = test_in_the_way = test_not_begun = None
+    test_way = None
     ASKS = "it has {} mm by now, and continue goes on with that\nyes measures, anything else waits: "
 
     def load(self) -> None:
@@ -380,6 +394,7 @@ class EachWrong(Bench):
         self.world.forget_reached()
         said = measure()
         self.assertIn(f"measure: {fault.why}", said, name)
+        self.assertEqual(len(self.face.asked), 1, self.face.asked)
         at, (deepest, least, greatest) = self.world.place, self.world.reached
         low, high = (stood, stood) if min(fault.low[:2]) < 0 else (fault.low, fault.high)
         self.assertTrue(all(a <= b <= c for a, b, c in zip(low, at, high)), (name, at))

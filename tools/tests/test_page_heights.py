@@ -9,6 +9,7 @@ sys.path.insert(0, str(Path(__file__).resolve().parent))
 
 import test_page_probing
 from bench_support import REST
+from test_moves import BOX
 from test_page_probing import MM
 
 KEPT = Path("mill.dev.measure")
@@ -37,6 +38,7 @@ class Heights(test_page_probing.Setter):
         """The first measuring asks for both, and goes as it is answered; the next one doesn't ask. What can't be gone
         isn't kept, and is said where the finger was; nothing moves by it. `Keep both heights` says them anew."""
         world = self.world
+        world.solid(1, BOX, (3 * MM, -9 * MM, -10 * MM), (4 * MM, 9 * MM, 3_500))  # it goes over that, there and back
         self.stands(length=1, y=6)
         self.puts_in(2)
         world.forget_reached()
