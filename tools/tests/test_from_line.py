@@ -264,6 +264,20 @@ class FromLine(Core):
                 "overrides": False, "feed_nm_per_min": 300_000_000, "tool_length_nm": 2_000_000})
         self.assertEqual(self.switches()[-1], "S 2 700.000000 1 1 1 2")
 
+    def test_g92(self) -> None:
+        """A G92 offset that is in force counts: by it machine X9 is X10, so that X6 is machine X5."""
+        self.do("G92 X10")
+        said = self.goes(10, "20", "", "yes", "yes")
+        self.assertIn("the tool is at X6 Y1 Z1 there, machine X5 Y1 Z3, by", said[2])
+        self.assertEqual(self.path()[-4:], [(5000, 1000, 3000), (5000, 5000, 3000), (0, 5000, 3000), (0, 5000, 6000)])
+
+    def test_ended_at_first(self) -> None:
+        """Where the way ends before its stop, as by a hold, nobody is asked to look, and nothing goes on."""
+        for ended in (None, "refused", "idle"):
+            with mock.patch.object(self.operator.from_line, "begins", lambda ended=ended: ended):
+                self.goes(10, "20", "", "yes")
+            self.assertEqual((len(self.face.asked), self.path()), (3, [(9000, 9000, 2000)]))
+
     def test_block_delete(self) -> None:
         """A line with a slash before it counts as it does now."""
         text = PART.replace("M8\n", "/G0 Y5\n")
