@@ -273,9 +273,10 @@ class FromLine(Core):
 
     def test_ended_at_first(self) -> None:
         """Where the way ends before its stop, as by a hold, nobody is asked to look, and nothing goes on."""
+        text = PART.replace("S800 M3", "").replace("M8", "")
         for ended in (None, "refused", "idle"):
             with mock.patch.object(self.operator.from_line, "begins", lambda ended=ended: ended):
-                self.goes(10, "20", "", "yes")
+                self.goes(10, "20", "", "yes", text=text)
             self.assertEqual((len(self.face.asked), self.path()), (3, [(9000, 9000, 2000)]))
 
     def test_block_delete(self) -> None:
