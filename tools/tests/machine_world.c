@@ -70,6 +70,7 @@ struct world {
     int64_t backlash[3]; /* so many steps a screw turns before the table follows .. */
     int64_t turned_up[3]; /* .. of which so many were turned up */
     struct work work;
+    uint64_t low;        /* these inputs are low while their contact is closed, and high else */
 };
 
 /* What the pins were set to: outputs, when the spindle began to turn, and the last pulses, each with when it was made
@@ -92,6 +93,7 @@ struct made {
 
 static volatile struct world *world;
 static volatile struct made *made;
+static volatile bool turns; /* the spindle */
 
 static int64_t now_ns(void) {
     struct timespec now;
@@ -223,6 +225,7 @@ int pins_set(const struct line *line, const char *text, size_t size) {
     (void)size;
     if (line->kind == 'S') {
         world->is_on = outputs_are_on(&line->outputs);
+        turns = line->outputs.spindle != 0;
         world->work.slot = (int64_t)line->outputs.slot;
         tell_outputs(&line->outputs);
     }
@@ -246,6 +249,7 @@ int pins_speed(const struct outputs *outputs) {
 
 int pins_off(void) {
     world->is_on = 0;
+    turns = false;
     tell_off();
     return 0;
 }
@@ -285,7 +289,7 @@ static uint32_t touching(void) {
 }
 
 int pins_inputs(uint32_t *levels) {
-    *levels = (uint32_t)(world->inputs | (world->is_on ? world->speed_high : 0));
+    *levels = (uint32_t)(world->inputs | (turns ? world->speed_high : 0));
     if (world->at_pulse != 0 && world->pulses >= world->at_pulse) {
         *levels ^= (uint32_t)world->turned;
     }
@@ -295,5 +299,6 @@ int pins_inputs(uint32_t *levels) {
         }
     }
     *levels |= touching();
+    *levels ^= (uint32_t)world->low;
     return (int)world->error;
 }

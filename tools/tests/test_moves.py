@@ -7,6 +7,7 @@ import subprocess
 import sys
 import time
 import unittest
+from collections.abc import Iterable
 from dataclasses import replace
 from pathlib import Path
 
@@ -51,6 +52,7 @@ _BACKLASH = _HEAD.size + 8 * _TOGGLE.size
 _WORK = _BACKLASH + 6 * 8
 _DEEPEST, _SOLIDS = _WORK + 12 * 8, _WORK + 19 * 8
 _GROWS = _SOLIDS + 6 * 7 * 8
+_LOW = _GROWS + 2 * 8
 BOX, POST, HOLE = 1, 2, 3
 _INPUTS, _PULSES, _AT_PULSE, _TURNED, _IS_ON, _SPEED, _ERROR, _CHANCE = range(8)
 
@@ -61,7 +63,7 @@ class World:
     def __init__(self) -> None:
         """Has switches of X and Y at -10 mm of its own, and of Z at 5 mm; the emergency stop isn't pressed: high."""
         with open("world", "wb") as file:
-            file.write(bytes(_GROWS + 2 * 8))
+            file.write(bytes(_LOW + 8))
         with open("world", "r+b") as file:
             self._bytes = mmap.mmap(file.fileno(), 0)
         self.set(_INPUTS, 1 << STOP)
@@ -90,6 +92,12 @@ class World:
     def no_switch(self, number: int) -> None:
         """Takes one away."""
         _TOGGLE.pack_into(self._bytes, _HEAD.size + number * _TOGGLE.size, *[0] * 8)
+
+    def wire(self, low: Iterable[int], at_speed: int) -> None:
+        """How inputs are wired: these are low where others are high, and high where others are low. At `at_speed` the
+        spindle tells that it turns."""
+        struct.pack_into("=Q", self._bytes, _LOW, sum(1 << number for number in low))
+        self.set(_SPEED, 1 << at_speed)
 
     @property
     def place(self) -> tuple[int, ...]:
