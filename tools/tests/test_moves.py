@@ -427,6 +427,22 @@ class Jogging(Moving):
         self.assertEqual(self.world.place, (1_000, 0, 0))
         self.ended(0)
 
+    def test_tool_right_behind_a_jog(self) -> None:
+        """So it does at once, while the record on the disk is still of before that line, and leads to before the jog.
+        """
+        self.started(changes="--untimed")
+        for slot in range(1, 9):
+            self.assertEqual(self.how(self.link.jog("X+", "600", "0.1")), "done")
+            self.wait_for("the record leads elsewhere", lambda: bool(self.link.leads()))
+            self.told()
+            self.pipe.write(b"S 0 0.000000 0 0 %d %d\n" % (slot, slot))
+            while not self.link.ask().waits:
+                pass
+            self.assertEqual(self.link.leads(), "")
+            self.link.go()
+            self.wait_for("it is through", lambda: self.link.ask().carried == slot)
+        self.ended(0)
+
     def test_power_lost_while_a_tool_is_waited_for(self) -> None:
         """Wherever they were jogged then, the record says that and where the lines lead; the next player goes there by
         legs alone, and asks for the tool again."""
