@@ -1,5 +1,5 @@
-"""docs/PAGE.md as it is written, step by step: a day, and a loss of power. In Chromium, or in Firefox where
-NGC_BROWSER says so; skipped where it isn't installed."""
+"""docs/PAGE.md as it is written, step by step, at the machine of docs/MACHINE.md: a day, and a loss of power. In
+Chromium, or in Firefox where NGC_BROWSER says so; skipped where it isn't installed."""
 import os
 import re
 import subprocess
@@ -12,6 +12,7 @@ from pathlib import Path
 sys.path.insert(0, str(Path(__file__).resolve().parent))
 
 from browser_support import ANSWERS_S, LONG, Browser, Chromium
+from documented_machine import SETTINGS, DocumentedWorld, machine_file
 from firefox_support import MISSING, PATH, started
 from page_support import OTHER, Served
 from session_support import TOOLS, ngc
@@ -25,7 +26,7 @@ MILL = reduce(lambda text, change: text.replace(*change), CHANGES, MACHINE)
 DAY = """G17 G21 G90 G94
 M3 S1000
 G0 X0 Y0
-G1 X6 F120
+G1 X15 F300
 M5
 T2 M6
 M1
@@ -36,23 +37,28 @@ M2
 """
 """Its line 4 is a cut of three seconds."""
 FROM = """G17 G21 G90 G94 G49
-G0 X0 Y0 Z5
-G1 Z3 F600
+G0 X0 Y0 Z-1
+G1 Z-2 F600
 G1 X2
 X0
-G0 Z5
+G0 Z-1
 M2
 """
 LOSS = """G17 G21 G90 G94
 M3 S1000
-G0 X2 Y2
-G1 X4 F600
-G1 X9 F60
-G1 X8 F600
+G0 X-148 Y-98 Z-2
+G1 X-146 F600
+G1 X-121 F300
+G1 X-122 F600
 M2
 """
 """Its line 5 is a cut of five seconds."""
 
+TOOLS_UM = {1: 80_000, 2: 40_000}
+"""How far each hangs below the spindle."""
+
+HOMES = 5
+HOME_FIRST = "Home first"
 PRESSES = 50
 """A jog ends where the page is silent for 0.3 s, as where others want the processors: its button is pressed anew."""
 SOON = """new Promise(done => {
@@ -73,9 +79,14 @@ def steps(title: str) -> list[str]:
     return [name.rstrip(".") for name in re.findall(r"\*\*([^*]+)\*\*", part(title))]
 
 
+def named(text: str) -> set[str]:
+    """The buttons that are named in a text."""
+    return {name for name in re.findall(r"`([^`\n]+)`", text) if re.match(r"[A-Z\u2212+]", name)}
+
+
 def buttons(title: str) -> set[str]:
     """The buttons that PAGE.md names there."""
-    return {name for name in re.findall(r"`([^`\n]+)`", part(title)) if re.match(r"[A-Z\u2212+]", name)}
+    return named(part(title))
 
 
 class Walk(Served):
@@ -86,7 +97,7 @@ class Walk(Served):
     mill = MILL  # the machine's file
 
     def setUp(self) -> None:
-        """Opens the page; the setter is at machine Z 2, where the probe is touched."""
+        """Opens the page."""
         self.done: list[str] = []
         self.pressed: set[str] = set()
         super().setUp()
@@ -101,12 +112,17 @@ class Walk(Served):
         self.browser.wait("window.ngc?.state?.yours && ngc.jobId !== null")
         self.browser.hurry()
 
+    def modelled(self) -> World:
+        """The simulated machine; the setter is at machine Z 2, where the probe is touched."""
+        world = World()
+        world.switch(3, PROBE, 2, -1, -3_000)
+        return world
+
     def begin_player(self) -> None:
         """Starts the player as PAGE.md does."""
         if not Path("world").exists():
-            self.world = World()
+            self.world = self.modelled()
             self.addCleanup(self.world.close)
-            self.world.switch(3, PROBE, 2, -1, -3_000)
         Path("motion.toml").write_text(self.mill)
         self.player = subprocess.Popen([program(), "-f", "-s", "progress", "-m", "motion.toml", "out", "first.toml",
                                         "position"], stdin=subprocess.DEVNULL, stdout=subprocess.PIPE,
@@ -154,27 +170,72 @@ class Walk(Served):
         self.press("Load", "#over .go")
         self.wait(f"s.program.lines === {text.count(chr(10))} && !s.busy && ngc.job && s.half === 'none'")
 
-    def home(self) -> None:
-        """Homes all axes."""
+
+class Documented(Walk):
+    """At the machine that docs/MACHINE.md shows, with examples/mill.toml, which PAGE.md's commands name."""
+
+    mill = machine_file()
+    world: DocumentedWorld
+    is_new = False  # so that nobody knows yet where the machine is; else it is at machine 0, with the day's tools
+
+    def device(self) -> None:
+        """A fresh device, and the settings."""
+        Path("first.toml").write_text(SETTINGS)
+        super().device()
+        if not self.is_new:
+            self.run_ngc("".join(f"tool {slot} {um // 1000}\n" for slot, um in TOOLS_UM.items()), "before")
+
+    def modelled(self) -> DocumentedWorld:
+        """The simulated machine, with two tools beside it."""
+        world = DocumentedWorld()
+        if not self.is_new:
+            world.place = (0, 0, 0)
+        for slot, um in TOOLS_UM.items():
+            world.hangs(slot, um)
+        return world
+
+    def goes_home(self, begins: Callable[[], None]) -> None:
+        """All axes come home, where the file says that they stand then. It is touched anew where the page says that
+        nobody asks any more, as where others want the processors."""
+        for _ in range(HOMES):
+            begins()
+            self.wait("s.busy")
+            self.rests()
+            if self.browser.js("ngc.state.homed") == "XYZ":
+                break
+            self.assertIn("nobody asks any more", self.browser.js("document.getElementById('detail').textContent"))
+            begins = self.presses_home
+        self.rests("s.homed === 'XYZ' && s.motors.join() === '-150.000000,-100.000000,0.000000'")
+        agree_um = self.world.file["home"]["agree_um"]
+        for table, wanted, nm in zip(self.world.place, self.world.homed, self.world.settings["step_nm"], strict=True):
+            self.assertLessEqual(abs(table - wanted) * nm, 1000 * agree_um, self.world.place)
+
+    def presses_home(self) -> None:
+        """Homes all axes, in Setup."""
+        self.tab("Setup")
         self.press("Home all", "#tab-setup button")
-        self.rests("s.homed === 'XYZ' && s.at[2] === '9.000000'")
 
 
-class Day(Walk):
-    """From home to quit."""
+class Day(Documented):
+    """From home to quit: each step, in turn, and each button that is named there."""
 
-    def day(self) -> None:
-        """Each step, in turn, and each button that is named there."""
-        for step in (self.homes, self.jogs, self.tools, self.zero, self.loads, self.runs, self.holds, self.stops,
-                     self.from_line, self.quits):
+    def sets_up(self) -> None:
+        """Up to the work's zero."""
+        for step in (self.homes, self.jogs, self.tools, self.zero):
             step()
-        self.assertEqual(self.done, steps("A day"))
-        self.assertEqual(buttons("A day") - self.pressed, set())
+        self.assertEqual(self.done, steps("A day")[:4])
+        self.assertEqual(named(part("A day").partition("\n5. ")[0]) - self.pressed, set())
+
+    def works(self) -> None:
+        """From a program on."""
+        for step in (self.loads, self.runs, self.holds, self.stops, self.from_line, self.quits):
+            step()
+        self.assertEqual(self.done, steps("A day")[4:])
+        self.assertEqual(named(part("A day").partition("\n5. ")[2]) - self.pressed, set())
 
     def homes(self) -> None:
         """All axes at their switches."""
-        self.tab("Setup")
-        self.home()
+        self.goes_home(self.presses_home)
         self.done.append("Setup: home")
 
     def jogs(self) -> None:
@@ -184,7 +245,7 @@ class Day(Walk):
         x, y = self.browser.place("X+", ".pad button")
         for _ in range(PRESSES):
             self.browser.down(x, y)
-            has_moved = self.browser.js(SOON % f"ngc.state.motors[0] > {before}")
+            has_moved = self.browser.js(SOON % f"ngc.state.motors[0] > {before} + 1")
             self.browser.up(x, y)
             if has_moved:
                 break
@@ -216,21 +277,28 @@ class Day(Walk):
         self.rests("s.slot === 1")
         self.tab("Setup")
         self.assertTrue(self.is_dead("Tool 1 stands on the setter"))  # it wasn't touched
+        self.goes("G53 G0 X140 Y90")  # above the setter, as its table in the file says
         self.press("Z\u2212", "#tab-setup .five button")
-        self.rests("s.touched?.[2] === '2.000000'")
-        self.browser.fill("input[aria-label='Machine Z of the setter, in mm']", "-48")
-        self.browser.wait("document.querySelector('#tab-setup').innerText.includes('Length 50.000 mm, 1.500 by now:"
-                          " touched at machine Z 2.000, setter at \u221248.000')")
+        self.rests("s.touched?.[2] === '-1.250000'")  # a tool of length 0 would touch it at machine Z -81.25
+        self.browser.wait("document.querySelector('#tab-setup').innerText.includes('Length 80.000 mm, 1.500 by now:"
+                          " touched at machine Z \u22121.250, setter at \u221281.250')")
         self.press("Tool 1 stands on the setter", "#tab-setup button")
         self.press("Yes: sets it", "#over button")
-        self.rests("s.tools[0] === '50.000000' && s.touched === null")  # its place counts once
+        self.rests("s.tools[0] === '80.000000' && s.touched === null")  # its place counts once
         self.assertTrue(self.is_dead("Tool 1 stands on the setter"))
-        self.browser.fill("input[aria-label='Work coordinate of what the tool stands on, in mm']", "-47.5")
+        self.browser.fill("input[aria-label='Work coordinate of what the tool stands on, in mm']", "-81")
         self.press("Tool 1 stands on the work", "#tab-setup button")
-        self.rests("Math.abs(s.tools[0] - s.at[2] - 47.5) < 1e-6 && s.tools[0] !== '50.000000'")
-        self.press("Undo: tool 1 50", "#tab-setup button")
-        self.rests("s.tools[0] === '50.000000'")
+        self.rests("Math.abs(s.tools[0] - s.at[2] - 81) < 1e-6 && s.tools[0] !== '80.000000'")
+        self.press("Undo: tool 1 80", "#tab-setup button")
+        self.rests("s.tools[0] === '80.000000'")
         self.done.append("Tools")
+
+    def goes(self, *lines: str) -> None:
+        """Goes by lines of G-code, each to its end."""
+        for line in lines:
+            self.do(line)
+            axes = {word[0]: float(word[1:]) for word in line.split()[2:]}
+            self.rests(" && ".join(f"Number(s.at[{'XYZ'.index(axis)}]) === {at}" for axis, at in axes.items()))
 
     def is_dead(self, says: str) -> bool:
         """Whether a button of Setup is disabled; all of its text is in sight."""
@@ -240,6 +308,7 @@ class Day(Walk):
 
     def zero(self) -> None:
         """This place is 0 in XY, and 2 in Z, which is taken back, and set."""
+        self.goes("G53 G0 Z0", "G53 G0 X100 Y60", "G53 G0 Z-2.5")
         self.press("Set XY", "#tab-setup button")
         self.press("Yes: moves it", "#over button")
         self.rests("s.work[0] === '0.000000' && s.work[1] === '0.000000'")
@@ -252,7 +321,7 @@ class Day(Walk):
                 self.rests("s.work[2] === s.at[2]")
         self.press("Offsets\u2026", "#tab-setup button")
         rows = "document.querySelector('#over .offsets').innerText"
-        self.browser.wait(f"{rows}.includes('G59.3') && {rows}.includes('machine here: X 0.000')")
+        self.browser.wait(f"{rows}.includes('G59.3') && {rows}.includes('machine here: X 100.000')")
         self.browser.press("Back", "#over button")
         self.done.append("Setup: work zero")
 
@@ -283,6 +352,9 @@ class Day(Walk):
 
     def runs(self) -> None:
         """The share that is done and the time left are shown; the rate and the switches are changed while it runs."""
+        self.tab("Setup")
+        self.press("Measure at tool changes", "#tab-setup button")  # else tool 2 is measured once it is in
+        self.rests("s.measures === false")
         for name in ("Optional stop", "Block delete", "Single block"):
             self.press(name, ".switches button")
         self.wait("s.optional && s.delete && s.single")
@@ -333,13 +405,13 @@ class Day(Walk):
     def from_line(self) -> None:
         """A line is touched, and the program goes on from it, by a way that is asked, behind a look."""
         self.tab("Setup")
-        self.press("Tell me at a stop, a tool change, the end", "#tab-setup button")
+        self.is_told()
         self.load(FROM)
         self.tab("Program")
         self.browser.press("X0", "#program .row")
         self.press("From line 5", "#from")
         self.pressed.add("From line 812\u2026")
-        for asked, answer in (("Up to which Z", "9"), ("How fast", "300")):
+        for asked, answer in (("Up to which Z", "-0.2"), ("How fast", "300")):
             self.browser.wait(f"document.querySelector('#over .asked').textContent.includes('{asked}')")
             self.browser.fill("#over .entry input", answer)
             self.browser.press("Go on", "#over .go")
@@ -347,8 +419,17 @@ class Day(Walk):
         self.browser.wait("document.querySelectorAll('#over .look button').length === 3")
         self.browser.js("document.querySelectorAll('#over .look button').forEach(one => one.click())")
         self.browser.press("Yes: goes there", "#over .go")
-        self.rests("s.finished && s.work[2] === '5.000000' && s.program.way[1] === 5")
+        self.rests("s.finished && s.work[2] === '-1.000000' && s.program.way[1] === 5")
         self.done.append("From a line")
+
+    def is_told(self) -> None:
+        """The browser is to tell of stops. A Chromium without a window never does: the page says so."""
+        if self.browser.js("Notification.permission") == "denied":
+            self.assertIsInstance(self.browser, Chromium)
+            self.browser.wait("document.querySelector('#tab-setup').innerText.includes('doesn\u2019t tell you of stops')")
+            self.pressed.add("Tell me at a stop, a tool change, the end")
+        else:
+            self.press("Tell me at a stop, a tool change, the end", "#tab-setup button")
 
     def quits(self) -> None:
         """What ran stands in the record; the server ends."""
@@ -363,21 +444,26 @@ class Day(Walk):
         self.done.append("Quit")
 
 
-class Loss(Walk):
+class Loss(Documented):
     """From a page that is lost to the program's end."""
 
-    def loss(self) -> None:
-        """What is said of a player that is gone, and of a page that is lost; the four steps, home first and by legs,
-        and along the path to the end; a line is given up."""
+    def home_first(self) -> None:
+        """What is said of a player that is gone; the steps after that, home first and by legs."""
         self.watches()
         self.cuts()
         self.player_gone()
         self.later()
+        wanted = named(part("Power is lost").partition("\n1. ")[0]) | buttons("More pages, and a tablet")
+        self.assertEqual((wanted | {HOME_FIRST}) - self.pressed, set())
+
+    def loss(self) -> None:
+        """What is said of a page that is lost; the four steps, along the path to the end; a line is given up."""
+        self.cuts()
         self.lose_power()
         self.along()
         self.gives_up()
         self.assertEqual(self.done, steps("Power is lost"))
-        self.assertEqual((buttons("Power is lost") | buttons("More pages, and a tablet")) - self.pressed, set())
+        self.assertEqual(named(part("Power is lost").partition("\n1. ")[2]) - {HOME_FIRST} - self.pressed, set())
 
     def watches(self) -> None:
         """Another page takes over, and this one takes over again; what becomes of a job is chosen."""
@@ -385,7 +471,6 @@ class Loss(Walk):
         self.press("Take over", "#takeover")
         self.wait("s.yours")
         self.tab("Setup")
-        self.home()
         for chosen in ("hold", "go"):
             self.press("Job goes on if this page is lost", "#tab-setup button")
             self.wait(f"s.on_loss === '{chosen}'")
@@ -394,7 +479,7 @@ class Loss(Walk):
         """The job is loaded and started, and the motors cut in line 5."""
         self.load(LOSS)
         self.press("Run", "#run")
-        self.wait("s.line === 5 && s.half === 'program' && s.motors[0] > 4.2")
+        self.wait("s.line === 5 && s.half === 'program' && s.motors[0] > -145.5")
 
     def player_gone(self) -> None:
         """The band is red until the player is started, and `ngc` again."""
@@ -411,14 +496,13 @@ class Loss(Walk):
     def later(self) -> None:
         """The machine is homed first, as it is proposed, and then the tool goes by legs."""
         self.browser.press("Next", "#over button")
-        self.press("Home first", "#over .go")
-        self.browser.press("Home", "#over button")
-        self.rests("s.homed === 'XYZ'")
+        self.press(HOME_FIRST, "#over .go")
+        self.goes_home(lambda: self.browser.press("Home", "#over button"))
         self.stored()
         self.confirmed()
         self.press("Go by legs", "#over button")
         self.agrees()
-        self.wait("s.line === 5 && s.moving && s.spindle === 1 && s.motors[0] > 4.2 && s.motors[0] < 9")
+        self.wait("s.line === 5 && s.moving && s.spindle === 1 && s.motors[0] > -145.5 && s.motors[0] < -121")
 
     def lose_power(self) -> None:
         """Power is lost: the page says so. It comes back, and the new address is opened."""
@@ -436,7 +520,7 @@ class Loss(Walk):
         self.done += ["Where it stands", "Rehearsal"]
         self.press("Go along the path", "#over button")
         self.agrees()
-        self.rests("s.finished && s.motors[0] === '8.000000'")
+        self.rests("s.finished && s.motors[0] === '-122.000000'")
         self.done.append("Step by step")
 
     def stored(self) -> None:
@@ -452,7 +536,7 @@ class Loss(Walk):
     def gives_up(self) -> None:
         """The session ends within a line, and begins again: the line counts as not begun."""
         self.press("Run", "#run")
-        self.wait("s.line === 5 && s.half === 'program' && s.motors[0] > 4.2")
+        self.wait("s.line === 5 && s.half === 'program' && s.motors[0] > -145.5")
         self.pull()
         self.begin()
         self.opened()
@@ -482,7 +566,7 @@ class Loss(Walk):
             question = self.wait(f"s.question?.id > {last} && s.question")
             last, text = question["id"], question["text"]
             if "Up to which Z" in text:
-                self.browser.fill("#over .entry input", "9.5")
+                self.browser.fill("#over .entry input", "0")
             if question["purpose"] == "look":
                 self.assertEqual(self.browser.js("[ngc.state.moving, ngc.state.spindle, ngc.state.motors.join()]"),
                                  [False, 1, stands])
@@ -493,19 +577,32 @@ class Loss(Walk):
 
 @unittest.skipUnless(PATH, MISSING)
 class Walks(Day, Loss):
-    """Both, in one browser."""
+    """All of it, in one browser; what takes longest is home, as that file has it."""
 
     @classmethod
     def setUpClass(cls) -> None:
         """Starts the browser."""
         cls.browser = started()
 
-    def test_day(self) -> None:
-        """A day, from home to quit."""
-        self.day()
+    def setUp(self) -> None:
+        """A new machine is set up."""
+        self.is_new = self._testMethodName == "test_setup"
+        super().setUp()
+
+    def test_setup(self) -> None:
+        """A day, from home to the work's zero."""
+        self.sets_up()
+
+    def test_work(self) -> None:
+        """The day goes on, from a program to quit: over a machine that stands where it was as it was switched off."""
+        self.works()
+
+    def test_home_first(self) -> None:
+        """A player that is gone amid a cut: the machine is homed before that goes on."""
+        self.home_first()
 
     def test_loss(self) -> None:
-        """A loss of power, and what else is said with it."""
+        """A loss of power, up to the program's end."""
         self.loss()
 
 
