@@ -408,10 +408,13 @@ class Day(Documented):
         self.is_told()
         self.load(FROM)
         self.tab("Program")
-        self.browser.press("X0", "#program .row")
+        for _ in range(PRESSES):
+            self.browser.press("X0", "#program .row")
+            if self.browser.js(SOON % "document.getElementById('from').textContent.includes('From line 5')"):
+                break  # else the list was drawn anew meanwhile
         self.press("From line 5", "#from")
         self.pressed.add("From line 812\u2026")
-        for asked, answer in (("Up to which Z", "-0.2"), ("How fast", "300")):
+        for asked, answer in (("Up to which Z", "0"), ("How fast", "300")):
             self.browser.wait(f"document.querySelector('#over .asked').textContent.includes('{asked}')")
             self.browser.fill("#over .entry input", answer)
             self.browser.press("Go on", "#over .go")
