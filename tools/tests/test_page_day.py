@@ -57,8 +57,9 @@ M2
 TOOLS_UM = {1: 80_000, 2: 40_000}
 """How far each hangs below the spindle."""
 
-HOMES = 5
 HOME_FIRST = "Home first"
+HOMES = 5
+"""So often home is touched at most, where others want the processors."""
 PRESSES = 50
 """A jog ends where the page is silent for 0.3 s, as where others want the processors: its button is pressed anew."""
 SOON = """new Promise(done => {
@@ -176,7 +177,12 @@ class Documented(Walk):
 
     mill = machine_file()
     world: DocumentedWorld
-    is_new = False  # so that nobody knows yet where the machine is; else it is at machine 0, with the day's tools
+    is_new = False  # it isn't known where the table is; else that is at machine 0, and the day's tools have lengths
+
+    @classmethod
+    def setUpClass(cls) -> None:
+        """Starts the browser."""
+        cls.browser = started()
 
     def device(self) -> None:
         """A fresh device, and the settings."""
@@ -429,7 +435,8 @@ class Day(Documented):
         """The browser is to tell of stops. A Chromium without a window never does: the page says so."""
         if self.browser.js("Notification.permission") == "denied":
             self.assertIsInstance(self.browser, Chromium)
-            self.browser.wait("document.querySelector('#tab-setup').innerText.includes('doesn\u2019t tell you of stops')")
+            self.browser.wait("document.querySelector('#tab-setup').innerText.includes('This browser doesn\u2019t tell"
+                              " you of stops')")
             self.pressed.add("Tell me at a stop, a tool change, the end")
         else:
             self.press("Tell me at a stop, a tool change, the end", "#tab-setup button")
@@ -579,25 +586,22 @@ class Loss(Documented):
 
 
 @unittest.skipUnless(PATH, MISSING)
-class Walks(Day, Loss):
-    """All of it, in one browser; what takes longest is home, as that file has it."""
+class NewMachine(Day):
+    """The table is somewhere, and nobody knows where yet."""
 
-    @classmethod
-    def setUpClass(cls) -> None:
-        """Starts the browser."""
-        cls.browser = started()
-
-    def setUp(self) -> None:
-        """A new machine is set up."""
-        self.is_new = self._testMethodName == "test_setup"
-        super().setUp()
+    is_new = True
 
     def test_setup(self) -> None:
         """A day, from home to the work's zero."""
         self.sets_up()
 
+
+@unittest.skipUnless(PATH, MISSING)
+class Walks(Day, Loss):
+    """What comes then, and goes wrong."""
+
     def test_work(self) -> None:
-        """The day goes on, from a program to quit: over a machine that stands where it was as it was switched off."""
+        """The day goes on, from a program to quit."""
         self.works()
 
     def test_home_first(self) -> None:
