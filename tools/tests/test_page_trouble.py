@@ -102,8 +102,9 @@ class Broken(test_page_probing.Setter):
         browser.press("From line 6", "#from")
         self.assertIn("Up to which Z, in machine mm, from 9.000000 to 10.000000?", self.asked())
         self.assertIn("in force there and not now: G43 H2; M3\n", browser.js(WORDS))
-        for asked, answer in (("Up to which Z", "9.5"), ("How fast", "600")):
+        for asked, answer, unit in (("Up to which Z", "9.5", "mm"), ("How fast", "600", "mm/min")):
             browser.wait(f"document.querySelector('#over .asked')?.textContent.includes('{asked}')")
+            self.assertEqual(browser.js("document.querySelector('#over .entry').textContent.trim()"), unit)
             browser.fill("#over .entry input", answer)
             browser.press("Go on", "#over .go")
         world.forget_reached()

@@ -46,9 +46,10 @@ function looked(question, says, yes, refuse, canAnswer, answer) {
 }
 
 function entry(question, content, refuse, canAnswer, answer) {
+  const unit = / in mm a minute\? /.test(question.text) ? ' mm/min' : ' mm';
   const value = /Nothing takes ([\d.]+):\s*$/.exec(question.text)?.[1] ?? '';
   const input = el('input', { value, inputMode: 'decimal', disabled: !canAnswer, 'aria-label': 'Answer' });
   const give = sheet.go('Go on', () => answer({ text: typedNumber(input.value) }), canAnswer && value !== '');
   input.addEventListener('input', () => { give.disabled = !canAnswer || typedNumber(input.value) === null; });
-  return { content: [...content, el('div', { class: 'entry' }, input, ' mm')], buttons: [refuse, give] };
+  return { content: [...content, el('div', { class: 'entry' }, input, unit)], buttons: [refuse, give] };
 }
