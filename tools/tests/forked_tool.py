@@ -16,8 +16,11 @@ from pathlib import Path
 from typing import NoReturn
 
 
-def forked(script: Path, *words: str) -> Callable[[], NoReturn]:
-    """What `subprocess` has to call in a child, as `preexec_fn`, which is that tool then."""
+def forked(script: Path, *words: str) -> Callable[[], NoReturn] | None:
+    """What `subprocess` has to call in a child, as `preexec_fn`, which is that tool then; nothing where the tool is to
+    have a library before its own, which a fork can't load."""
+    if "LD_PRELOAD" in os.environ:
+        return None
     import_module(f"ngc_tools.cli.{script.name.removeprefix('ngc-').replace('-', '_')}")
     return lambda: become(script, *words)
 

@@ -103,12 +103,12 @@ class InFolder(unittest.TestCase):
 
     def tool(self, name: str, *words: str, text: str = "") -> subprocess.CompletedProcess[str]:
         """Runs a tool to its end."""
-        return subprocess.run([name, *words], input=text, capture_output=True, text=True, timeout=PATIENCE_S,
-                              preexec_fn=forked(TOOLS / name, *words))
+        return subprocess.run([sys.executable, TOOLS / name, *words], input=text, capture_output=True, text=True,
+                              timeout=PATIENCE_S, preexec_fn=forked(TOOLS / name, *words))
 
     def start(self, name: str, *words: str) -> subprocess.Popen[str]:
         """Starts a tool, and ends it with the test."""
-        return self.started(name, *words, become=forked(TOOLS / name, *words))
+        return self.started(sys.executable, str(TOOLS / name), *words, become=forked(TOOLS / name, *words))
 
     def started(self, *command: str, become: Callable[[], None] | None = None) -> subprocess.Popen[str]:
         """Starts a program, or a fork that is to become one, and ends it with the test."""
