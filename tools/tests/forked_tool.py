@@ -1,5 +1,5 @@
-"""Tools that are begun in a fork of the tests' process, which has loaded them: to load one anew takes Python longer than
-what most tests ask of it. `test_tools`, `test_odd` and `test_documents` begin them by their scripts."""
+"""Tools that are begun in a fork of the tests' process, which has loaded them: to load one anew takes Python longer
+than what most tests ask of it. `test_tools`, `test_odd` and `test_documents` begin them by their scripts."""
 import atexit
 import gc
 import os

@@ -135,8 +135,8 @@ static bool lead_elsewhere(const struct player *player, int64_t nm[3]) {
     return player->has_path && memcmp(player->path, player->steps, sizeof player->path) != 0;
 }
 
-/* What the record on the disk counts, and where the lines lead by now: one that was taken since then leads on from where
- * the motors are. */
+/* What the record on the disk counts, and where the lines lead by now: one that was taken since then leads on from
+ * where the motors are. */
 static int kept(struct player *player, char *text, size_t room, const char *question) {
     int64_t nm[3];
     char place[PLACE_ROOM];
