@@ -1,5 +1,7 @@
 """What a page asks for is done once, though a connection breaks before it is answered, and it is sent again: by the
 server, and by the page in Chromium, or in Firefox where NGC_BROWSER says so."""
+import asyncio
+import gc
 import re
 import socket
 import sys
@@ -7,6 +9,7 @@ import threading
 import unittest
 from contextlib import suppress
 from pathlib import Path
+from types import SimpleNamespace
 
 sys.path.insert(0, str(Path(__file__).resolve().parent))
 
@@ -15,6 +18,8 @@ import test_page_browser
 from page_support import Served
 from session_support import PATIENCE_S
 from test_page_measure import SETTER, OverWorld
+
+from ngc_tools.page.server import Server
 
 JOG = {"axis": "X", "sign": 1, "rate": "600", "length": "2"}
 PROXY = "127.0.0.2"
@@ -108,6 +113,36 @@ class Lines(Again, OverWorld):
         self.seen.rested()
         self.assertEqual(self.seen.post("measure", X_Stamp=stamp, X_Touch="touch-measure"), (200, {}))
         self.assertEqual((self.seen.rested()["question"], self.world.place), (None, (0, 0, 0)))
+
+
+class Unheard(unittest.TestCase):
+    """A refusal that nobody waits for any more."""
+
+    def test_refused(self) -> None:
+        """It is no fault of the server, which would be told of; who asks again by this touch is refused too."""
+        told, server = [], SimpleNamespace(_touched={})
+
+        async def refuse() -> dict:
+            await asyncio.sleep(0.01)
+            raise ValueError("not now")
+
+        async def ask() -> None:
+            asyncio.get_running_loop().set_exception_handler(lambda _, context: told.append(context))
+            asked = asyncio.ensure_future(Server.once(server, "page", "touch", refuse()))
+            await asyncio.sleep(0)
+            asked.cancel()
+            await asyncio.wait([asked, *server._touched.values()])
+            with self.assertRaises(ValueError):
+                await Server.once(server, "page", "touch", refuse())
+            asked = asyncio.ensure_future(Server.once(server, "page", "third", refuse()))
+            await asyncio.sleep(0)
+            asked.cancel()
+            await asyncio.sleep(0.05)
+            server._touched.clear()
+            gc.collect()
+
+        asyncio.run(ask())
+        self.assertEqual(told, [])
 
 
 class Cutting:

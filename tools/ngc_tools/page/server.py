@@ -240,7 +240,8 @@ class Server:
         if (page, touch) in self._touched:
             does.close()
         else:
-            self._touched[page, touch] = asyncio.ensure_future(does)
+            self._touched[page, touch] = task = asyncio.ensure_future(does)
+            task.add_done_callback(lambda done: done.cancelled() or done.exception())  # who asked may be gone
             for old in list(self._touched)[:-_TOUCHES]:
                 del self._touched[old]
         return await asyncio.shield(self._touched[page, touch])  # it is done to its end, whatever breaks
