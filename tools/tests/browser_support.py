@@ -24,7 +24,8 @@ NAMES = ("chromium-headless-shell", "chromium", "chromium-browser", "google-chro
 """The first has no window and takes half the processor time: Debian's package of that name."""
 WORDS = ("--headless=new", "--no-sandbox", "--disable-gpu", "--no-first-run", "--disable-background-networking",
          "--disable-component-update", "--disable-sync", "--disable-extensions", "--hide-scrollbars", "--mute-audio",
-         "--disable-dev-shm-usage", "--remote-debugging-pipe")
+         "--disable-dev-shm-usage", "--force-prefers-reduced-motion", "--remote-debugging-pipe")
+"""Nothing on the page moves by itself: it would be drawn 60 times a second."""
 _POINT = """(() => {
     const found = [...document.querySelectorAll(%s)].filter(one => one.offsetParent !== null && !one.disabled
         && !one.closest('[inert]') && one.textContent.includes(%s)).pop();
