@@ -15,7 +15,7 @@ sys.path.insert(0, str(Path(__file__).resolve().parent))
 from out_support import text_of
 from page_support import OTHER, Page, Served
 from session_support import PATIENCE_S, ngc
-from test_moves import AT_SPEED, DOOR, MACHINE, X_LOW, World, program
+from test_moves import AT_SPEED, DOOR, MACHINE, STOP, X_LOW, World, program
 
 from ngc_tools.link.progress import Link
 
@@ -416,6 +416,41 @@ class Known(Served):
         state = page.until("it is homed", lambda state: state["homed"] == "XYZ" and not state["busy"])
         self.assertEqual((state["word"], state["stale"], state["known"]), ("Idle", None, True))
         self.assertEqual((state["past_mm"], state["past_axes"]), ("", [False] * 3))
+
+    def opens(self, page: Page) -> dict:
+        """The door is opened, and closed once the page knows: the state then, and before."""
+        self.world.put(DOOR, True)
+        page.until("it is open", lambda state: state["door_open"] and not state["can"]["home"])
+        self.world.put(DOOR, False)
+        return page.until("it is closed", lambda state: not state["door_open"])
+
+    def test_door_in_an_alarm(self) -> None:
+        """The door is opened after an emergency stop, to look: nothing homes then, and once it is closed home leads
+        back, though the door holds the motors till somebody asks to go on."""
+        page = self.page()
+        self.world.put(STOP, False)
+        page.until("it is told", lambda state: state["alarm"])
+        self.world.put(STOP, True)
+        page.until("it is free", lambda state: not state["inputs"])
+        self.assertTrue(self.opens(page)["can"]["home"])
+        self.assertEqual(page.post("home", {}), (200, {}))
+        state = page.until("it is homed", lambda state: state["homed"] == "XYZ" and not state["busy"])
+        self.assertEqual((state["word"], state["alarm"]), ("Idle", ""))
+
+    def test_door_at_two_places(self) -> None:
+        """So a jog goes where the motors rest elsewhere than is known."""
+        page = self.page()
+        page.post("jog", {"axis": "X", "sign": 1, "rate": "600", "length": "9"})
+        page.until("it jogs", lambda state: float(state["motors"][0]) > 1)
+        self.wait_for("the record has it", lambda: self.recorded().at_nm[0] > 0)
+        self.pull()
+        self.begin()
+        page = self.page(OTHER)
+        page.until("two places are told", lambda state: state["word"] == "Two places")
+        state = self.opens(page)
+        self.assertTrue(state["can"]["jog"])
+        self.assertEqual(page.post("jog", {"axis": "Y", "sign": 1, "rate": "600", "length": "1"}), (200, {}))
+        page.until("it is there", lambda now: float(now["motors"][1]) == float(state["motors"][1]) + 1)
 
     def test_ended_with_its_session(self) -> None:
         """A jog whose server is gone ends as the next session begins, though somebody goes on to ask the player how it

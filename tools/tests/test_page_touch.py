@@ -282,7 +282,8 @@ class Fingers(test_page_browser.Moves):
         off = "[...document.querySelectorAll('%s')].map(one => one.disabled)"
         for entry, buttons, count in (("Work coordinate of this place, in mm", ".part:has(.hint) .four button", 4),
                                       ("How far the probe is sought, in mm", ".five button", 5)):
-            for text, is_off in (("x", True), ("", True), ("2,5", False)):
+            leads_nowhere = [(text, True) for text in ("0", "-40") if count == 5]
+            for text, is_off in (("x", True), ("", True), *leads_nowhere, ("2,5", False)):
                 browser.fill(f"input[aria-label='{entry}']", text)
                 self.assertEqual(browser.js(off % buttons), [is_off] * count, (entry, text))
                 self.assertEqual(browser.js("document.querySelectorAll('#tab-setup input.wrong').length"), int(is_off))

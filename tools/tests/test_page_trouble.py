@@ -200,6 +200,16 @@ class Named(test_page_browser.Moves):
         self.names("ALARM", "Emergency stop. ", "ALARM", "Not-Halt. ")
         self.is_freed()
 
+    def test_door_in_an_alarm(self) -> None:
+        """The way back is dead while the door is open, and says so."""
+        home = "document.querySelector('#over .foot .go')"
+        self.alarms("emergency_stop", "door")
+        self.browser.wait(f"{home}?.textContent === 'Home' && {home}.disabled && document.querySelector('#over .warn')"
+                          "?.textContent === 'The door is open: nothing moves until it is closed.'")
+        self.alarms("emergency_stop")
+        self.browser.wait(f"!{home}.disabled && !document.querySelector('#over .warn')")
+        self.is_freed()
+
     def test_moves(self) -> None:
         """Home by the axis that goes, a jog by its way; and the door."""
         browser, axes = self.browser, self.machine.axes

@@ -50,6 +50,7 @@ class AtChange:
         height = max(at[2], end[2]) if is_above else max(at[2], end[2], self.ways.top_nm)
         if not self.session.agrees(_straight(at, end) if is_above else _over(at, end, height)):
             return False
+        self.moves.motors.release()
         try:
             for axis, nm, rate in ((2, height, _OVER_MM_MIN), (0, end[0], _OVER_MM_MIN), (1, end[1], _OVER_MM_MIN),
                                    (2, end[2], _DOWN_MM_MIN)):

@@ -8,7 +8,7 @@ from ngc_tools.formats.settings import Settings
 from ngc_tools.job.figures import millimetres as rounded
 from ngc_tools.operator.face import REFUSED, WARNING, WHERE
 from ngc_tools.operator.session import ALARM, BROKEN, Session
-from ngc_tools.link.progress import SPINDLE_PERCENTS, UNSURE, NoAnswer, Report
+from ngc_tools.link.progress import MOVED, SPINDLE_PERCENTS, UNSURE, NoAnswer, Report
 
 PERCENTS = range(1, MOST_PERCENTS[-1] + 1)
 """What an override may be, in percent of OUT's rates. A player takes no more than its `most_percent`."""
@@ -117,14 +117,15 @@ class Motors:
 
     def are_free(self) -> bool:
         """Whether what is handed out now would be carried out at once. With nothing in hand held motors are let go;
-        else it says why not."""
-        if not self.are_held:
+        else it says why not. Of motors that moved without lines a player doesn't tell whether they are held."""
+        if not self.are_held and not self.session.is_in(MOVED, UNSURE):
             return True
         report = self.session.report()
-        if report and report.behind:
+        if report is None or not report.behind:
+            self.release()
+        elif self.are_held:
             self.say_held(report)
             return False
-        self.release()
         return True
 
     def say_held(self, report: Report) -> None:

@@ -34,12 +34,12 @@ export class Alarm {
   home() {
     this.opens();
     this.frees = el('div');
-    this.start = sheet.go('Home', () => { sheet.close(); this.asks('home', { axes: '' }); }, false);
+    const start = sheet.go('Home', () => { sheet.close(); this.asks('home', { axes: '' }); });
     sheet.open('Home all axes?', [sheet.lead(this.s.came_by), this.frees,
       sheet.said('Where the tool stands in the work, free it by hand first. Then each axis goes to its switch, in the '
         + 'order of the machine\u2019s file, and away from one that is on.'),
       sheet.said('What was under way is half-done after that, and the page leads on, as after a loss of power.')],
-    [sheet.button('Back', sheet.close), sheet.gap('Nothing moves yet.'), this.start]);
+    [sheet.button('Back', sheet.close), sheet.gap('Nothing moves yet.'), sheet.asking('home', start)]);
     this.showFrees();
   }
 
@@ -49,9 +49,9 @@ export class Alarm {
     const limits = inputs.filter(name => name.startsWith('limit')).map(name => name.replaceAll('_', ' '));
     this.frees.replaceChildren(...[
       isStopped && sheet.warning('The emergency stop is on. Release it, once all is safe.', 'bad'),
+      this.s.door_open && sheet.warning('The door is open: nothing moves until it is closed.'),
       limits.length && sheet.warning(`On: ${limits.join(', ')}. Home leads away from its own switches alone; free an `
         + 'axis that stands on another one by hand.')].filter(Boolean));
-    this.start.disabled = isStopped || !this.s.yours || this.s.busy;
   }
 
   // Asks where the axes stand that aren't homed. Nothing stands in an entry but what somebody writes.
@@ -71,10 +71,10 @@ export class Alarm {
 
   row(axis, entry) {
     const counts = mm((this.s.motors ?? this.s.at)[AXES.indexOf(axis)]);
-    const home = sheet.button(`Home ${axis}`, () => {
+    const home = sheet.asking('home', sheet.button(`Home ${axis}`, () => {
       this.close();
       this.asks('home', { axes: axis });
-    });
+    }));
     return el('div', { class: 'confirm' }, el('b', {}, axis), entry, home,
       el('small', {}, `not homed; the player counts ${counts}`));
   }

@@ -96,7 +96,9 @@ export class Setup {
     this.jog.enable(may(s, 'jog'), isBusy, s.ends);
     this.keys.show(s);
     this.within.disabled = !may(s, 'seek');
-    for (const one of this.seeks) one.disabled = this.within.disabled || typed(this.within) === null;
+    const leads = isWay(this.within);
+    this.within.classList.toggle('wrong', !leads);
+    for (const one of this.seeks) one.disabled = this.within.disabled || !leads;
     this.work.disabled = !may(s, 'measure'); // a sheet, where a routine is dead as long as the probe isn't in
     this.work.hidden = !s.ball;
     this.probing.show(may(s, 'probe'), whyNoProbe(s), whyNoZ(s));
@@ -167,11 +169,12 @@ export class Setup {
   showMeasure(s) {
     const hasSetter = s.measures !== null && s.measures !== undefined;
     for (const one of [this.measure, this.from, this.measures]) one.hidden = !hasSetter;
+    const isGood = one => (one === this.deep ? isWay(one) : typedLength(one.value) !== null);
     for (const one of [this.down, this.deep]) {
       one.disabled = !may(s, 'tool'); // a setting, as a tool's length is
-      one.classList.toggle('wrong', one.value.trim() !== '' && typedLength(one.value) === null);
+      one.classList.toggle('wrong', one.value.trim() !== '' && !isGood(one));
     }
-    this.keep.disabled = !may(s, 'tool') || [this.down, this.deep].some(one => typedLength(one.value) === null);
+    this.keep.disabled = !may(s, 'tool') || ![this.down, this.deep].every(isGood);
     this.measure.disabled = !may(s, 'measure') || !s.slot;
     text(this.measure, s.slot ? `Measure tool ${s.slot}\u2026` : 'Measure the tool');
     means(this.measure, this.measure.textContent);
@@ -253,6 +256,9 @@ function toggle(says, does) {
 const isChosen = one => one.getAttribute('aria-checked') === 'true';
 
 const flip = one => one.setAttribute('aria-checked', String(!isChosen(one)));
+
+// Whether an entry has a length that leads somewhere.
+const isWay = input => (typedNanometres(input.value) ?? 0n) > 0n;
 
 // The number of an entry; null, which is shown, if it is none.
 function typed(input) {
