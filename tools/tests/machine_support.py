@@ -214,6 +214,9 @@ class MachineLink:
         """Stops."""
         self.axes.take(["stop"])
 
+    def release(self) -> None:
+        """Nothing holds it."""
+
     def last(self) -> None:
         """Nothing more comes for now."""
 

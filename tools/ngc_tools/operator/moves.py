@@ -107,7 +107,9 @@ class Moves:
             self.session.face.say("no player is known: --player SOCKET")
             return False
         status = self.session.console.status()
-        if self.session.is_in(ALARM, BROKEN) or word in _AT_CHANGE and self._is_at_change():
+        if self.session.is_in(ALARM, BROKEN):
+            return True
+        if word in _AT_CHANGE and self._is_at_change():
             self.motors.release()  # its player doesn't tell then whether a door that was open holds them
             return True
         if status.does not in ("idle", "stopped"):
