@@ -1031,6 +1031,28 @@ class Faces(unittest.TestCase):
         self.assertFalse(self.face.answer(1, "here"))
 
 
+class Told(unittest.TestCase):
+    """What a page is told of the log."""
+
+    def test_question(self) -> None:
+        """With a question that is asked as the page is told comes what was said before it, and nothing that came later
+        than the rest."""
+        face, pages = PageFace(), MagicMock(commands=PAGE, on_loss="holds")
+        face.say("it would stop at line 3", REFUSED)
+        for asks, heard in ((True, ["it would stop at line 3", "look at the travel"]),
+                            (False, ["it would stop at line 3"])):
+            def stands(*_: object, asks: bool = asks) -> dict:
+                face.say("look at the travel")
+                return {"question": {"id": 10**6} if asks else None}
+
+            with patch.object(server_module, "state_of", stands):
+                said, last = server_module.Server.state(SimpleNamespace(session=SimpleNamespace(face=face), pages=pages),
+                                                        PAGE, 0)
+            self.assertEqual([entry["text"] for entry in json.loads(said)["log"]], heard)
+            self.assertEqual(last, json.loads(said)["log"][-1]["id"])
+            face.log.pop()
+
+
 class Given(unittest.TestCase):
     """What is given to a session while something runs."""
 

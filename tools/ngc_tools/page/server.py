@@ -211,12 +211,15 @@ class Server:
 
     def state(self, page: str, told: int) -> tuple[bytes, int]:
         """What a page shows, with the entries of the log behind the one that it was told last, and the last one now.
-        All of it is at least as new as its `now`."""
-        log = [asdict(entry) for entry in list(self.session.face.log) if entry.id > told]
+        All of it is at least as new as its `now`. With a question come the entries before it: its sheet has them."""
+        entries = self.session.face.log
+        newest = max((entry.id for entry in list(entries)), default=0)
         pages = {"yours": self.pages.commands == page, "pages": len(self.pages), "on_loss": self.pages.on_loss,
-                 "stamp": str(self.pages.stamp()), "log": log, "now": time.time()}
+                 "stamp": str(self.pages.stamp()), "now": time.time()}
         said = state_of(self.session, page) | pages
-        return packed(said), log[-1]["id"] if log else told
+        before = said["question"]["id"] if said["question"] else 0
+        log = [asdict(entry) for entry in list(entries) if told < entry.id < max(newest + 1, before)]
+        return packed(said | {"log": log}), log[-1]["id"] if log else told
 
     async def changed(self, seen: int) -> int:
         """Waits until there is something new behind a version, or a stamp is due; returns the version."""
