@@ -353,6 +353,9 @@ class Misbehaves(OverBodies):
         self.opens(title)
         return self.agrees_to({"At most": within})
 
+    def while_asked(self) -> None:
+        """What comes while it is asked whether a routine begins: nothing."""
+
     def agrees_to(self, lengths: dict[str, float]) -> list[tuple[int, int]]:
         """The same of the routine whose sheet is open, with lengths by how their entries begin."""
         browser = self.browser
@@ -362,6 +365,7 @@ class Misbehaves(OverBodies):
         named = {axis: (nanometres(low) // MM, nanometres(high) // MM)
                  for axis, low, high in re.findall(r"([XYZ]) from (\S+) to (\S+) \(", self.asked())}
         self.assertTrue(named)
+        self.while_asked()
         place = self.world.place
         self.world.forget_reached()
         browser.press("Yes: begins", "#over .go")

@@ -53,8 +53,8 @@ class EachRoutine(test_page_probing.Misbehaves):
     test_probe = test_where_touched = None
 
     def on_at_first(self) -> None:
-        """It is on before."""
-        self.puts_probe(True)
+        """It comes on before, as it is asked whether to begin: else the page's button is dead."""
+        self.while_asked = lambda: self.puts_probe(True)
 
     def never(self) -> None:
         """It never comes on."""
@@ -83,6 +83,7 @@ class EachRoutine(test_page_probing.Misbehaves):
             self.world.solid(number, kind, *(tuple(round(at * MM) for at in end) for end in ends))
         self.world.touching(PROBE)
         self.world.set(_AT_PULSE, 0)
+        self.while_asked = super().while_asked
         self.puts_probe(False)
 
     def walks(self, *cases: Case) -> None:
