@@ -825,7 +825,7 @@ class Alarms(Moving):
     def test_door(self) -> None:
         """It holds by a ramp, and isn't released while it is open."""
         self.started()
-        self.pipe.write(b"P 1 0 0 100\n" * 5_000)
+        self.pipe.write(b"P 1 0 0 100\n" * 20_000)
         self.wait_for("it moves", lambda: self.world.place[0] > 100)
         self.world.put(DOOR, True)
         self.wait_for("it is held", lambda: self.link.ask().is_held)
@@ -837,7 +837,7 @@ class Alarms(Moving):
         self.assertEqual((self.world.place, self.link.ask().is_held), (place, True))
         self.link.release()
         self.link.last()
-        self.wait_for("it goes on", lambda: self.link.ask().carried == 5_000)
+        self.wait_for("it goes on", lambda: self.link.ask().carried == 20_000)
         self.world.put(DOOR, True)
         self.wait_for("it is open", lambda: bool(self.link.machine().on))
         self.assertEqual(self.how(self.link.jog("X+", "60", "1")), "refused: the door is open")

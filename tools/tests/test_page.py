@@ -1065,6 +1065,20 @@ class Given(unittest.TestCase):
         session._do(SessionCommand("tool", lambda: done.append("tool"), 0, 0))
         self.assertEqual((done, session.face.asides()), (["tool", "percent 50"], []))
 
+    def test_aside_behind_a_hold(self) -> None:
+        """What was given behind a hold, as `off` at a question, isn't held by it; what was given before it is."""
+        session, held = PageSession.__new__(PageSession), []
+        session.face, session.stand = PageFace(), SimpleNamespace(status=None)
+        def does(line: str) -> None:
+            held.append((str(line), session.face.interrupted()))
+
+        session.operator = SimpleNamespace(do=does, over=False, runs=SimpleNamespace(ends=0))
+        session.face.give_aside("single on")
+        session.face.hold()
+        session.face.give_aside("off")
+        session._do(SessionCommand("tool", lambda: does("tool"), 0, 0))
+        self.assertEqual(held, [("tool", True), ("single on", True), ("off", False)])
+
     def test_late(self) -> None:
         """What is given once a command is through, while the session looks how all stands, is done then, before the
         next one."""

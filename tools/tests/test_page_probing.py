@@ -113,6 +113,8 @@ class Sheets(test_page_browser.Moves):
         browser.fill(entry, "1")
         browser.press("Set", gives)
         browser.wait("ngc.state.ball.diameter === '1.000000' && !document.querySelector('#tab-tools .warn')")
+        browser.fill(entry, "1.0")
+        self.assertTrue(browser.js(f"document.querySelector('{gives}').disabled"), "it is so already")
         self.assertIn('[T1]\ndiameter_nm = 1000000\ntip = "ball"\n', Path("first.shapes").read_text())
         self.no_complaints()
 

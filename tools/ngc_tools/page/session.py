@@ -596,6 +596,7 @@ class PageSession:
         try:
             command.result = command.does()
             for line in self._come_late():
+                self.face.level.begin(line.holds)
                 self.operator.do(line)
         except Ended:
             raise

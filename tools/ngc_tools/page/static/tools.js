@@ -26,9 +26,9 @@ function ball({ ball: { slot, diameter, wrong }, yours }, asks) {
   };
   const button = el('button', { onclick: give }, 'Set');
   const check = () => {
-    const isRight = (typedNanometres(input.value) ?? 0n) > 0n;
+    const typed = typedNanometres(input.value) ?? 0n, isRight = typed > 0n;
     input.classList.toggle('wrong', !isRight && input.value.trim() !== '');
-    button.disabled = !yours || !isRight;
+    button.disabled = !yours || !isRight || diameter !== null && typed === nanometres(diameter);
   };
   input.addEventListener('input', check);
   check();
