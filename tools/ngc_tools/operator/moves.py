@@ -110,7 +110,8 @@ class Moves:
         if self.session.is_in(ALARM, BROKEN):
             return True
         if word in _AT_CHANGE and self._is_at_change():
-            self.motors.release()  # its player doesn't tell then whether a door that was open holds them
+            if not self.motors.is_told:
+                self.motors.release()  # its player doesn't tell then whether a door that was open holds them
             return True
         if status.does not in ("idle", "stopped"):
             self._refuse(busy(self.session, status, word))

@@ -8,7 +8,7 @@
 #include "motors.h"
 #include "moves.h"
 #include "off.h"
-#include "out_lines.h"
+#include "out_end.h"
 #include "waits.h"
 
 static struct moves moves;

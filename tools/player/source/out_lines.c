@@ -1,18 +1,17 @@
 #define _GNU_SOURCE
 #include "out_lines.h"
 
-#include <inttypes.h>
 #include <poll.h>
 #include <stdatomic.h>
 #include <string.h>
 #include <sys/eventfd.h>
 
-#include "answers.h"
 #include "engine.h"
 #include "errand_moves.h"
 #include "manual_moves.h"
 #include "motors.h"
 #include "off.h"
+#include "out_end.h"
 #include "waits.h"
 #include "window.h"
 
@@ -31,30 +30,6 @@ static bool is_dry;       /* .. and came to rest, as there were no more lines */
 static void end_here(void) {
     engine_end_here(&engine);
     ended = engine.end;
-}
-
-/* Whether OUT, of which nothing is in hand and which nobody writes any more, has ended: at once where spindle and
- * coolant are off, else some time after the last writer and the last question. */
-static enum end end_of_session(struct play *play, bool *has_ended) {
-    struct player *shared = play->player;
-    bool is_on = outputs_are_on(&shared->outputs);
-    answers_catch_up(shared);
-    bool was_asked = atomic_load(&shared->asked_at) != 0;
-    *has_ended = source_ends(&shared->source);
-    if (*has_ended) {
-        return CONTINUES;
-    }
-    if (!have_seconds_passed(play) && is_on) {
-        poll(NULL, 0, SLICE_MS); /* the poll of a pipe that nobody writes doesn't wait */
-        return CONTINUES;
-    }
-    *has_ended = true;
-    if (atomic_load(&shared->has_ended) || (!was_asked && !is_on)) {
-        return CONTINUES;
-    }
-    note_stop(play, "console");
-    because(&play->why, "the console is gone without a word, after line %" PRIu64 ";", shared->lines);
-    return STOPPED;
 }
 
 /* Takes the next line, with its newline, if one stands in OUT. */
@@ -102,31 +77,6 @@ static enum end await_more(struct play *play, bool *has_ended) {
     }
     play->left_at = 0;
     return CONTINUES;
-}
-
-enum end stop_at_line(struct play *play, const struct cause *what) {
-    if (source_error() != 0 && heed_stops(play)) {
-        return STOPPED;
-    }
-    note_stop(play, "line");
-    because(&play->why, ":%" PRIu64 ": %.*s; stopped,", play->player->lines + 1, CAUSE_ROOM - 64, what->text);
-    return STOPPED;
-}
-
-/* At OUT's end: a part of a line isn't carried out. */
-static enum end end_of_out(struct play *play) {
-    char quoted[QUOTED];
-    struct cause what;
-    size_t size = 0;
-    player_lock(play->player);
-    const char *part = source_part(&play->player->source, &size);
-    quote(quoted, sizeof quoted, part, size);
-    player_unlock(play->player);
-    if (size == 0) {
-        return CONTINUES;
-    }
-    because(&what, "OUT ends in a part of a line: %s", quoted);
-    return stop_at_line(play, &what);
 }
 
 /* Reads a line that was taken. Returns false, with the cause, for one that isn't a line, or whose time is too long for

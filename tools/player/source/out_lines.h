@@ -10,7 +10,4 @@ void out_lines_begin(struct play *play);
 /* Carries them out until OUT ends, or the play has to stop. */
 enum end carry_out_lines(struct play *play);
 
-/* Stops at a line that isn't one. */
-enum end stop_at_line(struct play *play, const struct cause *what);
-
 #endif
