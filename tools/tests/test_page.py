@@ -1046,8 +1046,8 @@ class Told(unittest.TestCase):
                 return {"question": {"id": 10**6} if asks else None}
 
             with patch.object(server_module, "state_of", stands):
-                said, last = server_module.Server.state(SimpleNamespace(session=SimpleNamespace(face=face), pages=pages),
-                                                        PAGE, 0)
+                server = SimpleNamespace(session=SimpleNamespace(face=face), pages=pages)
+                said, last = server_module.Server.state(server, PAGE, 0)
             self.assertEqual([entry["text"] for entry in json.loads(said)["log"]], heard)
             self.assertEqual(last, json.loads(said)["log"][-1]["id"])
             face.log.pop()

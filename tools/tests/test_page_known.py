@@ -301,7 +301,8 @@ class Known(Served):
         self.assertEqual(page.post("abandon"), (200, {}))
         state = page.until("it is given up", lambda state: state["half"] == "none" and not state["busy"])
         self.assertEqual((state["word"], state["can"]["stop"]), ("Held", True))
-        self.assertRegex(state["detail"], r"^Recover has them carry out [\d,]+ lines in hand first; Stop lets go of these$")
+        self.assertRegex(state["detail"],
+                         r"^Recover has them carry out [\d,]+ lines in hand first; Stop lets go of these$")
         self.assertEqual(page.post("stop"), (200, {}))
         page.agree(page.asked())
         state = page.until("they are let go", lambda state: not state["busy"] and not state["behind"])
