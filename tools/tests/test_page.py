@@ -1315,7 +1315,7 @@ class Moments(unittest.TestCase):
         clock = itertools.count(100)
         face, pages = SimpleNamespace(log=[]), MagicMock(commands=PAGE, on_loss="hold", __len__=lambda _: 1)
         server = SimpleNamespace(session=SimpleNamespace(face=face), pages=pages)
-        with (patch("ngc_tools.page.server.state_of", lambda *_: {"seen_at": next(clock)}),
+        with (patch("ngc_tools.page.server.state_of", lambda *_: {"seen_at": next(clock), "question": None}),
               patch("ngc_tools.page.server.time", SimpleNamespace(time=lambda: next(clock)))):
             text, _ = server_module.Server.state(server, PAGE, 0)
         state = json.loads(text)
