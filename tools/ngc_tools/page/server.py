@@ -217,7 +217,8 @@ class Server:
         pages = {"yours": self.pages.commands == page, "pages": len(self.pages), "on_loss": self.pages.on_loss,
                  "stamp": str(self.pages.stamp()), "now": time.time()}
         said = state_of(self.session, page) | pages
-        before = said["question"]["id"] if said["question"] else 0
+        question = said.get("question")
+        before = question["id"] if question else 0
         log = [asdict(entry) for entry in list(entries) if told < entry.id < max(newest + 1, before)]
         return packed(said | {"log": log}), log[-1]["id"] if log else told
 
