@@ -82,6 +82,16 @@ class Known(Served):
         self.assertEqual(page.post("run"), (200, {}))
         return page.until("it cuts", lambda state: float(state["motors"][0]) > x_mm)
 
+    def cut_off(self) -> Page:
+        """Power is lost amid a jog. The page of the session after that."""
+        page = self.page()
+        page.post("jog", {"axis": "X", "sign": 1, "rate": "600", "length": "9"})
+        page.until("it jogs", lambda state: float(state["motors"][0]) > 1)
+        self.wait_for("the record has it", lambda: self.recorded().at_nm[0] > 0)
+        self.pull()
+        self.begin()
+        return self.page(OTHER)
+
     def stopped(self, page: Page) -> dict:
         """The state once the motors rest, held."""
         return page.until("they rest", lambda state: state["held_motors"] and state["word"] != "Running")
@@ -211,13 +221,7 @@ class Known(Served):
     def test_gone_before_it_is_told(self) -> None:
         """A player that began again by its record alone, and is gone before anybody told where the motors are: its
         place is shown with how far the record may be off, and not as one that was known."""
-        page = self.page()
-        page.post("jog", {"axis": "X", "sign": 1, "rate": "600", "length": "9"})
-        page.until("it jogs", lambda state: float(state["motors"][0]) > 1)
-        self.wait_for("the record has it", lambda: self.recorded().at_nm[0] > 0)
-        self.pull()
-        self.begin()
-        page = self.page(OTHER)
+        page = self.cut_off()
         page.until("two places are told", lambda state: state["word"] == "Two places")
         os.kill(self.player.pid, signal.SIGKILL)
         state = page.until("it is gone", lambda state: state["player_gone"])
@@ -395,13 +399,7 @@ class Known(Served):
     def test_home_from_two_places(self) -> None:
         """Power is lost in a jog: until home is through the place isn't told as known, and one that is held amid it
         leaves two places, and how far each axis that isn't homed may be off."""
-        page = self.page()
-        page.post("jog", {"axis": "X", "sign": 1, "rate": "600", "length": "9"})
-        page.until("it jogs", lambda state: float(state["motors"][0]) > 1)
-        self.wait_for("the record has it", lambda: self.recorded().at_nm[0] > 0)
-        self.pull()
-        self.begin()
-        page = self.page(OTHER)
+        page = self.cut_off()
         for ends, name, more in (("hold", "flood", 0), ("home", "coolant off", 1)):
             state = page.until("two places are told", lambda state: state["word"] == "Two places")
             self.assertEqual((float(state["past_mm"] or 0) > 0, state["past_axes"]), (True, [True] * 3))
@@ -440,13 +438,7 @@ class Known(Served):
 
     def test_door_at_two_places(self) -> None:
         """So a jog goes where the motors rest elsewhere than is known."""
-        page = self.page()
-        page.post("jog", {"axis": "X", "sign": 1, "rate": "600", "length": "9"})
-        page.until("it jogs", lambda state: float(state["motors"][0]) > 1)
-        self.wait_for("the record has it", lambda: self.recorded().at_nm[0] > 0)
-        self.pull()
-        self.begin()
-        page = self.page(OTHER)
+        page = self.cut_off()
         page.until("two places are told", lambda state: state["word"] == "Two places")
         state = self.opens(page)
         self.assertTrue(state["can"]["jog"])
