@@ -457,7 +457,7 @@ class Work(InBrowser):
         share, width, left = browser.js(shown)
         self.assertRegex(share, r"^\d+ % of 6\.\d s$")
         self.assertLess(float(width.removesuffix("%")), 50)
-        self.assertRegex(left, r"^[3-5]\.\d s left$")
+        self.assertRegex(left, r"^(about )?[3-5]\.\d s left$")
         self.no_complaints()
 
     def test_typed_ahead(self) -> None:
