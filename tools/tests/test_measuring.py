@@ -294,7 +294,7 @@ class WhileWaited(Bench):
         self.is_through((0, 0, -3_000 - REST), (3_000, 1_000, 13_000))
 
     def test_held(self) -> None:
-        """Whoever holds at the question holds the job; it goes on by `run`, and asks again before the tool is in."""
+        """A hold while the question stands holds the job. `run` goes on, and asks again before the tool is in."""
         agrees = self.face.agrees
 
         def hold(question: str) -> bool:

@@ -95,8 +95,8 @@ class Cam(Served):
         self.assertEqual(page.post("check", b"M2\n", X_Answers="[]", Content_Type="x/y")[0], 422)
 
     def test_ended(self) -> None:
-        """How far a check is can be asked, by its own page, and grows; with the connection of whoever asked it ends
-        within a second, and so does all that it started."""
+        """Its own page is told how far a check has come, which grows. The check, and all that it started, ends within a
+        second once the connection that asked for it is gone."""
         page = self.page()
         text = b"G17 G21 G90 G94\n" + b"G1 X1 F600\nG1 X0\n" * 20_000 + b"M2\n"
         asking = http.client.HTTPConnection("127.0.0.1", page.port, timeout=PATIENCE_S)

@@ -180,9 +180,9 @@ class Device:
 
     `is_large` says that it has the sectors of a large device. `header` is the one in force, `headers` those in sectors
     0 and 1, None if none is valid; `snapshot` is the state at its checkpoint, `records` the log's, which ends before
-    sector `end`, and `state` what stands after them. `tools_nm` are the lengths of slots 1, 2 .., `program` is its text.
-    `torn` are sectors of a record that isn't complete. `damage` says what is out
-    of its range (J3); if it isn't empty, the rest is as found."""
+    sector `end`, and `state` what stands after them. `tools_nm` are the lengths of slots 1, 2 .., `program` is its
+    text. `torn` are sectors of a record that isn't complete. `damage` says what is out of its range (J3); if it isn't
+    empty, the rest is as found."""
 
     def __init__(self, image: bytes) -> None:
         """Raises NoDevice."""
