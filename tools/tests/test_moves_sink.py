@@ -85,8 +85,8 @@ class MovesOverSink(OverSink):
         self.assertEqual(self.made()[1], place)
 
     def test_while_a_tool_is_waited_for(self) -> None:
-        """The motors jog and seek then too. The lines behind the tool change go on from where those before it lead, with
-        the extra steps that a screw needs once a jog has turned it."""
+        """The motors jog and seek then too. The lines behind the change go on from where those before it lead, with the
+        extra steps that a screw needs once a jog has turned it."""
         Path("mill.toml").write_text(Path("mill.toml").read_text() + "[backlash]\nsteps = [50, 0, 0]\n")
         self.sink.tell(f"switch {PROBE} 2 -1 -1000")
         self.started(changes="--off-after=10")

@@ -235,8 +235,8 @@ class Misbehaves(OverBodies):
 
     def test_probe(self) -> None:
         """A probe that isn't in or is on at first, one that never comes on, and one whose touches differ: the page says
-        so, nothing goes beyond what it said before, and no zero is set. One that bounces by less than touches may differ
-        finds the edge as exactly, and a no sets no zero; once it is well it finds the edge."""
+        so, nothing goes beyond what it said before, and no zero is set. One that bounces by less than touches may
+        differ finds the edge as exactly, and a no sets no zero; once it is well it finds the edge."""
         world = self.world
         self.puts_in(2)
         self.dead("The probe isn\u2019t in the spindle: change to it first.")
