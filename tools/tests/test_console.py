@@ -116,13 +116,25 @@ class Meters(unittest.TestCase):
         self.assertEqual(Meter(FakeLink(0), 150).room(), 150)
 
     def test_apart(self) -> None:
-        """It asks each half of a millisecond while lines are carried out, and less often while one lasts, or motors
-        stand: 2 ms apart at most, less than 94 lines of 50 us last."""
-        for behind, apart_ms in (((99, 98, 97, 96, 95, 94), [0.5] * 5),
-                                 ((99, 99, 99, 99, 99, 95, 95, 94), [0.5, 1, 2, 2, 2, 0.5, 1])):
-            with patch("ngc_tools.operator.meter.time.sleep") as sleep:
-                Meter(FakeLink(*behind)).room()
-            self.assertEqual([1000 * call.args[0] for call in sleep.call_args_list], apart_ms)
+        """It asks as soon as a sixteenth is likely to be carried out, and less and less often while one line lasts, or
+        motors stand. Without ramps 2 ms apart at most, less than 94 lines of 50 us last; with them 10 ms, half of what
+        the lines in hand allow for. At 10 lines in a millisecond 16 last 1.6 ms, and 14 at 2 would last 7."""
+        for ms, behind, wants, apart_ms in (((0, 1, 2, 5), (120, 110, 108, 94), 0, [1.6, 2]),
+                                            ((0, 1, 9), (110, 100, 94), 0, [0.6]),
+                                            ((0, 1, 2, 9), (105, 95, 95, 94), 0, [0.5, 1]),
+                                            ((0, 1, 9), (1620, 1610, 1565), 1669, [4.5]),
+                                            ((0, 1, 2, 3, 9), (1612, 1611, 1611, 1611, 1565), 1669, [10, 10, 10]),
+                                            ((0, 1, *range(2, 9)), (99, *[99] * 7, 94), 0, [1, 2, 2, 2, 2, 2, 2])):
+            self.assertEqual(self._pauses(ms, FakeLink(*behind, wants=wants)), apart_ms)
+
+    @staticmethod
+    def _pauses(ms: tuple[float, ...], link: FakeLink) -> list[float]:
+        """How many ms are between two questions, where the clock says these ms at each; those between the first two are
+        left out, as nothing tells a rate before."""
+        with patch("ngc_tools.operator.meter.time") as clock:
+            clock.monotonic.side_effect = [one / 1000 for one in ms]
+            Meter(link).room()
+        return [round(1000 * call.args[0], 3) for call in clock.sleep.call_args_list][1:]
 
     def test_drained(self) -> None:
         """It says that nothing more comes for now, once, and waits until nothing is left, or somebody says no."""

@@ -107,9 +107,12 @@ class Day(PlayerTest):
         self.assertEqual(self.player.returncode, status)
 
     def read_to(self, *ends: str) -> None:
-        """Reads what is shown up to one of some ends."""
+        """Reads what is shown up to one of some ends. Fails, with what was shown before, where none comes."""
         wanted = tuple(end.replace("\n", "\r\n").encode() for end in ends)
-        self.shown += self.terminal.read_to(wanted).decode().replace("\r\n", "\n")
+        try:
+            self.shown += self.terminal.read_to(wanted).decode().replace("\r\n", "\n")
+        except AssertionError as error:
+            self.fail(f"{error}\nafter\n{self.shown[-1500:]}")
 
     def send(self, line: str, *ends: str) -> None:
         """Types a line, and reads what is shown up to an end, the prompt if none is named."""

@@ -9,7 +9,9 @@ LIMIT = 100  # lines, of a player that doesn't say how many it wants
 LIMITS = range(2, 8001)  # what a player can have in hand
 AT_ONCE = 200  # ticks: so many lines fit into the smallest pipe, so that no tick waits for the player
 _PARTS = 16  # of the lines in hand: more are given once one part is carried out
-_APART_S = 0.002  # between two questions at most: the lines in hand last longer, whatever their rate
+_LEAST_S = 0.0005  # between two questions
+_PLAIN_S = 0.002  # at most, where the player has no ramps: the lines in hand last longer, whatever their rate
+_RAMPS_S = 0.01  # else: what it wants in hand lasts twice as long, and has what it takes to stop besides
 _HELD_S = 0.5  # a player that says for so long that it is held isn't about to go on
 
 
@@ -24,19 +26,34 @@ def always(_: Report) -> bool:
     return True
 
 
+class Pause:
+    """How long the player isn't asked, by how quickly it carried out lines between the last two questions."""
+
+    def __init__(self) -> None:
+        self._carried, self._at, self._last_s = 0, 0.0, 0.0
+
+    def until(self, lines: int, report: Report) -> float:
+        """The seconds, within bounds, until so many lines more are carried out than a report has; as long as none is,
+        twice as many each time."""
+        now, done = time.monotonic(), abs(report.carried - self._carried)
+        wanted_s = lines * (now - self._at) / done if done else 2 * self._last_s
+        self._last_s = min(max(wanted_s, _LEAST_S), _RAMPS_S if report.wants else _PLAIN_S)
+        self._carried, self._at = report.carried, now
+        return self._last_s
+
+
 class Meter:
     """Asks the player before each tick command. Each tick hands out one line at most, so with as many ticks as there is
     room for, OUT is never more than `limit` lines ahead of the player."""
 
-    def __init__(self, link: Link, most: int | None = None, look_s: float = 0.0005) -> None:
-        """`most` is a bound in lines whatever the player wants; the player is asked each `look_s` seconds while it is
-        too far behind, and less often as long as it carries out no line. Raises ValueError as `check_limit`."""
+    def __init__(self, link: Link, most: int | None = None) -> None:
+        """`most` is a bound in lines whatever the player wants. Raises ValueError as `check_limit`."""
         if most is not None:
             check_limit(most)
         self.link = link
         self.most = most
-        self.look_s = look_s
         self.parts, self.at_once = _PARTS, AT_ONCE
+        self._pause = Pause()
 
     def limit(self, report: Report) -> int:
         """How many lines OUT may be ahead of the player now: what it wants for its motors to stop in, else 100; at most
@@ -51,7 +68,6 @@ class Meter:
     def room(self, go_on: Callable[[Report], bool] = always) -> int:
         """Waits until a sixteenth of the lines is carried out, and returns how many ticks may be given; 0 if `go_on`,
         which sees each report, says no. Raises NoAnswer if the player is gone."""
-        apart_s, carried = self.look_s, -1
         while True:
             report = self._asked()
             if not go_on(report):
@@ -60,12 +76,11 @@ class Meter:
                 self.link.at(report.at)
                 report = self.link.ask()  # it has heard that before a line comes
             limit = self.limit(report)
-            free = limit - report.behind
-            if free >= max(1, limit // self.parts):
+            free, wanted = limit - report.behind, max(1, limit // self.parts)
+            pause_s = self._pause.until(wanted - free, report)
+            if free >= wanted:
                 return min(free, self.at_once)
-            apart_s = min(2 * apart_s, _APART_S) if report.carried == carried else self.look_s
-            carried = report.carried
-            time.sleep(apart_s)
+            time.sleep(pause_s)
 
     def drained(self, go_on: Callable[[Report], bool] = always) -> bool:
         """Tells the player that nothing more comes for now, and waits until it has carried out all that was handed out.
@@ -78,7 +93,7 @@ class Meter:
             worked = worked if report.is_held else time.monotonic()
             if not go_on(report) or time.monotonic() > worked + _HELD_S:
                 return False
-            time.sleep(10 * self.look_s)
+            time.sleep(_RAMPS_S)
             report = self._asked()
         return True
 
