@@ -143,6 +143,28 @@ class Moves(Core):
         self.assertIn(f"reference {HOMED}", self.do("home"))
         self.assertEqual(self.status().at, tuple(HOMED.split()))
 
+    def test_stopped_outside(self) -> None:
+        """A home that is stopped on its way to a switch beyond the travel leaves the machine where `ngc` can't be told
+        that it is: that is said, and to home it tells it."""
+        self.begin(self.link)
+        home, self.axes.fails = self.link.home, "stopped"
+
+        def begins(axes: str = "") -> tuple[int, str]:
+            """It is on its way then."""
+            taken = home(axes)
+            self.axes.at_nm[0] = -1_000_365_000
+            return taken
+
+        with patch.object(self.link, "home", begins):
+            said = self.do("home")
+        self.assertEqual(said[:2], ["home: stopped", (
+            "X -1,000.365 is outside the travel, which ends at -1,000 (low_nm of the settings), and so ngc isn't told"
+            " where the machine is: home tells it")])
+        self.assertEqual((self.status().at[0], self.status().entries), ("0.000000", 0))
+        self.assertNotIn("refused", [kind for kind, _ in self.face.said])
+        self.axes.fails = ""
+        self.assertIn(f"reference {HOMED}", self.do("home"))
+
     def test_cut_off(self) -> None:
         """A player that isn't sure where the motors are, though `ngc` has them there too: nothing goes from there
         before somebody tells it, and a jog makes it no surer."""

@@ -17,6 +17,7 @@ from ngc_tools.operator.modes import trimmed
 from ngc_tools.operator.motors import Motors
 from ngc_tools.operator.next_session import NextSession
 from ngc_tools.operator.numbers import length_of, nanometres_of
+from ngc_tools.operator.outside import breach_of_point
 from ngc_tools.operator.places import is_same_place
 from ngc_tools.operator.session import ALARM, BROKEN, Session
 from ngc_tools.link.progress import UNSURE, Link, MoveReport, NoAnswer, Report
@@ -37,6 +38,7 @@ _ANEW = ("what the player had in hand in the alarm is never carried out: another
          " loss of power")
 _UNSURE = ("ngc isn't told where the machine is, since it wasn't known before, and not each axis is homed: reference"
            " player, or reference X Y Z")
+_OUTSIDE = "{breach}, and so ngc isn't told where the machine is: home tells it"
 _AT_CHANGE = ("jog", "seek")
 """What is taken while the player waits for a tool: `ngc` needn't be told, since the motors have to be back then."""
 _WAITS = "the tool is still waited for: once it is in, go leads back to where the lines go on"
@@ -266,13 +268,19 @@ class Moves:
             session.face.say(_UNSURE, WARNING)
             Look(session).after_work()
             return
-        if not self.recover.keeps_lost():
-            Look(session).after_work()
-            return
+        breach = breach_of_point(list(map(nanometres, report.at.split())), session.settings)
+        if breach:  # as where home was stopped on its way to a switch
+            session.face.say(_OUTSIDE.format(breach=breach), WARNING)
+        elif self.recover.keeps_lost():
+            self._reference(status, report)
+        Look(session).after_work()
+
+    def _reference(self, status: Status, report: Report) -> None:
+        """Tells `ngc` where the player says that the machine is."""
+        session = self.session
         if status.half == "none":
             self.left.keep()
         command = f"reference {report.at}"
         session.face.say(command)
         if taken(session, session.console.ask(command)[0], command):
             self.recover.still()
-        Look(session).after_work()
