@@ -216,21 +216,25 @@ def _as_written(said: str, is_capital: bool, end: str) -> str:
     return (said[:1].upper() + said[1:] if is_capital else said) + end
 
 
-def read(path: Path) -> tuple[str, dict[str, str]]:
-    """A language's own name, and its texts. Raises OSError."""
-    found = tomllib.loads(path.read_text(encoding="utf-8"))
-    return found["name"], found["texts"]
+def texts_of(name: str) -> dict[str, str]:
+    """What it says for each text. Raises OSError."""
+    return tomllib.loads(_file(name))["texts"]
 
 
-def languages() -> dict[str, tuple[str, dict[str, str]]]:
-    """All that there are, each by the name of its file, English first. Raises OSError."""
-    names = sorted((path.stem for path in TEXTS.glob("*.toml")), key=lambda name: (name != ENGLISH, name))
-    return {name: read(TEXTS / f"{name}.toml") for name in names}
+def languages() -> dict[str, str]:
+    """All that there are, by the name of the file, with what each is called in itself, English first. Of a file no more
+    is read than stands before its texts. Raises OSError."""
+    return {name: tomllib.loads(_file(name).partition("\n[")[0])["name"]
+            for name in sorted(names(), key=lambda name: (name != ENGLISH, name))}
 
 
 def language(name: str) -> Language:
     """One of them; of English nothing is read. Raises OSError."""
-    return Language() if name == ENGLISH else Language(read(TEXTS / f"{name}.toml")[1], name)
+    return Language() if name == ENGLISH else Language(texts_of(name), name)
+
+
+def _file(name: str) -> str:
+    return (TEXTS / f"{name}.toml").read_text(encoding="utf-8")
 
 
 def names() -> list[str]:

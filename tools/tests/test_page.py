@@ -1390,31 +1390,42 @@ class Asides(InFolder):
 
     def test_cut_off(self) -> None:
         """What is given up as its result is under way counts as not done: a part of that is none."""
-        child = Aside().begin(bytes, 1 << 20)
-        process, pipe = child._process, child._process.stdout
+        aside = Aside()
+        self.addCleanup(aside.close)
+        child = aside.begin(bytes, 1 << 20)
+        pipe = child._said
 
-        def cut_off(size: int) -> bytes:
+        def cut_off(size: int = -1) -> bytes:
             """What came before it was given up."""
             select.select([pipe], [], [])
             child.give_up()
-            process.wait()
             return pipe.read(size)
 
-        process.stdout = SimpleNamespace(read=cut_off, close=pipe.close)
+        child._said = SimpleNamespace(read=cut_off, close=pipe.close)
         with self.assertRaisesRegex(NotDone, "it was ended before it was done"):
             child.result()
 
+    def test_forks_killed(self) -> None:
+        """Where what forks children was killed another one does."""
+        aside = Aside()
+        self.addCleanup(aside.close)
+        forks = aside.call(os.getppid)
+        os.kill(forks, signal.SIGKILL)
+        self.wait_for("it is gone", lambda: not is_alive(str(forks)))
+        self.assertEqual(aside.call(divmod, 7, 2), (3, 1))
+        self.assertNotEqual(aside.call(os.getppid), forks)
+
     def test_killed(self) -> None:
-        """A kill of whoever asked leaves neither the work nor what that started behind."""
-        shell = "echo $PPID $$ > pids; exec sleep 1000"
+        """A kill of whoever asked leaves neither the work nor what that started behind, nor what forked it."""
+        shell = 'echo $PPID $$ $(cut -d" " -f4 /proc/$PPID/stat) > pids; exec sleep 1000'
         text = ("import subprocess, sys; sys.path.insert(0, sys.argv[1]); from ngc_tools.page.aside import Aside;"
-                f"Aside().call(subprocess.call, ['sh', '-c', '{shell}'])")
+                f"Aside().call(subprocess.call, ['sh', '-c', {shell!r}])")
         asking = subprocess.Popen([sys.executable, "-c", text, str(TOOLS)])
         self.addCleanup(asking.wait)
-        self.wait_for("it works", lambda: Path("pids").exists() and len(Path("pids").read_text().split()) == 2)
+        self.wait_for("it works", lambda: Path("pids").exists() and len(Path("pids").read_text().split()) == 3)
         pids = Path("pids").read_text().split()
         asking.kill()
-        self.wait_for("both are gone", lambda: not any(map(is_alive, pids)))
+        self.wait_for("all are gone", lambda: not any(map(is_alive, pids)))
 
 
 class Interrupted(InFolder):

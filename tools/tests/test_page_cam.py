@@ -112,7 +112,8 @@ class Cam(Served):
         self.assertEqual(seen, sorted(seen, key=lambda one: (one["what"], one["done"] / one["of"])))  # lines, warnings
         self.assertTrue(all(one["done"] < one["of"] for one in seen))
         self.assertEqual(self.page("page-number-2").post("checking"), (200, {"told": None}))
-        (child,) = set(self.started_by(self.server.pid)) - set(self.children())
+        (forks,) = set(self.started_by(self.server.pid)) - set(self.children())
+        (child,) = self.started_by(forks)
         self.wait_for("it asks ngc", lambda: bool(self.started_by(child)))
         with within_seconds(1):
             asking.close()

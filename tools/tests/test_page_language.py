@@ -15,7 +15,7 @@ from firefox_support import MISSING, PATH
 from language_cases import CASES
 from page_support import SLOW, slow_by
 
-from ngc_tools.language import languages
+from ngc_tools.language import texts_of
 
 SAID = """(() => {
     const out = [], walker = document.createTreeWalker(document.body, NodeFilter.SHOW_ELEMENT | NodeFilter.SHOW_TEXT,
@@ -74,7 +74,7 @@ def words_of(text: str) -> set[str]:
 @cache
 def english_words() -> set[str]:
     """The words that English texts have, and German ones don't."""
-    texts = languages()["de"][1]
+    texts = texts_of("de")
     return set().union(*map(words_of, texts)) - set().union(*map(words_of, texts.values())) - OWN
 
 
@@ -449,7 +449,7 @@ class German(InGerman, test_page_browser.Moves):
             answer = json.loads(body)
             self.assertEqual((status, answer["language"], answer["languages"]), (200, name, {
                 "en": "English", "de": "Deutsch"}), wishes)
-            self.assertEqual(answer["texts"], languages()["de"][1] if name == "de" else {})
+            self.assertEqual(answer["texts"], texts_of("de") if name == "de" else {})
             self.assertEqual((headers["Cache-Control"], headers["Content-Type"]), ("no-store", "application/json"))
         page.key = "x" * len(page.key)
         self.assertEqual(page.get("texts?language=de")[0], 404)

@@ -10,7 +10,7 @@ sys.path.insert(0, str(Path(__file__).resolve().parent))
 from language_cases import CASES
 from session_support import InFolder, ngc
 
-from ngc_tools.language import ENGLISH, Language, language, languages, of_environment
+from ngc_tools.language import ENGLISH, Language, language, languages, of_environment, texts_of
 from tests.texts import texts, written
 
 PLACE = re.compile(r"\{(\d+)\}")
@@ -26,16 +26,17 @@ class Files(unittest.TestCase):
         """en.toml has what the code has: tests/texts.py --write brings it up to date."""
         found = texts()
         same = {one: one for mine in found.values() for one in mine}
-        self.assertEqual(languages()[ENGLISH], ("English", same))
+        self.assertEqual((languages()[ENGLISH], texts_of(ENGLISH)), ("English", same))
         self.assertGreater(len(same), 1500)
-        for name, (own, said) in languages().items():
+        for name, own in languages().items():
             path = Path(sys.modules[Language.__module__].__file__).parent / "texts" / f"{name}.toml"
-            self.assertEqual(path.read_text(encoding="utf-8"), written(found, own, said), name)
+            self.assertEqual(path.read_text(encoding="utf-8"), written(found, own, texts_of(name)), name)
 
     def test_others(self) -> None:
         """Each other language has the same texts, with the same places, and says something for each."""
-        english = languages()[ENGLISH][1]
-        for name, (_, said) in languages().items():
+        english = texts_of(ENGLISH)
+        for name in languages():
+            said = texts_of(name)
             self.assertEqual(sorted(english), sorted(said), name)
             other = [one for one in said if sorted(PLACE.findall(one)) != sorted(PLACE.findall(said[one]))]
             self.assertEqual(other, [], name)
@@ -43,8 +44,7 @@ class Files(unittest.TestCase):
 
     def test_words(self) -> None:
         """A text has a word besides its places."""
-        self.assertEqual([one for one in languages()[ENGLISH][1] if not re.search("[A-Za-z]{2}", PLACE.sub(" ", one))],
-                         [])
+        self.assertEqual([one for one in texts_of(ENGLISH) if not re.search("[A-Za-z]{2}", PLACE.sub(" ", one))], [])
 
 
 class Said(unittest.TestCase):
@@ -59,7 +59,7 @@ class Said(unittest.TestCase):
 
     def test_english(self) -> None:
         """In English each text is what it was, the very same."""
-        for text in (*CASES, *languages()[ENGLISH][1]):
+        for text in (*CASES, *texts_of(ENGLISH)):
             self.assertIs(language(ENGLISH).say(text), text)
 
     def test_own(self) -> None:

@@ -15,7 +15,7 @@ from pathlib import Path
 
 sys.path.insert(0, str(Path(__file__).resolve().parent.parent))
 # pylint: disable=wrong-import-position
-from ngc_tools.language import ENGLISH, TEXTS, read
+from ngc_tools.language import ENGLISH, TEXTS, languages, texts_of
 from ngc_tools.page.words import page_words
 from tests.texts_js import texts_of_script
 
@@ -347,7 +347,8 @@ def main() -> int:
         return 0
     TEXTS.mkdir(exist_ok=True)
     for path in {TEXTS / f"{ENGLISH}.toml", *TEXTS.glob("*.toml")}:
-        name, said = ("English", english) if path.stem == ENGLISH else read(path)
+        name, said = (("English", english) if path.stem == ENGLISH
+                      else (languages()[path.stem], texts_of(path.stem)))
         path.write_text(written(found, name, said), encoding="utf-8")
         print(*(f"{path.name}: missing: {one}" for one in english if one not in said), sep="\n", end="")
     return 0

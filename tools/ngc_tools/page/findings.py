@@ -17,7 +17,7 @@ from ngc_tools.job.refused import Finding, Lines, find_all
 from ngc_tools.ngc import cures, faults
 from ngc_tools.ngc.beginning import Beginning, CannotSetUp
 from ngc_tools.ngc.run import Refusal, refusal
-from ngc_tools.page import aside
+from ngc_tools.page.at_work import tell
 from ngc_tools.shown import shown
 
 MOST = 20
@@ -134,7 +134,7 @@ class _Found:
 
 def find(check: Check, data: bytes) -> tuple[dict, bytes]:
     """What a check finds, and of which text, for a process aside."""
-    return check.find(data, lambda what, done, of: aside.tell({"what": what, "done": done, "of": of}))
+    return check.find(data, lambda what, done, of: tell({"what": what, "done": done, "of": of}))
 
 
 def _unreadable(why: str) -> dict:

@@ -141,7 +141,11 @@ class PageSession:
         self.under: SessionCommand | None = None
         self._wake = threading.Condition()
         self._restarts = threading.Lock()
-        self._begin()
+        try:
+            self._begin()
+        except BaseException:
+            self.aside.close()
+            raise
 
     def start(self) -> None:
         """Starts its thread, which does what is given. After it `leave` has to be called, whatever comes."""
