@@ -25,7 +25,7 @@ DOCS = TOOLS.parent / "docs"
 SHOTS = os.environ.get("NGC_SHOTS")
 """A folder for pictures of sheets, for people to look at."""
 SIZES = ((1280, 800), (1024, 768), (1920, 1080))
-UPRIGHT = ((820, 1180), (390, 844), (360, 640))
+UPRIGHT = ((820, 1180), (744, 1133), (390, 844), (360, 640))
 HOSTILE = "(<img src=x onerror=window.hacked=1>)\n(MSG, <script>window.hacked=1</script>)\nG17 G21 G90 G94\nM0\nM2\n"
 SIGHT = """(() => {
     const seen = [...document.querySelectorAll('button, input, summary')].filter(one => one.checkVisibility());

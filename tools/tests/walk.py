@@ -360,7 +360,7 @@ class Walk:
         """A person asks for motion by some buttons, of some axes alone."""
         truth = self.truth
         self.judge.moves()  # what was before it was before it
-        if seen.waits and re.match(r"Tool .* (in|out)$", text):
+        if seen.waits and re.match(r"Tool .* (in|out)$|It is done$", text):
             truth.tool, truth.tool_told_at = int(seen.waitsTool), time.monotonic()
         if not _MOVING.match(text) or text.startswith(_STORES):
             self._zero_asked(text)
