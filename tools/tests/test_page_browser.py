@@ -1001,6 +1001,13 @@ class WithoutSwitches(InBrowser):
         self.assertEqual(browser.js(BUTTONS % ".confirm"), ["Confirm, \u00b1\u00a00.003\u00a0mm"] * 3)
         browser.fill("input[aria-label='Machine Y']", "0.25")
         self.assertEqual(browser.js(BUTTONS % ".confirm")[1], "Confirm")
+        beside = "document.querySelectorAll('#over .confirm small')[1].textContent"
+        self.assertRegex(browser.js(beside), r"^the record says 0\.000; before the line 0\.000$")
+        browser.fill("input[aria-label='Machine Y']", "-1000,001")
+        self.assertEqual(browser.js(beside), "outside the travel, which ends at \u22121000.000: the line isn\u2019t taken"
+                                             " up from there")
+        browser.fill("input[aria-label='Machine Y']", "1000")
+        self.assertIn("before the line", browser.js(beside))
         self.no_complaints()
 
 

@@ -209,8 +209,8 @@ class Touched(unittest.TestCase):
         couldn't know: by what it is told before and after."""
         rests, runs = ({"busy": is_busy, "question": 0, "stored": 7, "at": "0"} for is_busy in (False, True))
         went, busy = rests | {"at": "1"}, "something runs: hold first"
-        load, jog, mdi = ((name, body) for name, body in (("load", {"id": "7"}), ("jog", {"length": "10"}),
-                                                           ("mdi", {"line": "G0 X500"})))
+        load, jog, mdi, rehearse = (("load", {"id": "7"}), ("jog", {"length": "10"}), ("mdi", {"line": "G0 X500"}),
+                                    ("rehearse", {"at": ["-9.005", "0", "4"]}))
         ends, held = "jog X+: X ends at 60.000000", "somebody held since it was touched, and so it isn't done"
         for says, asked, before, after, stamps, is_wrong in (
                 (busy, load, rests, rests, "1-0 1-0", True), (busy, load, runs, went, "1-0 1-0", True),
@@ -218,6 +218,8 @@ class Touched(unittest.TestCase):
                 (ends, jog, rests, rests, "1-0 1-0", False), (ends, ("home", {}), rests, rests, "1-0 1-0", True),
                 ("refused X2 OutsideTravel: X goes to 500 mm", mdi, rests, rests, "1-0 1-0", False),
                 ("refused X2 OutsideTravel: X goes to 500 mm", ("park", {}), rests, went, "1-0 1-0", True),
+                ("reference -9.005 0 4: refused X2 OutsideTravel: X -9.005 is outside", rehearse, rests, rests,
+                 "1-0 1-0", False),
                 (held, load, rests, rests, "1-0 2-1", False), (held, load, rests, rests, "1-0 2-0", True),
                 ("home: the emergency stop is on", ("home", {}), rests, went, "1-0 1-0", True)):
             stamp, heard = stamps.split()

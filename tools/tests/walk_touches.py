@@ -84,7 +84,7 @@ REFUSALS: tuple[tuple[str, Holds], ...] = (
     (r"^seek [XYZ][-+]: [XYZ] ends at |^seek [XYZ][-+]: it is less than a step", entry("seek")),
     (r"would go to machine .*, and ends at ", entry("probe")),
     (r"^nothing moves: from a machine Z of at most ", entry("measurefrom")),
-    (r"^refused X2 OutsideTravel: ", entry("reference", "recover", "stands")),
+    (r"^(?:reference [-\d. ]+: )?refused X2 OutsideTravel: ", entry("reference", "recover", "rehearse", "stands")),
     (r"^refused [A-Z]\d+ |: that is so already: nothing is set$", entry("zero", "touch", "offset", "tool", "turn")),
     # a line of a program that somebody loaded all the same
     (r"^line \d+.*(?:: |\n  )refused [A-Z]\d+ ", asked("run")),

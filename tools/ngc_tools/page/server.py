@@ -204,8 +204,8 @@ class Server:
         """What is drawn of it."""
         drawer, settings = self.session.drawer, self.session.settings
         said = {"failed": drawer.failed, "never_cut": self.session.never_cut.found,
-                "low": [nm // 1000 for nm in settings.low_nm],
-                "high": [nm // 1000 for nm in settings.high_nm], "traverse": settings.traverse_nm_per_min // 10**6}
+                "low": [nm / 1000 for nm in settings.low_nm],
+                "high": [nm / 1000 for nm in settings.high_nm], "traverse": settings.traverse_nm_per_min // 10**6}
         job = drawer.drawing.text if drawer.drawing else b"null"
         return packed(said)[:-1] + b',"job":' + job + b"}"
 

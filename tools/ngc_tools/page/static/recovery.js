@@ -238,7 +238,8 @@ export class Recovery {
   // ---- 2: where the machine stands
 
   showPlace() {
-    const { state } = this.app, isHomeFirst = Boolean(state.machine) && state.homes !== '' && !state.homed;
+    const { state } = this.app, isOut = AXES.some((_, i) => this.end(i, state.motors?.[i]) !== null);
+    const isHomeFirst = Boolean(state.machine) && state.homes !== '' && (!state.homed || isOut);
     const next = (isHomeFirst ? sheet.button : sheet.go)('Next: rehearsal', () => this.rehearsal(), state.yours);
     const enable = () => { next.disabled = !(state.yours && this.sure.every(Boolean)); };
     const age = state.left_at ? ` The device was written last ${lasting(1e6 * (state.now - state.left_at))} ago.` : '';
@@ -258,7 +259,13 @@ export class Recovery {
     const isRecord = () => state.past_mm && state.past_axes[i] && Number(this.at[i]) === Number(state.motors?.[i]);
     const off = () => (isRecord() ? `, \u00b1\u00a0${mm(state.past_mm)}\u00a0mm` : '');
     const input = el('input', { value: this.at[i], inputMode: 'decimal', 'aria-label': `Machine ${AXES[i]}` });
+    const record = state.motors ? `the record says ${mm(state.motors[i])}` : 'no player is known: measure it';
+    const beside = el('small');
     const set = isSure => {
+      const end = this.end(i, this.at[i]);
+      beside.className = end === null ? '' : 'wrong';
+      text(beside, end === null ? `${record}; before the line ${mm(state.began_at[i])}`
+        : `outside the travel, which ends at ${mm(end)}: the line isn\u2019t taken up from there`);
       this.sure[i] = isSure && typedNumber(input.value) !== null;
       button.setAttribute('aria-pressed', String(this.sure[i]));
       text(button, `${this.sure[i] ? '\u2713 There' : 'Confirm'}${off()}`);
@@ -271,9 +278,14 @@ export class Recovery {
       this.mark();
     });
     set(this.sure[i]);
-    const record = state.motors ? `the record says ${mm(state.motors[i])}` : 'no player is known: measure it';
-    return el('div', { class: 'confirm' }, el('b', {}, AXES[i]), input, button,
-      el('small', {}, `${record}; before the line ${mm(state.began_at[i])}`));
+    return el('div', { class: 'confirm' }, el('b', {}, AXES[i]), input, button, beside);
+  }
+
+  // Where the travel of an axis ends, in mm, if a number is beyond it; null else.
+  end(i, number) {
+    const ends = this.app.travel?.map(end => end[i] / 1000);
+    if (!ends || number === undefined || typedNumber(number) === null) return null;
+    return number < ends[0] ? ends[0] : number > ends[1] ? ends[1] : null;
   }
 
   // ---- 3: a rehearsal
