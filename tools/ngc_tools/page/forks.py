@@ -1,5 +1,5 @@
 """Children for work aside, forked from a process that has loaded what they need: to load it anew takes a Python longer
-than most of the work. It is a fork itself, of this process before that has threads, or else a Python of its own.
+than most of the work. It is a fork itself, made while this process has one thread, or else a Python of its own.
 
 It holds no file of this process, and ends once its other end is closed, as where this process was killed. Nothing of
 the current folder is run as Python."""
@@ -52,18 +52,22 @@ class Forks:
     def close(self) -> None:
         """Ends it. Children go on."""
         self._socket.close()
-        self._await_end()
+        with suppress(ChildProcessError):  # it was waited for already
+            self._await_end()
 
 
 def _forked(theirs: socket.socket) -> Callable[[], object]:
     """Has a fork of this process serve at a socket, and returns what waits for its end. Raises OSError."""
     pid = os.fork()
     if not pid:
-        number = os.dup2(theirs.fileno(), 3, inheritable=False)
-        os.closerange(number + 1, os.sysconf("SC_OPEN_MAX"))
-        for end in _ENDINGS:
-            signal.signal(end, signal.SIG_DFL)
-        serve(number)
+        try:
+            number = os.dup2(theirs.fileno(), 3, inheritable=False)
+            os.closerange(number + 1, os.sysconf("SC_OPEN_MAX"))
+            for end in _ENDINGS:
+                signal.signal(end, signal.SIG_DFL)
+            serve(number)
+        finally:
+            os._exit(1)
     return partial(os.waitpid, pid, 0)
 
 
@@ -100,13 +104,13 @@ def serve(number: int) -> NoReturn:
 
 def _become(files: list[int], words: bytes) -> NoReturn:
     """Is a child."""
-    signal.signal(signal.SIGCHLD, signal.SIG_DFL)
-    os.setpgid(0, 0)  # so that all that it starts ends with it
-    for file in files:
-        os.set_inheritable(file, False)
-    given, said = files
-    most_memory, most_cpu_s, folder = os.fsdecode(words).split("\0")
     try:
+        signal.signal(signal.SIGCHLD, signal.SIG_DFL)
+        os.setpgid(0, 0)  # so that all that it starts ends with it
+        for file in files:
+            os.set_inheritable(file, False)
+        given, said = files
+        most_memory, most_cpu_s, folder = os.fsdecode(words).split("\0")
         work(os.fdopen(given, "rb"), said, folder, int(most_memory), float(most_cpu_s))
     finally:
         os._exit(0)
