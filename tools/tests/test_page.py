@@ -1275,20 +1275,23 @@ class Moments(unittest.TestCase):
     """When a state was so."""
 
     def test_of_one(self) -> None:
-        """Where a command begins or ends, or somebody is asked, while a state is put together, no part of it is of
-        before and another of after; where that goes on and on a page sees something all the same."""
+        """Where a command begins or ends, somebody is asked, or told where the motors are, while a state is put
+        together, no part of it is of before and another of after; where that goes on and on a page sees something all
+        the same."""
         session = PageSession.__new__(PageSession)
         session.face, session._wake, session._next, session._stops = PageFace(), threading.Condition(), None, False
         session.under, session.stand, session.ended = SimpleNamespace(word="run"), Stand(None), ""
+        session.past_axes = "XYZ"
         changes = []
 
         def pictured(*_: object) -> SimpleNamespace:
             """It reads how all stands first, and what is under way last."""
-            stand = session.stand
+            stand, told = session.stand, session.face.told
             if changes:
                 changes.pop()()
             asked = session.face.question
-            return SimpleNamespace(plain=lambda: (stand.gone, session.is_busy, asked and asked.text))
+            return SimpleNamespace(plain=lambda: (stand.gone, session.is_busy, asked and asked.text, told[1],
+                                                  session.past_axes))
 
         def ends() -> None:
             """As the session's thread does."""
@@ -1302,13 +1305,19 @@ class Moments(unittest.TestCase):
             """As the core does, once the spindle turns."""
             session.stand, session.face.question = Stand(None, gone="it turns"), Question(1, "look", "yes")
 
+        def tells() -> None:
+            """The player is where somebody told."""
+            session.face.told, session.past_axes = (None, 7.0), ""
+
         with patch("ngc_tools.page.state.Pictured", pictured):
-            for change, said in ((ends, ("it ended", False, None)), (begins, ("it ended", True, None)),
-                                 (asks, ("it turns", True, "look"))):
+            for change, said in ((ends, ("it ended", False, None, 0.0, "XYZ")),
+                                 (begins, ("it ended", True, None, 0.0, "XYZ")),
+                                 (asks, ("it turns", True, "look", 0.0, "XYZ")),
+                                 (tells, ("it turns", True, "look", 7.0, ""))):
                 changes.append(change)
                 self.assertEqual(state_of(session), said)
             changes.extend([session.face.publish] * 1000)
-            self.assertEqual(state_of(session), ("it turns", True, "look"))
+            self.assertEqual(state_of(session), ("it turns", True, "look", 7.0, ""))
 
     def test_now(self) -> None:
         """What a state says is at least as new as its `now`, however long the computer took to put it together."""

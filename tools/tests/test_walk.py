@@ -232,8 +232,10 @@ class Touched(unittest.TestCase):
 
     def test_all_refusals(self) -> None:
         """They are found in answers, and in Log, each once."""
-        posts = [{"ok": False, "said": '{"why": "no"}'}, {"ok": True, "said": '{"refused": "nor that"}'},
-                 {"ok": True, "said": '{"taken": true}'}, {"ok": None}]
+        posts = [{"what": "run", "ok": False, "said": '{"why": "no"}'},
+                 {"what": "rehearse", "ok": True, "said": '{"refused": "nor that"}'},
+                 {"what": "check", "ok": True, "said": '{"refused": {"line": 3}}'},
+                 {"what": "run", "ok": True, "said": '{"taken": true}'}, {"what": "run", "ok": None}]
         log = [["refused", "10:00:00no"], ["said", "10:00:00yes"], ["refused", "10:00:01nor this"]]
         self.assertEqual(refusals(posts, log), ["no", "nor that", "nor this"])
 

@@ -129,9 +129,10 @@ def _ms(stamp: str | None) -> int:
 
 
 def refusals(posts: list[dict], log: list[list[str]]) -> list[str]:
-    """Why what was asked for isn't done, by the answers and by what Log has of it."""
+    """Why what was asked for isn't done, by the answers and by what Log has of it. What a check finds of a program is
+    what was asked for."""
     found = [_why(post) for post in posts if post["ok"] is False]
-    answers = [_answer(post) for post in posts if post["ok"]]
+    answers = [_answer(post) for post in posts if post["ok"] and post["what"] != "check"]
     found += [str(answer["refused"]) for answer in answers if answer.get("refused")]
     return list(dict.fromkeys(found + [says[len("00:00:00"):] for kind, says in log if kind == "refused"]))
 

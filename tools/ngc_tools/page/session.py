@@ -252,10 +252,11 @@ class PageSession:
         return self.under is not None and bool(self.operator.work.waits_at) and self.face.question is None
 
     def moment(self) -> tuple[object, ...]:
-        """What changes as a command begins or ends, or somebody is asked. Where it is the same before and after
-        something was read, all that was read is of one moment."""
+        """What changes as a command begins or ends, somebody is asked, or the player is heard. Where it is the same
+        before and after something was read, all that was read is of one moment."""
         with self._wake:
-            return (self.under, self._next, self._stops, self.stand, self.ended, self.face.question, self.face.version)
+            return (self.under, self._next, self._stops, self.stand, self.ended, self.face.question, self.face.version,
+                    self.face.told, self.past_axes)
 
     @property
     def _is_stopping(self) -> bool:
