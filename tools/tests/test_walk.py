@@ -235,6 +235,7 @@ class Touched(unittest.TestCase):
         posts = [{"what": "run", "ok": False, "said": '{"why": "no"}'},
                  {"what": "rehearse", "ok": True, "said": '{"refused": "nor that"}'},
                  {"what": "check", "ok": True, "said": '{"refused": {"line": 3}}'},
+                 {"what": "draw", "ok": True, "said": '{"refused": {"line": 3}}'},
                  {"what": "run", "ok": True, "said": '{"taken": true}'}, {"what": "run", "ok": None}]
         log = [["refused", "10:00:00no"], ["said", "10:00:00yes"], ["refused", "10:00:01nor this"]]
         self.assertEqual(refusals(posts, log), ["no", "nor that", "nor this"])

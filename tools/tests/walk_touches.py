@@ -8,6 +8,8 @@ from dataclasses import dataclass
 from walk_page import Seen
 from walk_rules import ANSWER_S, Judge, Wrong
 
+_LOOKS = ("check", "draw")
+"""What looks at a program, and tells what is wrong with it."""
 OLD_MS = 1000
 """What was touched so long ago isn't done."""
 
@@ -129,10 +131,10 @@ def _ms(stamp: str | None) -> int:
 
 
 def refusals(posts: list[dict], log: list[list[str]]) -> list[str]:
-    """Why what was asked for isn't done, by the answers and by what Log has of it. What a check finds of a program is
-    what was asked for."""
+    """Why what was asked for isn't done, by the answers and by what Log has of it. What is found of a program as it is
+    looked at is what was asked for."""
     found = [_why(post) for post in posts if post["ok"] is False]
-    answers = [_answer(post) for post in posts if post["ok"] and post["what"] != "check"]
+    answers = [_answer(post) for post in posts if post["ok"] and post["what"] not in _LOOKS]
     found += [str(answer["refused"]) for answer in answers if answer.get("refused")]
     return list(dict.fromkeys(found + [says[len("00:00:00"):] for kind, says in log if kind == "refused"]))
 
