@@ -48,7 +48,8 @@ class Pictured:
             view = session.face.last  # until the command is over; then `stand` has what came of it
         self.status: Status = view.status if view and self.command else self.stand.status
         self.report, self.reported_at = self.face.told
-        self.device: Device = session.kept.at(self.status, self.command is not None)
+        goes_on = self.command is not None and not (self.report and self.report.waits)
+        self.device: Device = session.kept.at(self.status, goes_on)
         self.program: Program = self.operator.session.program
 
     def plain(self) -> dict:
