@@ -1425,7 +1425,7 @@ class Asides(InFolder):
         self.assertNotEqual(aside.call(os.getppid), forks)
 
     def test_killed(self) -> None:
-        """A kill of whoever asked leaves neither the work nor what that started behind, nor what forked it."""
+        """A kill of the parent leaves neither the work nor what that started behind, nor what forked it."""
         shell = 'echo $PPID $$ $(cut -d" " -f4 /proc/$PPID/stat) > pids; exec sleep 1000'
         text = ("import subprocess, sys; sys.path.insert(0, sys.argv[1]); from ngc_tools.page.aside import Aside;"
                 f"Aside().call(subprocess.call, ['sh', '-c', {shell!r}])")

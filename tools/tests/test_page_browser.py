@@ -1004,8 +1004,8 @@ class WithoutSwitches(InBrowser):
         beside = "document.querySelectorAll('#over .confirm small')[1].textContent"
         self.assertRegex(browser.js(beside), r"^the record says 0\.000; before the line 0\.000$")
         browser.fill("input[aria-label='Machine Y']", "-1000,001")
-        self.assertEqual(browser.js(beside), "outside the travel, which ends at \u22121000.000: the line isn\u2019t taken"
-                                             " up from there")
+        self.assertEqual(browser.js(beside),
+                         "outside the travel, which ends at \u22121000.000: the line isn\u2019t taken up from there")
         browser.fill("input[aria-label='Machine Y']", "1000")
         self.assertIn("before the line", browser.js(beside))
         self.no_complaints()

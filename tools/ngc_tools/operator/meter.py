@@ -10,8 +10,8 @@ LIMITS = range(2, 8001)  # what a player can have in hand
 AT_ONCE = 200  # ticks: so many lines fit into the smallest pipe, so that no tick waits for the player
 _PARTS = 16  # of the lines in hand: more are given once one part is carried out
 _LEAST_S = 0.0005  # between two questions
-_PLAIN_S = 0.002  # at most, where the player has no ramps: the lines in hand last longer, whatever their rate
-_RAMPS_S = 0.01  # else: what it wants in hand lasts twice as long, and has what it takes to stop besides
+_MOST_S = 0.01  # the lines that a player with ramps wants last twice as long, without those for a stop
+_PLAIN_S = 0.002  # the most of a player without ramps: its lines in hand last longer, whatever their rate
 _HELD_S = 0.5  # a player that says for so long that it is held isn't about to go on
 
 
@@ -37,7 +37,7 @@ class Pause:
         twice as many each time."""
         now, done = time.monotonic(), abs(report.carried - self._carried)
         wanted_s = lines * (now - self._at) / done if done else 2 * self._last_s
-        self._last_s = min(max(wanted_s, _LEAST_S), _RAMPS_S if report.wants else _PLAIN_S)
+        self._last_s = min(max(wanted_s, _LEAST_S), _MOST_S if report.wants else _PLAIN_S)
         self._carried, self._at = report.carried, now
         return self._last_s
 
@@ -93,7 +93,7 @@ class Meter:
             worked = worked if report.is_held else time.monotonic()
             if not go_on(report) or time.monotonic() > worked + _HELD_S:
                 return False
-            time.sleep(_RAMPS_S)
+            time.sleep(_MOST_S)
             report = self._asked()
         return True
 

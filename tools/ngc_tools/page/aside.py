@@ -1,6 +1,6 @@
 """Work that takes long, done in a process of its own, so that it takes no time from the ticks of a session.
 
-A child keeps the pipe open by which it is given its work. Where that ends, since whoever asked gave up or was killed, it
+A child keeps the pipe open by which it is given its work. Where that ends, since its parent gave up or was killed, it
 ends itself with all that it started. It has bounds, so that no player beside it goes without memory, and a folder for
 its files, which is removed whatever ends it."""
 import pickle

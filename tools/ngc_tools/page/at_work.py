@@ -34,11 +34,11 @@ def work(given: BinaryIO, said: int, folder: str, most_memory: int, most_cpu_s: 
     threading.Thread(target=_watch, args=[given, folder], daemon=True).start()
     threading.Thread(target=_watch_time, args=[said, most_cpu_s], daemon=True).start()
     try:
-        function, arguments = pickle.loads(asked)  # of whoever asks
+        function, arguments = pickle.loads(asked)  # of its parent
         text = _packed(DONE, (True, function(*arguments)))
     except MemoryError:
         text = _packed(DONE, (False, _TOO_MUCH_MEMORY.format(mib=most_memory >> 20)))
-    except Exception as error:  # whoever asked is told
+    except Exception as error:  # its parent is told
         why = error.said() if isinstance(error, Failure) else f"{type(error).__name__}: {error}"
         text = _packed(DONE, (False, why))
     _write(said, text)
