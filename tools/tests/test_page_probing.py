@@ -5,7 +5,6 @@ import re
 import sys
 import unittest
 from collections.abc import Callable
-from contextlib import closing
 from dataclasses import replace
 from pathlib import Path
 
@@ -14,12 +13,10 @@ sys.path.insert(0, str(Path(__file__).resolve().parent))
 import test_page_browser
 from bench_support import REST
 from browser_support import Failed
-from session_support import PATIENCE_S
 from test_moves import BOX, PROBE
 from test_page_measure import JOB, SETTER, AtMachine, OverWorld
 
 from ngc_tools.formats.position import nanometres
-from ngc_tools.link.progress import Link
 from ngc_tools.operator.routines import ROUTINES
 
 PROBED = SETTER + "probe_tool = 1\nprobe_radius_um = 500\n"
@@ -161,10 +158,10 @@ class OverBodies(OverWorld, test_page_browser.InBrowser):
             self.run_ngc(self.BEFORE, "before")
 
     def puts_probe(self, is_on: bool) -> None:
-        """The probe is put on, or off, by hand, and the player knows that."""
+        """The probe is put on, or off, by hand, and the page knows that: it shows a line, or takes it away, and what
+        stands below that moves."""
         self.world.put(PROBE, is_on)
-        with closing(Link("progress", PATIENCE_S)) as link:
-            self.wait_for("the player knows it", lambda: ("probe" in link.machine().on) == is_on)
+        self.browser.wait(f"ngc.state.inputs.includes('probe') === {json.dumps(is_on)}")
 
     def puts_in(self, slot: int) -> None:
         """A tool is put in by hand, as a line asks for it."""
