@@ -116,6 +116,8 @@ class Standing:
     is_apart: bool = False
     slot: int | None = 1  # what is in the spindle; 1 is the probe's
     is_at_change: bool = False
+    is_jog_held: bool = False
+    goes_back: bool = False  # from where it was jogged to at a change
 
 
 def told(standing: Standing) -> dict[str, bool]:
@@ -128,7 +130,9 @@ def told(standing: Standing) -> dict[str, bool]:
     session = SimpleNamespace(ended=standing.ended, stand=stand, is_busy=bool(standing.under),
                               is_at_change=standing.is_at_change,
                               under=SimpleNamespace(word=standing.under) if standing.under else None,
-                              operator=SimpleNamespace(session=inner, touch=touch),
+                              operator=SimpleNamespace(session=inner, touch=touch,
+                                                       change=SimpleNamespace(is_going=standing.goes_back)),
+                              jogs=SimpleNamespace(is_going=standing.is_jog_held),
                               kept=SimpleNamespace(device=SimpleNamespace(slot=standing.slot)))
     return able(session, status, report, standing.machine, report.outputs if report else OFF, standing.is_apart)
 
@@ -182,6 +186,11 @@ class Buttons(unittest.TestCase):
         waits.report = replace(waits.report, outputs=OFF)
         self.check(waits, self.ALWAYS, self.CHOICES, {"stop", "go", "jog", "seek"})
         self.check(replace(waits, is_door_open=True), self.ALWAYS, self.CHOICES, {"stop", "go"})
+        self.check(replace(waits, machine=MoveReport("seek Y-")), self.ALWAYS, self.CHOICES, {"stop"})
+        self.check(replace(waits, machine=MoveReport("jog Y-")), self.ALWAYS, self.CHOICES, {"stop"})
+        self.check(replace(waits, machine=MoveReport("jog Y-"), is_jog_held=True), self.ALWAYS, self.CHOICES,
+                   {"stop", "jog"})
+        self.check(replace(waits, goes_back=True), self.ALWAYS, self.CHOICES, {"stop"})
 
     def test_held(self) -> None:
         """Within a block: it goes on, is ended, or its outputs go off; with lines in hand no place is told."""

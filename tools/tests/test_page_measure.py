@@ -273,6 +273,42 @@ class Held(AtChange):
         self.assertEqual((state["does"], state["waits"], state["can"]["jog"]), ("held", True, False))
         self.assertEqual(self.seen.post("jog", jog), (200, {"goes": False}))
 
+    def test_one_at_a_time(self) -> None:
+        """While the tool is waited for and something moves, nothing else is offered that moves, nor that the tool is
+        in: so at a seek, and on the way back. Beside a jog that is held jog is, since that may turn."""
+        self.seen.post("switch", {"name": "measures", "on": False})
+        self.load(self.seen, JOB)
+        self.seen.post("run")
+        state = self.seen.until("it asks for the tool", lambda s: s["waits"] and s["can"]["jog"])
+        self.assertEqual(self.offered(state), [True, True, True])
+        self.seen.post("seek", {"axis": "Y", "sign": 1, "rate": "60", "within": "0.5"})
+        state = self.seen.until("it seeks", lambda s: s["machine"] == "seek Y+")
+        self.assertEqual((self.offered(state), state["can"]["hold"]), ([False, False, False], True))
+        state = self.seen.until("it stands", lambda s: s["machine"] == "stands" and s["motors"][1] == "0.500000")
+        self.assertEqual(self.offered(state), [True, True, True])
+        jog = {"axis": "Z", "sign": 1, "rate": "60", "press": state["press"] + 1}
+
+        def has_gone(um: int) -> bool:
+            self.assertEqual(self.seen.post("jog", jog), (200, {"goes": True}))
+            return self.world.place[2] > um
+
+        self.wait_for("it goes", lambda: has_gone(50))
+        state = self.seen.until("that is told", lambda s: s["machine"] == "jog Z+" or not has_gone(0))
+        self.assertEqual(self.offered(state), [True, False, False])
+        self.seen.post("jogstop", {"press": jog["press"]})
+        state = self.seen.until("it rests", lambda s: s["machine"] == "stands" and s["can"]["go"]
+                                and s["motors"][2] == f"{self.world.place[2] / 1000:.6f}")
+        self.seen.post("go", {"tool": 2, "shown": state["motors"]})
+        self.seen.agree(self.seen.asked())
+        for way in ("jog Z+", "jog Y-", "jog Z-"):
+            state = self.seen.until(f"it goes back, {way}", lambda s, way=way: s["machine"] == way)
+            self.assertEqual(self.offered(state), [False, False, False])
+        self.seen.until("it is through", lambda s: s["finished"] and not s["busy"])
+
+    def offered(self, state: dict) -> list[bool]:
+        """Whether jog and seek are, and that the tool is in."""
+        return [state["can"][word] for word in ("jog", "seek", "go")]
+
     def test_held(self) -> None:
         """Hold amid the way: it comes to rest there, the job waits, and the length stays."""
         self.seen.agree(self.asked())

@@ -20,13 +20,21 @@ _NOT_TAKEN = "the player still waits for the tool: the motors move, or aren't wh
 
 
 class AtChange:
-    """What `go` does."""
+    """What `go` does. `is_going` says that it is under way."""
 
     def __init__(self, session: Session, moves: Moves, ways: Ways, work: Work) -> None:
         self.session, self.moves, self.ways, self.work = session, moves, ways, work
+        self.is_going = False
 
     def go(self) -> None:
         """Tells the player that the tool is in, once the motors are back. Raises NoAnswer."""
+        self.is_going = True
+        try:
+            self._tell()
+        finally:
+            self.is_going = False
+
+    def _tell(self) -> None:
         link = self.session.meter.link
         asked = now = link.ask()
         for _ in range(_LOOKS):

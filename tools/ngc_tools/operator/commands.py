@@ -77,6 +77,8 @@ class Needs(Flag):
     NOT_BUSY = auto()
     NOTHING_BUT_JOG = auto()
     """Nothing is under way but a jog."""
+    MOVES_OVER = auto()
+    """While the player waits for a tool: no jog or seek is under way, nor the way back from one."""
     NOTHING_HALF = auto()
     """No block is half-done."""
     NOTHING_BUT_HELD = auto()
@@ -292,7 +294,7 @@ COMMANDS = (
     OperatorCommand("abandon", _plain, asked=Asked.AWAITED, needs=_THERE | Needs.NOT_BUSY),
     OperatorCommand("go", lambda operator, _: operator.tell_go(),
                     (("go", "tells the player that the tool is in"),), taken=Taken.AMID, asked=Asked.AWAITED,
-                    needs=_THERE),
+                    needs=_THERE | Needs.MOVES_OVER),
     OperatorCommand("single", lambda operator, typed: operator.set_single(typed.rest),
                     (("single on, off", "hold after each line"),), **_SWITCH),
     OperatorCommand("optional", _plain, (("optional on, off", "stop at M1"),), **_SWITCH),
