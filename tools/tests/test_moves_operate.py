@@ -594,13 +594,13 @@ class Pressed(unittest.TestCase):
 
     def test_held(self) -> None:
         """The first repeat of a keyboard comes late, those after it 33 ms apart; then it is held until it stays out for
-        200 ms."""
+        100 ms."""
         pressed = jog_keys.Pressed()
         for at in (0.0, 0.5, 0.533, 0.566):
             self.assertFalse(pressed.is_held(at))
             pressed.take("Z+", at)
-        self.assertEqual((pressed.taps, pressed.is_held(0.566), pressed.is_held(0.76)), (0, True, True))
-        self.assertFalse(pressed.is_held(0.77))
+        self.assertEqual((pressed.taps, pressed.is_held(0.566), pressed.is_held(0.66)), (0, True, True))
+        self.assertFalse(pressed.is_held(0.67))
 
     def test_keys(self) -> None:
         """Keys by their bytes, in parts; others are passed over; an Escape alone ends."""

@@ -3,6 +3,7 @@ refused. The player is in this process."""
 import sys
 import time
 import unittest
+from collections.abc import Callable
 from pathlib import Path
 
 sys.path.insert(0, str(Path(__file__).resolve().parent))
@@ -15,6 +16,8 @@ from machine_support import ASKS
 PRESSES = 50
 REPEAT_S = 0.03
 """How often a keyboard repeats."""
+SOON_S = 0.15
+"""So soon an axis rests whose key isn't heard of."""
 SWITCH = "[...document.querySelectorAll('#tab-setup .switch')].find(one => one.textContent.includes('By keys'))"
 IS_ON = f"{SWITCH}.getAttribute('aria-checked') === 'true'"
 TOAST = "document.getElementById('toast').checkVisibility() && document.getElementById('toast').textContent"
@@ -191,26 +194,53 @@ class Keys(WithKeys):
         self.rests()
 
     def test_silent(self) -> None:
-        """A key whose repeats end is let go, though nobody told that: within a second, unless the browser is late."""
-        self.assertTrue(any(self.stands_s() < 1 for _ in range(PRESSES)))
-        self.down("ArrowRight")  # goes down anew, so that it was up
-        self.goes()
-        self.up("ArrowRight")
-        self.rests()
-        self.down("ArrowRight")  # one that never repeats
-        self.goes()
-        self.rests()
-        self.says("as if the key were let go")
-        self.up("ArrowRight")
+        """An axis rests soon once its key is silent, though nobody told that it was let go, unless the browser is late:
+        so does one whose key was pressed and never repeats. One that goes down anew was up."""
+        self.assertTrue(any(self.stands_s(self.held) < SOON_S for _ in range(PRESSES)))
+        self.assertTrue(any(self.stands_s(self.pressed) < SOON_S for _ in range(PRESSES)))
 
-    def stands_s(self) -> float:
-        """How long the axis still goes once a key that was held is silent, in seconds."""
-        self.held("ArrowRight")
+    def pressed(self, key: str) -> None:
+        """It goes down, and its axis goes."""
+        self.down(key)
+        self.goes()
+
+    def stands_s(self, begins: Callable[[str], None]) -> float:
+        """How long the axis still goes once its key came last, in seconds."""
+        begins("ArrowRight")
         begun = time.monotonic()
+        self.stands()
+        return time.monotonic() - begun
+
+    def stands(self) -> None:
+        """The axis does, and its key isn't let go."""
         self.wait_for("it stands", lambda: self.machine.axes.machine is self.machine.axes.stands)
-        took_s = time.monotonic() - begun
-        self.says("as if the key were let go")
-        return took_s
+        self.browser.wait("!ngc.keys.jog.isOn && ngc.keys.held?.rests")
+
+    def test_goes_again(self) -> None:
+        """A key that repeats late moves its axis again, as far as nothing came between: no hold, no sheet, no other
+        key. One that is let go meanwhile, or is silent for long, moves nothing more."""
+        self.pressed("ArrowRight")
+        self.stands()
+        self.repeats("ArrowRight", 0.15)
+        self.wait_for("it goes again", lambda: len(self.begun()) > self.before + 1)
+        self.up("ArrowRight")
+        self.rests()
+        for comes, says in ((lambda: self.page("another-page").post("hold", {"touch": "a-touch"}), "somebody held since"),
+                            (lambda: self.browser.press("Offsets", "#tab-setup button"), "A sheet is open"),
+                            (lambda: self.down("ArrowUp"), ""), (lambda: self.up("ArrowRight"), ""),
+                            (lambda: time.sleep(1.3), "")):
+            self.pressed("ArrowRight")
+            self.stands()
+            comes()
+            count = len(self.begun())
+            self.repeats("ArrowRight", 0.2)
+            self.says(says)
+            self.rests()
+            self.assertEqual(len(self.begun()), count, says)
+            for key in ("ArrowRight", "ArrowUp"):
+                self.up(key)
+            if "sheet" in says:
+                self.browser.press("Back", "#over button")
 
     def test_shortcuts(self) -> None:
         """A key with another one that changes what it means jogs nothing."""

@@ -21,7 +21,7 @@ _RATE = 300
 _LOOK_S = 0.02
 _CLOSE_S = 0.07  # between two repeats of a held key; a person's taps are farther apart
 _HELD = 2  # so many repeats in a row are a held key
-_GONE_S = 0.2  # without a repeat for so long a held key was let go
+_GONE_S = 0.1  # without a repeat for so long a held key was let go
 _KEEP_S = 0.1  # between two words that a jog goes on
 _HELP = """\
 arrows: X and Y; page up, page down: Z. A tap goes {step} mm; a held key goes on, at {rate} mm a minute

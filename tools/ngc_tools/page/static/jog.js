@@ -117,9 +117,10 @@ export class Jog {
   }
 
   // By a key or a gamepad, until `stop`. The server is told when each is said: one that comes late moves nothing.
-  goes(axis, sign, rate) {
+  // `down` is the stamp of its press.
+  goes(axis, sign, rate, down = now()) {
     this.stop();
-    this.keepOn({ axis, sign, rate, down: now() }, BY_KEYS, wish => ({ ...wish, said: now() }));
+    this.keepOn({ axis, sign, rate, down }, BY_KEYS, wish => ({ ...wish, said: now() }));
   }
 
   // So many steps of the length that is chosen, as they were asked for; it waits for their end.

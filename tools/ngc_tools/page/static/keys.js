@@ -1,6 +1,6 @@
 // Jogging by keys, by a wheel that sends keys, and by a gamepad, once a switch turns them on. It is off as the page is
 // loaded, and goes off by itself: after a minute without a key, in a window that isn't in front, and where keys mean
-// something else, as in an entry. One axis moves at a time, for as long as its key is down; any other key ends that.
+// something else, as in an entry. One axis moves at a time, for as long as its key is heard of; any other key ends that.
 import { $, el, may, text } from './dom.js';
 import { notice } from './notice.js';
 import { Pad } from './pad.js';
@@ -8,10 +8,10 @@ import { Pad } from './pad.js';
 const WAYS = { ArrowRight: ['X', 1], ArrowLeft: ['X', -1], ArrowUp: ['Y', 1], ArrowDown: ['Y', -1], PageUp: ['Z', 1],
   PageDown: ['Z', -1] };
 const WHEEL = { '+': 1, '-': -1 };
-const TICK_MS = 20;
+const TICK_MS = 10;
 const OFF_MS = 60000;
-const FIRST_MS = 1100;               // within so long a key that is down repeats ..
-const QUICK_MS = 60, SILENT_MS = 110; // .. and one that repeats so often is let go where it is silent for so long
+const SILENT_MS = 110;  // so long an axis goes on behind a key that came, or repeats: its release may be lost
+const FIRST_MS = 1100;  // within so long a key that is down repeats
 const CLICK_MS = 100;                // a click of the wheel that couldn't be done for so long isn't done any more
 const TYPED = 'input, textarea, select, [contenteditable], #program'; // what takes these keys itself
 
@@ -22,7 +22,7 @@ export class Keys {
     this.ms = { off: OFF_MS };
     this.isOn = false;
     this.down = new Set(); // the keys of ways that are down
-    this.held = null;      // the one that jogs, and how it repeats
+    this.held = null;      // the one that jogs: when it was heard of last, and whether its axis rests until it repeats
     this.clicks = [];
     this.axis = 'X';       // of the wheel
     this.isAsked = false;
@@ -77,7 +77,8 @@ export class Keys {
       if (this.held?.code === event.code) this.repeats();
       return;
     }
-    if (this.held || this.pad.goes) this.end('Another key: it stops. Let all of them go.');
+    const isAnew = this.held?.rests && this.held.code === event.code; // it was let go unseen
+    if (this.held && !isAnew || this.pad.goes) this.end('Another key: it stops. Let all of them go.');
     else if (isMine && !hasMore) this.takes(event, way, isAxis);
     if (way) this.down.add(event.code);
   }
@@ -95,9 +96,9 @@ export class Keys {
     this.says();
   }
 
-  begin(code, [axis, sign]) {
-    this.held = { code, at: performance.now(), repeats: 0, quick: 0 };
-    this.jog.goes(axis, sign, this.jog.rate);
+  begin(code, way) {
+    this.held = { code, way, at: performance.now(), rests: false, down: this.jog.now() };
+    this.jog.goes(...way, this.jog.rate, this.held.down);
   }
 
   goes(event) {
@@ -105,11 +106,19 @@ export class Keys {
     if (this.held?.code === event.code) this.end();
   }
 
+  // The key is down: its axis goes on, or again. What somebody held since that key came, the server refuses.
   repeats() {
-    const now = performance.now(), { held } = this;
-    held.quick = held.repeats && now - held.at < QUICK_MS ? held.quick + 1 : 0;
-    held.repeats += 1;
-    held.at = now;
+    const { held } = this;
+    held.at = performance.now();
+    if (!held.rests) return;
+    const why = this.refusal();
+    held.rests = false;
+    if (!why) {
+      this.jog.goes(...held.way, this.jog.rate, held.down);
+      return;
+    }
+    this.held = null;
+    this.jog.refuse(why);
   }
 
   end(why = '') {
@@ -124,17 +133,22 @@ export class Keys {
     const now = performance.now();
     if (!document.hasFocus()) this.turn(false);
     else if (now - this.used > this.ms.off && !this.held) this.turn(false);
-    else if (this.held && this.isSilent(now)) this.end('The keyboard is silent, as if the key were let go: it stops.');
-    else if (this.held && !this.jog.isOn) this.held = null; // it ended at a limit, or by a hold
+    else if (this.held) this.lookAtKey(now);
     if (!this.isOn) return;
     if (!this.held && this.pad.look()) this.used = now;
     this.pump(now);
   }
 
-  // Whether the key that is held doesn't repeat any more, though nothing told that it was let go.
-  isSilent(now) {
-    const { at, repeats, quick } = this.held;
-    return now - at > (quick > 1 ? SILENT_MS : FIRST_MS + (repeats ? FIRST_MS : 0));
+  // The axis of a key that isn't heard of rests, until that repeats; so each does behind the first moment, as keyboards
+  // repeat late. One that ended otherwise, as at a limit or by a hold, doesn't go again.
+  lookAtKey(now) {
+    const { held } = this, ms = now - held.at;
+    if (held.rests ? ms > FIRST_MS : !this.jog.isOn) {
+      this.held = null;
+    } else if (!held.rests && ms > SILENT_MS) {
+      held.rests = true;
+      this.jog.stop();
+    }
   }
 
   // A step, by a key or by a click of the wheel.
