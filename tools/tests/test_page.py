@@ -29,6 +29,7 @@ from ngc_tools.formats.lines import Program
 from ngc_tools.formats.position import millimetres
 from ngc_tools.ngc.console import Console, Status
 from ngc_tools.operator.face import REFUSED, UnderWay
+from ngc_tools.operator.recover import ON_WAY
 from ngc_tools.operator.sentences import SWITCHED
 from ngc_tools.operator.way_back import TYPE_GO
 from ngc_tools.page import server as server_module
@@ -878,6 +879,18 @@ class PageWords(unittest.TestCase):
                  " Where is it? asks which is so; home tells it anew"),
                 ("refused K3 PlaceUnknown: it isn't known where the machine stands: reference player, or reference X Y"
                  " Z", "it isn't known where the machine stands: home, or tell where it is"),
+                ("the setter wasn't touched since the machine moved last, or its place was used: seek Z- RATE within"
+                 " MM, and then touch tool 3; touch tool 3 anyway takes the machine's Z as it is", "the setter wasn't"
+                 " touched since the machine moved last, or its place was used: Seek the probe, and then touch Tool 3"
+                 " stands on the setter"),
+                ("the zero point moves by it: G92.1 first, then zero, does without it",
+                 "the zero point moves by it: G92.1 under Offsets first, then Set, does without it"),
+                ("takes that. G43 H2 first, then zero, does without it",
+                 "takes that. G43 H2 first, then Set, does without it"),
+                ("given up: run begins that line again", "given up: Run begins that line again"),
+                ("nothing has moved. continue asks again; after quit the block is still half-done",
+                 "nothing has moved. Continue asks again; after Quit the block is still half-done"),
+                (ON_WAY, "the way of Recover isn't at its end: Recover goes on with it"),
                 ("refused X2 OutsideTravel: X leaves the travel", "refused X2 OutsideTravel: X leaves the travel")):
             face = PageFace()
             face.say(said, REFUSED)
@@ -887,6 +900,15 @@ class PageWords(unittest.TestCase):
         """What is asked names them too; a look at the machine stays the question that it is."""
         for said, shown in (("No move leaves that; measure from Z within MM says it otherwise\nyes measures: ",
                              "No move leaves that; Keep both heights says it otherwise\nyes measures:"),
+                            ("it has 3 mm, and continue goes on with that\nyes measures: ",
+                             "it has 3 mm, and Continue goes on with that\nyes measures:"),
+                            ("held. yes goes on; anything else stays, and recover goes on later: ",
+                             "held. yes goes on; anything else stays, and Recover goes on later:"),
+                            ("what was cut of it stays, and run begins it again, whole. Kept, recover or resume goes on"
+                             "\nwith it. Is it given up?", "what was cut of it stays, and Run begins it again, whole."
+                             " Kept, Recover goes on\nwith it. Is it given up?"),
+                            ("Dropped, nothing makes them any more. Kept, recover goes on\nalong them",
+                             "Dropped, nothing makes them any more. Kept, Recover goes on\nalong them"),
                             *((text, text) for text in LOOKS)):
             face, asked = PageFace(), []
             face.look = lambda: asked.append(face.question.text) or face.leave()

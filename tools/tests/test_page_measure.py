@@ -90,7 +90,7 @@ class AtChange(AtMachine):
         self.seen.until("it asks for the tool", lambda s: s["waits"])
         self.seen.post("go")
         state = self.seen.asked()
-        self.assertIn("it has 3 mm by now, and continue goes on with that\nyes measures, anything else waits:",
+        self.assertIn("it has 3 mm by now, and Continue goes on with that\nyes measures, anything else waits:",
                       state["question"]["text"])
         self.assertEqual((state["measures"], self.world.place), (True, (1_000, 0, 0)))
         return state

@@ -220,6 +220,9 @@ class Touched(unittest.TestCase):
                 ("refused X2 OutsideTravel: X goes to 500 mm", ("park", {}), rests, went, "1-0 1-0", True),
                 ("reference -9.005 0 4: refused X2 OutsideTravel: X -9.005 is outside", rehearse, rests, rests,
                  "1-0 1-0", False),
+                ("refused C3 RadiiDiffer: line 4: G2 X6 Y6 I3 J3 F500", rehearse, rests, rests, "1-0 1-0", False),
+                ("refused C3 RadiiDiffer: line 4: G2 X6 Y6 I3 J3 F500", ("home", {}), rests, rests, "1-0 1-0", True),
+                ("refused K3 PlaceUnknown: it isn't known", rehearse, rests, rests, "1-0 1-0", True),
                 (held, load, rests, rests, "1-0 2-1", False), (held, load, rests, rests, "1-0 2-0", True),
                 ("home: the emergency stop is on", ("home", {}), rests, went, "1-0 1-0", True)):
             stamp, heard = stamps.split()

@@ -90,6 +90,7 @@ REFUSALS: tuple[tuple[str, Holds], ...] = (
     (r"^refused [A-Z]\d+ |: that is so already: nothing is set$", entry("zero", "touch", "offset", "tool", "turn")),
     # a line of a program that somebody loaded all the same
     (r"^line \d+.*(?:: |\n  )refused [A-Z]\d+ ", asked("run")),
+    (r"^refused [A-Z]\d+ \w+: line \d+: ", asked("rehearse")),
     # how it went on, once it was taken
     (r"nothing more moves$|counts for nothing$", became("at", "busy")),
     (r"^line \d+.*: refused [A-Z]\d+ ", became("at", "stored", "busy")),
