@@ -394,8 +394,13 @@ class Looks(InBrowser):
         browser.wait("document.getElementById('over').hidden")
         with open("huge.ngc", "wb") as file:
             file.truncate(100_000_000)
+        browser.js("""void new MutationObserver(() => { window.told ??= document.querySelector('#over .warn')
+            && performance.now(); }).observe(document.body, { childList: true, subtree: true })""")
+        browser.js("""void document.getElementById('file').addEventListener('change', () => {
+            window.chosen = performance.now(); }, { capture: true })""")
         browser.choose_file(self.folder / "huge.ngc")
         said = browser.wait("document.querySelector('#over .warn')?.textContent")
+        self.assertLess(browser.js("told - chosen"), 1000)
         self.assertEqual(said, "100,000,000 bytes: a program has at most 131,072, on a large device 1,048,576."
                          " ngc-split parts it.")
         browser.press("Back", "#over button")
@@ -696,6 +701,16 @@ class Moves(InBrowser):
         self.no_complaints()
 
 
+GREY = """(() => {
+    const faint = document.body.appendChild(document.createElement('i'));
+    faint.style.color = 'var(--faint)';
+    const shown = [faint, ...document.querySelectorAll('.axis output')].map(one => getComputedStyle(one).color);
+    faint.remove();
+    return shown.every(color => color === shown[0]);
+})()"""
+"""Whether the place is shown as one of before."""
+
+
 class Power(InBrowser):
     """Power is lost, and comes back."""
 
@@ -717,6 +732,9 @@ class Power(InBrowser):
         browser.goes_on()
         browser.wait("document.querySelector('#over .facts')?.textContent.includes('It begins at')")
         self.look("what was stored")
+        self.assertRegex(browser.js("document.getElementById('risk').textContent"),
+                         r"^By the record of the player; the device was written [\d.:]+ \w+ ago$")
+        self.assertTrue(browser.js(GREY))
         self.assertIn("Given back, as it was: optional stop.", browser.js("document.querySelector('#over .words')"
                                                                           ".textContent"))
         self.assertTrue(browser.js("ngc.state.optional"))

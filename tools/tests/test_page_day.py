@@ -293,6 +293,10 @@ class Day(Documented):
         self.rests("s.tools[0] === '80.000000' && s.touched === null")  # its place counts once
         self.assertTrue(self.is_dead("Tool 1 stands on the setter"))
         self.browser.fill("input[aria-label='Work coordinate of what the tool stands on, in mm']", "-81")
+        at = float(self.browser.js("ngc.state.at[2]"))
+        length, machine = (f"{number:.3f}".replace("-", "\u2212") for number in (at + 81, at))
+        self.browser.wait(f"document.querySelector('#tab-setup').innerText.includes('Length {length} mm: machine Z is"
+                          f" {machine}, the work there at \u221281.000')")
         self.press("Tool 1 stands on the work", "#tab-setup button")
         self.rests("Math.abs(s.tools[0] - s.at[2] - 81) < 1e-6 && s.tools[0] !== '80.000000'")
         self.press("Undo: tool 1 80", "#tab-setup button")

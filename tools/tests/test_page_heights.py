@@ -28,7 +28,7 @@ NEAR_PX = 60
 class Heights(test_page_probing.Setter):
     """The setter's top is at Z-5, and tool 2 comes over it at Z8. From where it is sought nobody said yet."""
 
-    test_setter = None
+    test_setter = test_measured = None
 
     def device(self) -> None:
         """A fresh device."""

@@ -197,8 +197,8 @@ class Whole(test_page_browser.InBrowser):
         self.browser.size(*test_page_browser.SIZES[0])
 
     def test_job(self) -> None:
-        """At rest, in a cut with all on, held, where Stop asks, at a tool change, at a stop with a long message, and
-        through."""
+        """At rest, in a cut with all on, held, where Stop asks, at a tool change, at a stop with a long message,
+        through, and setting up with a tool in the spindle."""
         browser = self.browser
         self.fits("idle")
         self.load("M3 S1000 M8\n" + SLOW, 5)
@@ -229,6 +229,8 @@ class Whole(test_page_browser.InBrowser):
         browser.press("Continue", "#run")
         browser.wait("ngc.state.finished && !ngc.state.busy")
         self.fits("through")
+        browser.press("Setup", "nav button")
+        self.fits("a tool is in the spindle")
 
     def test_loss(self) -> None:
         """The four steps after a loss of power, what is to be seen before it goes there, and a player that is gone."""

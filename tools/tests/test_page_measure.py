@@ -236,6 +236,13 @@ class AtChange(AtMachine):
             self.assertEqual(self.seen.post(what, words), (200, {}))
             self.seen.until(f"{line} is done", lambda s: not s["busy"] and holds(s))
             self.assertIn(line, [entry["text"] for entry in self.seen.log])
+        for name, output in (("clockwise", "spindle"), ("flood", "flood")):
+            self.seen.post("turn", {"name": name, "speed": 500})
+            state = self.seen.until("it is on", lambda s, output=output: not s["busy"] and s[output])
+        self.assertTrue(state["can"]["off"])
+        self.seen.post("off")
+        state = self.seen.until("both are off", lambda s: not s["busy"] and not s["spindle"] and not s["flood"])
+        self.assertEqual((state["can"]["off"], state["speed"], state["does"]), (False, 500, "idle"))
         self.seen.post("macro", {"name": "Far"})
         self.seen.until("it is refused", lambda s: not s["busy"] and s["word"] == "Refused")
         self.assertEqual(self.world.place, (-8_000, -7_000, 9_000))

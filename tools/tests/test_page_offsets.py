@@ -133,6 +133,16 @@ class Table(test_page_browser.Moves):
                                                           "machine here: X \u22122.500  Y 20.000  Z 0.000"])
         browser.press("G92", "#over .offsets button")
         self.assertEqual(browser.js(given), [["Set G92", True], ["None: G92.1", True]])  # as it is
+        for takes_away in ("Undo", "None: G92.1"):
+            browser.fill("#over input[aria-label='G92 X, in mm']", "1")
+            browser.press("Set G92", "#over button")
+            browser.wait(f"!ngc.state.busy && {given}.join() === 'Set G92,true,None: G92.1,false'")
+            self.assertEqual(self.row("G92").split("\n")[1:], ["X 1.000  Y 0.000  Z 0.000",
+                                                               "in force until the program\u2019s end"])
+            self.assertIn("X \u22121.000", self.row("G54"))
+            browser.press(takes_away, "#over button")
+            browser.wait(f"!ngc.state.busy && {given}.join() === 'Set G92,true,None: G92.1,true'")
+            self.assertIn("X 0.000", self.row("G54"))
         browser.press("Length", "#over .offsets button")
         self.look("lengths")
         self.assertEqual(browser.js(given), [["H1: 50.000 mm", False], ["None: G49", True]])

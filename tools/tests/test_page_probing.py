@@ -416,6 +416,31 @@ class Setter(OverBodies):
         self.shows("4.000", length=4)
         self.no_complaints()
 
+    def test_measured(self) -> None:
+        """While a tool is waited for something is touched by its button: the axis rests behind the touch, and goes back
+        by a yes once the tool is in. Then that is measured by a yes, and the job goes on by itself, with its length."""
+        browser, world = self.browser, self.world
+        self.stands(length=4, y=6)
+        world.solid(1, BOX, (0, -MM, -9 * MM), (2 * MM, MM, -2 * MM))
+        self.load(JOB, JOB.count("\n"))
+        browser.press("Run", "#run")
+        browser.press("Setup", "nav button")
+        browser.press("Z\u2212", "#tab-setup .five button")
+        browser.wait("ngc.state.machine === 'stands' && ngc.state.motors[2] <= -2")
+        x, y, z = world.place
+        self.assertTrue((x, y) == (MM, 0) and -2 * MM - REST <= z <= -2 * MM, world.place)
+        browser.press("Tool 2 is in", "#run")
+        self.assertIn("the lines go on from X1 Y0 Z0: up to Z0.", self.asked())
+        world.solid(1, 0, (0, 0, 0), (0, 0, 0))  # it is taken away
+        browser.press("Yes: goes back and on", "#over .go")
+        browser.wait("ngc.state.question?.text.includes('yes measures')")
+        named = self.agrees()
+        self.rests("s.finished")
+        self.stays_within(named)
+        self.assertEqual((world.place, browser.js("ngc.state.tools[1]")), ((2 * MM, 0, 5 * MM), "4.000000"))
+        self.shows("4.000", length=4)
+        self.no_complaints()
+
     def jogs_before(self, is_in: Callable[[], None]) -> None:
         """The axes are jogged by their buttons while the tool is waited for, and go back by a yes once it is in."""
         browser = self.browser

@@ -246,6 +246,12 @@ class Fingers(test_page_browser.Moves):
         browser.press("Home all", "#tab-setup button")
         browser.wait("ngc.state.homed === 'XYZ' && !ngc.state.busy")
         self.assertFalse(browser.js("document.getElementById('toast').checkVisibility()"))
+        self.page("another-page").post("takeover")
+        browser.js("Object.assign(document.querySelector('#tab-setup .four button'), { disabled: false }).click()")
+        says = browser.wait("document.getElementById('toast').checkVisibility() && document.getElementById('toast')"
+                            ".textContent")
+        self.assertEqual(says, "another page commands: take over first")
+        self.assertIn(says, browser.js("document.getElementById('log').textContent"))
 
     def test_below_a_sheet(self) -> None:
         """What is told beside the lowest buttons gives way to the buttons of a sheet that opens by itself."""

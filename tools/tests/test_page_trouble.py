@@ -57,7 +57,7 @@ class Broken(test_page_probing.Setter):
 
     WORDS: list[str] = []
     MODEL = Telling
-    test_setter = None
+    test_setter = test_measured = None
 
     def test_on_from_its_line(self) -> None:
         """It breaks within a line, which is held and given up. One that is 4 mm long is put in, and measured by the

@@ -7,7 +7,7 @@ from pathlib import Path
 sys.path.insert(0, str(Path(__file__).resolve().parent))
 
 from firefox_support import MISSING, PATH, started
-from test_moves import DOOR, STOP
+from test_moves import AT_SPEED, DOOR, STOP
 from test_page_day import MILL, Walk
 
 JOB = "G17 G21 G90 G94\nM3 S1000\nG0 X1\nG1 X4 F60\nM5\nM2\n"
@@ -15,6 +15,8 @@ JOB = "G17 G21 G90 G94\nM3 S1000\nG0 X1\nG1 X4 F60\nM5\nM2\n"
 SHOWN = "document.getElementById('{}').checkVisibility()"
 RUN = "[document.getElementById('run').textContent, document.getElementById('run').disabled]"
 """What the large button says, and whether it is dead."""
+_SPEED = 5
+"""Where the machine's model has which inputs are high while the spindle turns."""
 
 
 @unittest.skipUnless(PATH, MISSING)
@@ -132,6 +134,27 @@ class AtDoor(ByTouch):
         self.wait("s.held_by === '' && (s.word === 'Running' || s.finished)")
         self.rests("s.finished && s.motors[0] === '4.000000'")
         self.assertEqual(self.world.place, (4_000, 0, 0))
+
+
+class AtSpindle(AtDoor):
+    """The machine tells when its spindle turns as fast as it has to."""
+
+    mill = MILL.replace("probe = 6\n", "probe = 6\nspindle_at_speed = 5\nat_speed_s = 1\n")
+    test_door = None
+
+    def test_spindle(self) -> None:
+        """The spindle doesn't come to its speed: nothing moves, and the large button says `Go on`, which waits for it
+        once more. Once it turns as it has to the job goes on, to its end."""
+        self.load(JOB)
+        self.press("Run", "#run")
+        for speed in (0, 1 << AT_SPEED):
+            self.wait("s.held_by === 'spindle' && s.held_motors && s.word === 'Held'")
+            self.says("Go on", is_dead=False)
+            self.assertEqual(self.world.place, (0, 0, 0))
+            self.world.set(_SPEED, speed)
+            self.press("Go on", "#run")
+            self.wait("s.held_by === ''")
+        self.rests("s.finished && s.motors[0] === '4.000000'")
 
 
 if __name__ == "__main__":
