@@ -33,6 +33,16 @@ TITLES = {"edge": "Edge", "outside": "Outside corner", "inside": "Inside corner"
 NO_PROBE = """[document.querySelector('#over .go').disabled,
     document.querySelector('#over .routine .warn')?.textContent ?? '']"""
 """Whether the button of a routine is dead, and why."""
+BESIDE = """(() => {
+    const svg = document.querySelector('#over .routine svg'), all = kind => [...svg.querySelectorAll(kind)];
+    const ball = svg.querySelector('.ball'), [x, y, r] = ['cx', 'cy', 'r'].map(name => Number(ball.getAttribute(name)));
+    const at = (dx, dy) => Object.assign(svg.createSVGPoint(), { x: x + r * dx, y: y + r * dy });
+    const edge = [[0, 0], [1, 0], [-1, 0], [0, 1], [0, -1]].map(([dx, dy]) => at(dx, dy));
+    const begins = all('.free, .to').map(way => way.getPointAtLength(0));
+    return !all('.work').some(work => edge.some(point => work.isPointInFill(point)))
+        && begins.some(point => Math.abs(Math.hypot(point.x - x, point.y - y) - r) <= 1);
+})()"""
+"""Whether the ball of a routine's picture is beside the work, and a way begins there."""
 
 
 class Sheets(test_page_browser.Moves):
@@ -74,6 +84,7 @@ class Sheets(test_page_browser.Moves):
                        f" one.textContent.endsWith({title!r})).click()")
             browser.wait(f"document.querySelector('#over h1').textContent === {title!r}")
             self.assertIn(ROUTINES[name].where, browser.js("document.querySelector('#over .words').textContent"))
+            self.assertTrue(browser.js(BESIDE), name)
             if name in ("outside", "boss", "surface"):
                 self.look(title)
                 self.shoot(name)

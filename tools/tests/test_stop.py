@@ -23,6 +23,8 @@ JOB = "G17 G21 G90 G94\nM3 S1000\nM8\nG0 X1\nG1 X4 F60\nT2 M6\nG1 X5 F600\nM0\nG
 FAST = "G17 G21 G90 G94\nM3 S1000\nM8\n" + "G1 X9 F600\nG1 X0\n" * 50 + "M2\n"
 """Cuts at 10 mm/s, from which a ramp of 500 mm/s2 takes 0.1 mm."""
 IS_ON = 4  # a field of the world
+LEGS = {"by": "9", "How": "600"}
+"""What a person types of them, by how it is asked: up to which Z, and how fast it goes down."""
 
 
 class Stopping(Served):
@@ -245,6 +247,24 @@ class OverFile(Stopping):
         state = self.seen.asked()
         self.assertIn("by legs", state["question"]["text"])
 
+    def takes_up(self, state: dict) -> dict:
+        """Takes a half-done line up, by legs from where home left the motors, with a yes to each question: the state at
+        the job's end. The outputs come on, and are looked at, before anything moves."""
+        self.assertEqual(self.seen.post("recover", {"at": state["motors"]}), (200, {}))
+        state, stood = self.seen.asked(), self.world.place
+        self.assertIn("by legs", state["question"]["text"])
+        looked = False
+        while state["question"]:
+            if state["question"]["purpose"] == "look":
+                self.assertEqual((looked, self.is_on(), self.world.place), (False, True, stood))
+                looked = True
+            self.assertLess(len(self.seen.answered), 20, state["question"])
+            self.seen.agree(state, LEGS.get(state["question"]["text"].split()[0], ""))
+            state = self.until("it asks, or is through", lambda s: s["question"]
+                               and s["question"]["id"] not in self.seen.answered or s["finished"] and not s["busy"])
+        self.assertTrue(looked)
+        return state
+
     def test_alarm_while_held(self) -> None:
         """The emergency stop comes where the job is held between two lines, and nothing is in hand: once the machine is
         homed, the next line isn't begun, and the job goes on with it, which nothing but the page is needed for."""
@@ -273,7 +293,8 @@ class OverFile(Stopping):
         self.assertEqual(state["motors"][0], "2.000000")
 
     def test_limit_and_back(self) -> None:
-        """After a limit: the cause is named, and the line is half-done once the machine is homed."""
+        """After a limit: the cause is named, and the line is half-done once the machine is homed; taken up, the job is
+        cut to its end."""
         self.world.switch(4, X_HIGH, 0, 1, 2_000)
         self.load(self.seen, "G21 G90\nM3 S1000\nG1 X4 F600\nM2\n")
         self.seen.post("run")
@@ -282,6 +303,9 @@ class OverFile(Stopping):
         self.seen.post("home", {"axes": ""})
         state = self.until("it is homed, and goes on", lambda s: s["homed"] == "XYZ" and not s["busy"])
         self.assertEqual((state["half"], state["does"]), ("program", "idle"))
+        self.world.no_switch(4)
+        state = self.takes_up(state)
+        self.assertEqual((self.world.place[0], state["motors"][0]), (4_000, "4.000000"))
 
     def test_jog(self) -> None:
         """A jog ends, and nothing else."""

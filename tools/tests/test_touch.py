@@ -387,6 +387,8 @@ class Setter(InFolder):
         self.assertEqual((found.height_nm, found.at_nm), (-81_250_000, (140_000_000, 90_000_000, -5_000_000)))
         self.assertEqual((found.probe, found.touches), (Probe(9, 1_000_000), Touches(300, 30, 1_000_000, 50_000)))
         self.assertEqual(found.touches, Touches())
+        self.assertEqual(Touches.of({"fast_mm_min": 1, "slow_mm_min": 2, "retract_um": 3, "agree_um": 4}),
+                         Touches(1, 2, 3_000, 4_000))
 
     def test_wrong(self) -> None:
         """What can't be used is named, before anything is started."""
