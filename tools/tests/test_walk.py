@@ -21,7 +21,7 @@ from walk_late import Lateness
 from walk_machine import Outputs
 from walk_page import Seen, Tabs
 from walk_rules import Judge, Truth, Wrong
-from walk_touches import Press, choices_kept, confirmed, refusals, second_tap, switched_off, taken
+from walk_touches import Press, choices_kept, confirmed, flicked, refusals, second_tap, switched_off, taken
 
 WALK_S = float(os.environ.get("NGC_WALK_S", "120"))
 SHORTEN_S = 60.0
@@ -232,6 +232,13 @@ class Touched(unittest.TestCase):
         gone = Press("Start ngc again", "progress: no player listens there", *seen, [post], False)
         self.wrong("enabled, and refused", False, taken, self.judge, gone)
         self.wrong("enabled, and refused", True, taken, self.judge, dataclasses.replace(gone, has_player=True))
+
+    def test_flicked(self) -> None:
+        """A jog that is let go sooner than by a finger; nothing else that comes of a touch."""
+        jog = ("jog", 1)
+        for asked, is_so in (((jog, ("jogstop", 40)), True), ((jog, ("jogstop", 42)), False), ((jog,), False),
+                             ((jog, ("jogstop", 9), ("hold", 9)), False), ((), False)):
+            self.assertEqual(flicked([{"what": what, "at": at} for what, at in asked]), is_so, asked)
 
     def test_all_refusals(self) -> None:
         """They are found in answers, and in Log, each once."""

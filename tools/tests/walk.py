@@ -32,7 +32,7 @@ from walk_late import Lateness
 from walk_machine import JOBS, LIMITS, NO_HOME_SWITCH, Bench
 from walk_page import Seen, Tabs
 from walk_rules import ANSWER_S, Judge, Truth, Wrong, changes, motors_of, number, within_of
-from walk_touches import Press, choices_kept, chosen, confirmed, refusals, second_tap, switched_off, taken
+from walk_touches import Press, choices_kept, chosen, confirmed, flicked, refusals, second_tap, switched_off, taken
 
 STEPS = 50
 BEGINS_S = 1.0
@@ -327,6 +327,8 @@ class Walk:
                 return
             if not any(click["text"].strip() == says for click in clicks):
                 return  # it was made anew under the finger
+            if flicked(posts):
+                return
             if any(changes(before, after)) or after.logs > before.logs and after.log[0][0] in ("said", "refused"):
                 return
             if any(post["ok"] is None for post in posts):  # what is waited for may take its time

@@ -12,6 +12,8 @@ _LOOKS = ("check", "draw")
 """What looks at a program, and tells what is wrong with it."""
 OLD_MS = 1000
 """What was touched so long ago isn't done."""
+FLICK_MS = 40
+"""No finger is on a button for so short a time: a jog that is let go so soon may be over before it begins."""
 
 ENTRIES = {"mdi": "line", "load": "id", "zero": "axes", "touch": "work height", "offset": "axes", "tool": "length",
            "measurefrom": "down within", "seek": "within", "probe": "lengths", "jog": "length", "step": "length",
@@ -138,6 +140,12 @@ def refusals(posts: list[dict], log: list[list[str]]) -> list[str]:
     answers = [_answer(post) for post in posts if post["ok"] and post["what"] not in _LOOKS]
     found += [str(answer["refused"]) for answer in answers if answer.get("refused")]
     return list(dict.fromkeys(found + [says[len("00:00:00"):] for kind, says in log if kind == "refused"]))
+
+
+def flicked(posts: list[dict]) -> bool:
+    """Whether a jog is all that was asked for, and was let go sooner than a finger does."""
+    at = {post["what"]: post["at"] for post in posts}
+    return at.keys() == {"jog", "jogstop"} and at["jogstop"] - at["jog"] < FLICK_MS
 
 
 def _answer(post: dict) -> dict:
