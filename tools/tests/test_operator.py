@@ -1032,6 +1032,22 @@ class Motors(Core):
         self.do("G0 X0", "run")
         self.assertEqual(len(self.out()), 301 + 300 + 301)
 
+    def test_held_at_a_change(self) -> None:
+        """Somebody holds while the motors that a line waits for wait for a tool themselves: it is said that they are
+        held, though their player doesn't say so yet."""
+        link = self.begin_ramps()
+        self.load("G21 G90\nG1 X0.3 F600\nM2\n")
+        link.at_once = 1
+        self.hold_after(40)
+        self.do("run")
+        real = link.ask
+        link.ask = lambda: replace(real(), waits=True, tool=2, is_held=False)
+        self.operator.motors.release()
+        self.hold_after(5)
+        said = self.do("G0 X1")[-1]
+        self.assertEqual(said, f"nothing is done: the motors are held with {real().behind} lines in hand. release lets"
+                         " them carry those out, and run goes on")
+
     def test_release(self) -> None:
         """What is in hand is carried out, and `ngc` stays held."""
         link = self.begin_ramps()

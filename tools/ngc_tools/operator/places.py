@@ -107,7 +107,7 @@ class Places:
         session = self.session
         if session.is_in(ALARM, BROKEN):
             session.face.say("nothing is done", REFUSED)
-        elif session.seen and session.seen.is_held and not session.gone:
+        elif session.seen and self.work.motors.are_held and not session.gone:
             self.work.motors.say_held(session.seen)
         else:
             session.face.say(f"nothing is done. {PLAYER_SILENT}", REFUSED)
