@@ -5,6 +5,7 @@ import re
 import secrets
 import socket
 import sys
+import time
 from collections.abc import Mapping
 from dataclasses import dataclass
 
@@ -58,6 +59,7 @@ _WEAK = ("NGC_PAGE_KEY: a key that somebody could guess. It takes 22 to 86 signs
 _ALL = ("0.0.0.0", "[::]", "::")
 _ANSWERS_S = 1.0  # a player that doesn't answer for so long doesn't know the question
 _SWITCH_S = 0.0005  # after so long threads take turns, so that a tick doesn't wait for a page
+_OVER_S = 0.05  # so often it is looked whether the session is over
 
 
 def make_parser() -> argparse.ArgumentParser:
@@ -237,7 +239,8 @@ def serve(session: PageSession, key: str, host: str, file: socket.socket, addres
     for origin in (f"http://{host}:{server.port}", *addresses):
         print(f"{origin}/{server.key}/", flush=True)
     try:
-        session.over.wait()
+        while not session.over.is_set():  # Ctrl-C within its `wait` may leave it locked
+            time.sleep(_OVER_S)
     finally:
         session.leave()
         server.close()
