@@ -225,7 +225,8 @@ class Keys(WithKeys):
         self.wait_for("it goes again", lambda: len(self.begun()) > self.before + 1)
         self.up("ArrowRight")
         self.rests()
-        for comes, says in ((lambda: self.page("another-page").post("hold", {"touch": "a-touch"}), "somebody held since"),
+        other = self.page("another-page")
+        for comes, says in ((lambda: other.post("hold", {"touch": "a-touch"}), "somebody held since"),
                             (lambda: self.browser.press("Offsets", "#tab-setup button"), "A sheet is open"),
                             (lambda: self.down("ArrowUp"), ""), (lambda: self.up("ArrowRight"), ""),
                             (lambda: time.sleep(1.3), "")):

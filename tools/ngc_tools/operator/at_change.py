@@ -35,6 +35,7 @@ class AtChange:
             self.is_going = False
 
     def _tell(self) -> None:
+        """Does it."""
         link = self.session.meter.link
         asked = now = link.ask()
         for _ in range(_LOOKS):

@@ -40,21 +40,22 @@ def able(session: PageSession, status: Status, report: Report | None, machine: M
     if session.operator.session.program.text and status.place > 0:
         holds |= Needs.BEGUN
     said = report.word if report else ""
-    at_change = _not_needed(session, holds)
+    at_change = _waived(session, holds)
     enabled = {command.word: command.needs in (holds | at_change if command.word in TAKEN_AT_CHANGE else holds)
                and not is_forbidden(command.word, said) for command in COMMANDS if command.asked is not Asked.NEVER}
     # a page holds the motors whatever the player says
     return enabled | {"hold": Needs.SESSION in holds, "turn": enabled["mdi"] and LINE_FROM_PLACE in holds}
 
 
-def _are_over(session: PageSession, machine: MoveReport | None) -> bool:
-    """Whether the motors stand, while the player waits for a tool."""
+def _are_moves_over(session: PageSession, machine: MoveReport | None) -> bool:
+    """Whether the motors stand, and don't go back, while the player waits for a tool; yes where it waits for none."""
     stand = machine is None or machine.does == "stands"
     return not session.is_at_change or stand and not session.operator.change.is_going
 
 
-def _not_needed(session: PageSession, holds: Needs) -> Needs:
-    """What one that is taken while the player waits for a tool doesn't need now."""
+def _waived(session: PageSession, holds: Needs) -> Needs:
+    """What a command that is taken while the player waits for a tool doesn't need now; nothing where it waits for none.
+    """
     if not session.is_at_change:
         return Needs(0)
     if Needs.MOVES_OVER in holds:
@@ -103,5 +104,4 @@ def _of_moves(session: PageSession, status: Status, report: Report | None, machi
     return _those(NO_ALARM=not is_alarm, MAKES_MOVES=machine is not None, TAKES_MOVES=takes, MOTORS_FREE=not has_rest,
                   DOOR_SHUT=not session.operator.session.is_door_open, ALL_OFF=not on_words(outputs),
                   STOP_FREE="emergency_stop" not in on, PROBE_FREE="probe" not in on,
-                  MOVES_OVER=_are_over(session, machine),
-                  PROBE_IN=is_probe_in(session))
+                  MOVES_OVER=_are_moves_over(session, machine), PROBE_IN=is_probe_in(session))

@@ -1,6 +1,6 @@
 // Jogging by keys, by a wheel that sends keys, and by a gamepad, once a switch turns them on. It is off as the page is
 // loaded, and goes off by itself: after a minute without a key, in a window that isn't in front, and where keys mean
-// something else, as in an entry. One axis moves at a time, for as long as its key is heard of; any other key ends that.
+// something else, as in an entry. One axis moves at a time, for as long as its key is heard of; another key ends that.
 import { $, el, may, text } from './dom.js';
 import { notice } from './notice.js';
 import { Pad } from './pad.js';
