@@ -1,18 +1,27 @@
-"""Folders and files for a while, which are removed whatever ends the work."""
+"""Folders and files for a while, which are removed whatever ends the work.
+
+The path of each is noted before it is made: wherever a signal comes, whoever ends the process removes it. Another thread
+than the main one that would make one after that ends there."""
 import os
 import shutil
-import signal
 import tempfile
-from collections.abc import Iterator
+import threading
+import weakref
+from collections.abc import Callable, Iterator
 from contextlib import contextmanager
+from functools import partial
 from pathlib import Path
+from typing import TypeVar
 
 from ngc_tools.files import naming
 
+_Made = TypeVar("_Made")
 _MEMORY = "/dev/shm"  # a sync costs nothing there
 _folders = [_MEMORY]  # where folders are made, the last one
 _made: set[str] = set()  # what is to be removed
-_ENDINGS = {signal.SIGINT, signal.SIGTERM, signal.SIGHUP}
+_making = threading.Lock()
+_TRIES = 100  # of removing a folder in which others still make files
+_is_over = threading.Event()  # no other thread than the main one makes any
 
 
 def use(folder: str) -> None:
@@ -21,63 +30,76 @@ def use(folder: str) -> None:
     tempfile.tempdir = folder
 
 
-class Scratch(tempfile.TemporaryDirectory):
-    """A folder, in memory where the system has a place for that. Ctrl-C and `kill` wait while it is made or removed, so
-    that no part of it is left."""
+class Scratch:
+    """A folder, in memory where the system has a place for that."""
 
     def __init__(self, prefix: str) -> None:
-        with _waiting():
-            super().__init__(prefix=prefix, dir=_folders[-1] if Path(_folders[-1]).is_dir() else None)
-            _made.add(self.name)
+        """Makes it. Raises OSError with its path."""
+        folder = _folders[-1] if Path(_folders[-1]).is_dir() else tempfile.gettempdir()
+        self.name = _new_path(folder, prefix)
+        _make(self.name, partial(os.mkdir, mode=0o700))
+        self.cleanup = weakref.finalize(self, remove, self.name)
 
-    def cleanup(self) -> None:
+    def __enter__(self) -> str:
+        """Its path."""
+        return self.name
+
+    def __exit__(self, *_: object) -> None:
         """Removes it."""
-        with _waiting():
-            super().cleanup()
-            _made.discard(self.name)
+        self.cleanup()
 
 
 @contextmanager
 def scratch_file(text: bytes | str, stem: str, suffix: str) -> Iterator[str]:
-    """The path of a file with this text, which is removed. Ctrl-C and `kill` wait while it is made or removed. Raises
-    OSError with its path."""
-    path = ""
+    """The path of a file with this text, which is removed. Raises OSError with its path."""
+    path = _new_path(tempfile.gettempdir(), f"ngc-{stem}-", suffix)
     try:
-        with _waiting():
-            number, path = tempfile.mkstemp(prefix=f"ngc-{stem}-", suffix=suffix)
-            _made.add(path)
+        number = _make(path, partial(os.open, flags=os.O_RDWR | os.O_CREAT | os.O_EXCL, mode=0o600))
         with naming(path), os.fdopen(number, "wb") as file:
             file.write(text.encode() if isinstance(text, str) else text)
         yield path
     finally:
-        if path:
-            _remove(path)
+        remove(path)
 
 
 @contextmanager
 def nothing_left() -> Iterator[None]:
-    """At its end removes each folder and file that wasn't, since a signal came just as it would have been."""
+    """At its end removes each folder and file that wasn't, since a signal came just as it would have been. From then on
+    no thread but the main one makes any."""
+    _is_over.clear()
     try:
         yield
     finally:
+        with _making:
+            _is_over.set()
         for path in sorted(_made):
-            _remove(path)
+            remove(path)
 
 
-def _remove(path: str) -> None:
-    with _waiting():
+def remove(path: str) -> None:
+    """Removes a folder or a file, where there is one. What is made in a folder meanwhile goes too."""
+    for _ in range(_TRIES):
         if os.path.isdir(path):
             shutil.rmtree(path, ignore_errors=True)
         else:
             Path(path).unlink(missing_ok=True)
-        _made.discard(path)
+            break
+    _made.discard(path)
 
 
-@contextmanager
-def _waiting() -> Iterator[None]:
-    """Signals that end the process come after this."""
-    before = signal.pthread_sigmask(signal.SIG_BLOCK, _ENDINGS)
-    try:
-        yield
-    finally:
-        signal.pthread_sigmask(signal.SIG_SETMASK, before)
+def _new_path(folder: str, prefix: str, suffix: str = "") -> str:
+    """A path that nobody has, nor can guess."""
+    return os.path.join(folder, f"{prefix}{os.urandom(8).hex()}{suffix}")
+
+
+def _make(path: str, make: Callable[[str], _Made]) -> _Made:
+    """Makes what is removed in the end. Raises OSError; SystemExit, which ends a thread, as the process ends."""
+    with _making:
+        if _is_over.is_set() and threading.current_thread() is not threading.main_thread():
+            raise SystemExit
+        _made.add(path)
+        try:
+            return make(path)
+        except OSError:
+            _made.discard(path)
+            raise

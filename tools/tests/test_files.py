@@ -5,7 +5,10 @@ import signal
 import subprocess
 import sys
 import tempfile
+import threading
+import time
 import unittest
+from concurrent.futures import ThreadPoolExecutor
 from pathlib import Path
 from unittest import mock
 
@@ -147,20 +150,17 @@ class Scratched(unittest.TestCase):
     """`Scratch` and `scratch_file`."""
 
     def test_interrupted_while_it_is_removed(self) -> None:
-        """Ctrl-C in the midst of the removal comes after it."""
+        """Where Ctrl-C comes in the midst of the removal, whoever ends the work goes on with it."""
         before = signal.signal(signal.SIGINT, signal.default_int_handler)
         self.addCleanup(signal.signal, signal.SIGINT, before)
         folder = Scratch("ngc-test-")
         for name in range(3):
             (Path(folder.name) / str(name)).touch()
-        unlink = os.unlink
-
-        def interrupted(*words: object, **options: object) -> None:
-            os.kill(os.getpid(), signal.SIGINT)
-            unlink(*words, **options)
-
-        with mock.patch.object(os, "unlink", interrupted), self.assertRaises(KeyboardInterrupt):
+        with mock.patch.object(os, "unlink", side_effect=KeyboardInterrupt), self.assertRaises(KeyboardInterrupt):
             folder.cleanup()
+        self.assertEqual(len(os.listdir(folder.name)), 3)
+        with nothing_left():
+            pass
         self.assertFalse(os.path.exists(folder.name))
 
     def test_interrupted_while_a_file_is_made(self) -> None:
@@ -184,13 +184,49 @@ class Scratched(unittest.TestCase):
         """Where Ctrl-C comes just before the removal, whoever ends the work removes it."""
         folder = self.enterContext(tempfile.TemporaryDirectory())
         self.enterContext(mock.patch.object(tempfile, "tempdir", folder))
-        with mock.patch.object(scratch, "_remove", side_effect=KeyboardInterrupt), self.assertRaises(KeyboardInterrupt):
+        with mock.patch.object(scratch, "remove", side_effect=KeyboardInterrupt), self.assertRaises(KeyboardInterrupt):
             with scratch_file("M2\n", "test", ".ngc"):
                 pass
         self.assertEqual(len(os.listdir(folder)), 1)
         with nothing_left():
             pass
         self.assertEqual(os.listdir(folder), [])
+
+    def test_too_late(self) -> None:
+        """A thread that would make one as the process ends, ends there itself; the next work makes them as ever."""
+        folder = self.enterContext(tempfile.TemporaryDirectory())
+        self.enterContext(mock.patch.object(tempfile, "tempdir", folder))
+        self.enterContext(mock.patch.object(scratch, "_folders", [folder]))
+        with nothing_left():
+            pass
+        for make in (lambda: Scratch("ngc-test-"), lambda: self.enterContext(scratch_file("M2\n", "test", ".ngc"))):
+            with ThreadPoolExecutor(1) as thread:
+                self.assertIsInstance(thread.submit(make).exception(), SystemExit)
+        self.assertEqual(os.listdir(folder), [])
+        with nothing_left(), ThreadPoolExecutor(1) as thread:
+            thread.submit(Scratch, "ngc-test-").result().cleanup()
+        self.assertEqual(os.listdir(folder), [])
+
+    def test_others_as_it_ends(self) -> None:
+        """Whatever threads make meanwhile, nothing is left."""
+        folder = self.enterContext(tempfile.TemporaryDirectory())
+        self.enterContext(mock.patch.object(scratch, "_folders", [folder]))
+
+        def make_many() -> None:
+            while True:
+                kept.append(Scratch("ngc-test-"))
+
+        for _ in range(20):
+            kept: list[Scratch] = []
+            with nothing_left():
+                threads = [threading.Thread(target=make_many) for _ in range(3)]
+                for thread in threads:
+                    thread.start()
+                while len(kept) < 5:
+                    time.sleep(0.001)
+            for thread in threads:
+                thread.join()
+            self.assertEqual(os.listdir(folder), [])
 
 
 if __name__ == "__main__":

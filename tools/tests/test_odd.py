@@ -9,7 +9,6 @@ import signal
 import socket
 import subprocess
 import sys
-import tempfile
 import time
 import traceback
 import unittest
@@ -24,6 +23,7 @@ sys.path.insert(0, str(Path(__file__).resolve().parent))
 
 from session_support import FIRST, TOOLS, InFolder, ngc, told
 
+from ngc_tools import scratch
 from ngc_tools.cli import adapt, check, device, operate, page, plot, rehearse, split
 from ngc_tools.formats.device import Device
 
@@ -88,7 +88,7 @@ def begin(name: str, words: Iterable[str], before: Callable[[], object]) -> int:
         for stream, number, mode in (("stdin", 0, "r"), ("stdout", 1, "w"), ("stderr", 2, "w")):
             setattr(sys, stream, open(number, mode, closefd=False))
         warnings.simplefilter("ignore")  # as outside of tests
-        tempfile.mkdtemp, tempfile.tempdir = noted(tempfile.mkdtemp), os.path.abspath("tmp")
+        scratch.use(os.path.abspath("tmp"))
         signal.pthread_sigmask(signal.SIG_UNBLOCK, {signal.SIGINT})  # not before all of this is done
         before()
         own = ("--ngc", ngc()) if name in ASKS else ()
@@ -100,16 +100,6 @@ def begin(name: str, words: Iterable[str], before: Callable[[], object]) -> int:
             traceback.print_exc(file=file)
         status = 99
     os._exit(status)
-
-
-def noted(make: Callable[..., str]) -> Callable[..., str]:
-    """Makes folders, and notes their paths in a file."""
-    def noting(*words: object, **options: object) -> str:
-        path = make(*words, **options)
-        with open("folders", "a") as file:
-            file.write(f"{path}\n")
-        return path
-    return noting
 
 
 def wait(child: int, within_s: float, is_enough: Callable[[], bool] = lambda: False) -> int | None:
@@ -227,7 +217,7 @@ class Odd(InFolder):
         for name, words in GOOD.items():
             tries = 5 if name in stops else 1  # where others work too, what it took once tells little
             self.assertTrue(any(self._interrupted(name, words) for _ in range(tries)) or name not in stops, name)
-        self.assertEqual([path for path in self.folders() if os.path.exists(path)] + os.listdir("tmp"), [])
+        self.assertEqual(os.listdir("tmp"), [])
 
     def _interrupted(self, name: str, words: tuple[str, ...]) -> int:
         """How often a tool was stopped, of ten moments."""
@@ -250,17 +240,12 @@ class Odd(InFolder):
         """A rehearsal that is ended by `kill` leaves no folder."""
         self.run_ngc("load 25\nG0 X900\nG0 X-900\nG0 X900\nM2\nquit\n")
         for moment_s in (0, 0.05):
-            Path("folders").unlink(missing_ok=True)
             child = begin("ngc-rehearse", GOOD["ngc-rehearse"], lambda: None)
-            self.wait_for("its folder", lambda: os.path.exists("folders") and self.folders())
+            self.wait_for("its folder", lambda: os.listdir("tmp"))
             time.sleep(moment_s)
             os.kill(child, signal.SIGTERM)
             self.assertEqual(wait(child, LIMIT_S), -signal.SIGTERM)
-            self.assertEqual([path for path in self.folders() if os.path.exists(path)], [])
-
-    def folders(self) -> list[str]:
-        """The folders that tools made here."""
-        return Path("folders").read_text().splitlines()
+            self.assertEqual(os.listdir("tmp"), [])
 
     def odd_files(self) -> dict[str, bytes | None]:
         """The bytes of files; None for a path that has none."""

@@ -3,7 +3,6 @@ import math
 import os
 import pickle
 import resource
-import shutil
 import signal
 import struct
 import threading
@@ -74,7 +73,7 @@ def _bound(most_memory: int, most_cpu_s: int) -> None:
 def _watch(given: BinaryIO, folder: str) -> None:
     """Ends this process and what it started once its input ends, and removes its files."""
     given.read()
-    shutil.rmtree(folder, ignore_errors=True)
+    scratch.remove(folder)
     os.killpg(os.getpgrp(), signal.SIGKILL)
 
 

@@ -58,16 +58,20 @@ class Forks:
 
 def _forked(theirs: socket.socket) -> Callable[[], object]:
     """Has a fork of this process serve at a socket, and returns what waits for its end. Raises OSError."""
+    before = signal.pthread_sigmask(signal.SIG_BLOCK, _ENDINGS)  # the fork heeds none as this process does
     pid = os.fork()
     if not pid:
         try:
+            os.setpgid(0, 0)
             number = os.dup2(theirs.fileno(), 3, inheritable=False)
             os.closerange(number + 1, os.sysconf("SC_OPEN_MAX"))
             for end in _ENDINGS:
                 signal.signal(end, signal.SIG_DFL)
+            signal.pthread_sigmask(signal.SIG_SETMASK, before)
             serve(number)
         finally:
             os._exit(1)
+    signal.pthread_sigmask(signal.SIG_SETMASK, before)
     return partial(os.waitpid, pid, 0)
 
 
