@@ -1,7 +1,7 @@
 #!/usr/bin/env python3
 """Gives the goals of slow functions the narrowest tactic that proves them, where that makes a check quicker.
 
-    bench/give_answers.py CRATE.. [--from SECONDS] [--only FUNCTION].. [--write] [--test] [--libraries FOLDER]
+    bench/give_answers.py CRATE.. [--from SECONDS] [--only NAME].. [--write] [--test] [--libraries FOLDER]
 
 A goal that no proof file answers is tried by `search rules`, then by `grind` with all of std's sets of lemmas. A goal
 of arithmetic that `omega arith` or `grind arith` proves costs a fraction of that, where the file `Answers.antt` of its
@@ -257,7 +257,7 @@ def sweep(crate: Crate, asked: argparse.Namespace, scratch: Path) -> None:
         return
     functions = [Function(name, before_s) for name, before_s in took_s.items() if before_s >= asked.least]
     functions = [function for function in functions
-                 if not asked.only or any(function.name.endswith(f"::{name}") for name in asked.only)]
+                 if not asked.only or any(f"::{name}::" in f"{function.name}::" for name in asked.only)]
     functions.sort(key=lambda function: -function.before_s)
     print(f"{crate.name}: {sum(took_s.values()):.0f} s in {len(took_s)} functions, of which {len(functions)} take "
           f"{sum(function.before_s for function in functions):.0f} s", flush=True)
@@ -280,7 +280,8 @@ def words() -> argparse.Namespace:
     parser = argparse.ArgumentParser(description=__doc__, formatter_class=argparse.RawDescriptionHelpFormatter)
     parser.add_argument("crates", nargs="+", metavar="CRATE")
     parser.add_argument("--from", dest="least", type=float, default=3.0, metavar="SECONDS", help="3 without it")
-    parser.add_argument("--only", action="append", default=[], metavar="FUNCTION", help="this function of the crate")
+    parser.add_argument("--only", action="append", default=[], metavar="NAME",
+                        help="this function or module of the crate")
     parser.add_argument("--list", action="store_true", help="only list what each slow function takes")
     parser.add_argument("--write", action="store_true", help="write the answers into the crate")
     parser.add_argument("--test", action="store_true", help="with the crate's tests")

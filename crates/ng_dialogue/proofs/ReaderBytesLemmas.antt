@@ -4,7 +4,7 @@ use Rattle.std.proofs.Common.{if◌then◌else◌, take, drop, refl, sym, ap, �
 use Rattle.std.proofs.Common.{inr}
 use Rattle.std.specs.Io.KnownBytes.{Consumes, IsAtEnd, Keeps, prepend_known}
 use Rattle.ng_text.specs.Split.{HasNoNewline}
-use Rattle.ng_text.proofs.KnownBytesLemmas.{Consumes-trans}
+use Rattle.ng_streams.proofs.KnownBytesLemmas.{Consumes-trans}
 use Rattle.ng_text.proofs.NewlineLemmas.{HasNoNewline-append}
 use Rattle.ng_dialogue.specs.Reading.{TakesLine}
 use Rattle.ng_dialogue.specs.Waiting.{EndHolds, Waiting, text_left}

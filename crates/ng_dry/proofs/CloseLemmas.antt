@@ -13,7 +13,7 @@ use Rattle.ng_dry.specs.declared.ending.DryFault.{DryFault}
 use Rattle.ng_state.specs.State.{StateModel}
 use Rattle.ng_text.proofs.NewlineLemmas.{lines-alone}
 use Rattle.ng_dry.proofs.OutcomeLemmas.{outcome_is}
-use Rattle.ng_text.proofs.KnownBytesLemmas.{Appends-nil, Appends-trans, Consumes-nil}
+use Rattle.ng_streams.proofs.KnownBytesLemmas.{Appends-nil, Appends-trans, Consumes-nil}
 
 pub DryRunSpec-from : (a b : Option (List ℕ)) (o before : Output) (r : Result Ended DryFault) → before ≡ o → DryRunSpec a b o r → DryRunSpec a b before r
 DryRunSpec-from a b o before r e h = subst (λ x. DryRunSpec a b x r) (sym e) h

@@ -12,7 +12,7 @@ use Rattle.ng_dry.specs.Private.Parts.{DryRunModel, outcome_by, due, Goes, Break
 use Rattle.ng_dry.specs.declared.ending.Ended.{Ended}
 use Rattle.ng_dry.specs.declared.ending.Ended.TheVariants as ended
 use Rattle.ng_dry.specs.declared.ending.DryFault.{DryFault}
-use Rattle.ng_text.proofs.KnownBytesLemmas.{Appends-trans}
+use Rattle.ng_streams.proofs.KnownBytesLemmas.{Appends-trans}
 
 -- what a line does
 due-line : (here start : DryRunModel) (line : List ℕ) (r : Result Done Fault) (more : List (List ℕ)) → here ≡ start

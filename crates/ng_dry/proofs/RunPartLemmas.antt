@@ -11,7 +11,7 @@ use Rattle.ng_dry.specs.declared.ending.Ended.{Ended}
 use Rattle.ng_dry.specs.declared.ending.DryFault.{DryFault}
 use Rattle.ng_block.proofs.LineLemmas.{executed_after-long}
 use Rattle.ng_text.proofs.NewlineLemmas.{lines-newline, lines-long}
-use Rattle.ng_text.proofs.KnownBytesLemmas.{Appends-trans}
+use Rattle.ng_streams.proofs.KnownBytesLemmas.{Appends-trans}
 
 -- a part that begins at an equal place
 pub LineStepSpec-from : {X : Type 0} (a b : Option (List ℕ)) (f before g : X → Output)

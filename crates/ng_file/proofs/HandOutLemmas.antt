@@ -9,7 +9,7 @@ use Rattle.ng_rig.specs.Calls.{SyncSpec}
 use Rattle.ng_rig.specs.Trace.{Trace, items}
 use Rattle.ng_file.specs.Bytes.{AppendsBeginning}
 use Rattle.ng_file.specs.HandOuts.{AreGiven, lines_of}
-use Rattle.ng_streams.proofs.WrittenBytesLemmas.{Appends-trans}
+use Rattle.ng_streams.proofs.KnownBytesLemmas.{Appends-trans}
 
 lines_of-more : (given : List Item) (item : Item) → lines_of (given ++ item ∷ []) ≡ lines_of given ++ item_line item
 lines_of-more given item = flat_map-append item_line given (item ∷ []) ∙ ap (λ (l : List ℕ). lines_of given ++ l) (append-nil (item_line item))

@@ -3,7 +3,7 @@ use Rattle.std.proofs.Common.{◌≡◌, ◌∙◌, ℕ, ◌+◌, ◌*◌, ◌�
 use Rattle.std.proofs.lemmas.List.{length-replicate, replicate-append-replicate, take-replicate, take_min}
 use Rattle.std.specs.Io.KnownBytes.{Appends}
 use Rattle.ng_file.specs.Bytes.{AppendsBeginning}
-use Rattle.ng_streams.proofs.WrittenBytesLemmas.{Appends-trans}
+use Rattle.ng_streams.proofs.KnownBytesLemmas.{Appends-trans}
 
 abbrev zeros : ℕ → List ℕ
 zeros n = replicate n 0

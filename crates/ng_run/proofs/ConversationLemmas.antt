@@ -2,7 +2,7 @@
 use Rattle.std.proofs.Common.{◌≡◌, ℕ, List, [], ◌∷◌, ◌++◌, Option, Some, Result, Ok, Err, All, IfSome, refl, sym, subst, append-nil}
 use Rattle.std.specs.Io.KnownBytes.{Appends}
 use Rattle.std.proofs.lemmas.List.Elements.{All-nil, All-push}
-use Rattle.ng_text.proofs.KnownBytesLemmas.{Appends-nil, Appends-trans}
+use Rattle.ng_streams.proofs.KnownBytesLemmas.{Appends-nil, Appends-trans}
 use Rattle.ng_rig.specs.Rig.{Device}
 use Rattle.ng_session.specs.declared.event.Event.{Event}
 use Rattle.ng_session.specs.declared.reply.Reply.{Reply}

@@ -1,7 +1,7 @@
 -- The answer to one order.
 use Rattle.std.proofs.Common.{ℕ, List, [], ◌∷◌, ◌++◌, take, Option, Result, Ok, Err, refl, sym, subst, inl, inr, append-nil}
 use Rattle.std.specs.Io.KnownBytes.{Appends}
-use Rattle.ng_text.proofs.KnownBytesLemmas.{Appends-nil, Appends-trans}
+use Rattle.ng_streams.proofs.KnownBytesLemmas.{Appends-nil, Appends-trans}
 use Rattle.ng_num.specs.declared.fault.Fault.{Fault}
 use Rattle.ng_rig.specs.Rig.{Device}
 use Rattle.ng_commands.specs.Replies.{refused_line, reply_line, ticks_line}

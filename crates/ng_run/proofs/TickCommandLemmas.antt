@@ -5,7 +5,7 @@ use Rattle.std.specs.List.{AllPass, flat_map}
 use Rattle.std.proofs.lemmas.List.{map-append}
 use Rattle.std.specs.Io.KnownBytes.{Appends}
 use Rattle.std.proofs.lemmas.List.Elements.{All-push}
-use Rattle.ng_text.proofs.KnownBytesLemmas.{Appends-trans}
+use Rattle.ng_streams.proofs.KnownBytesLemmas.{Appends-trans}
 use Rattle.ng_rig.specs.Rig.{Device}
 use Rattle.ng_commands.specs.Replies.{continues_ticks, tick_line}
 use Rattle.ng_session.specs.declared.event.Event.{Event}

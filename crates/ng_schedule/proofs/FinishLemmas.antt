@@ -19,7 +19,7 @@ use Rattle.ng_schedule.specs.declared.ending.Ended.TheVariants.{Done, NotALine, 
 use Rattle.ng_schedule.specs.declared.ending.ScheduleFault.{ScheduleFault}
 use Rattle.ng_schedule.specs.declared.giving.Schedule.{Schedule}
 use Rattle.ng_schedule.proofs.StreamLemmas.{begins, are_paced, come_to_rest}
-use Rattle.ng_text.proofs.KnownBytesLemmas.{Appends-nil, Appends-trans}
+use Rattle.ng_streams.proofs.KnownBytesLemmas.{Appends-nil, Appends-trans}
 
 pub ScheduleSpec-from : (limits : Limits) (shown other : Shown) (text same : List ℕ) (old new : Option (List ℕ))
     (r : Result Ended ScheduleFault) → other ≡ shown → same ≡ text

@@ -17,7 +17,7 @@ use Rattle.ng_schedule.specs.declared.ending.Shown.{Shown}
 use Rattle.ng_schedule.specs.declared.ending.ScheduleFault.{ScheduleFault}
 use Rattle.ng_schedule.specs.declared.giving.Schedule.{Schedule}
 use Rattle.ng_schedule.proofs.StreamLemmas.{are_paced, ends, gives_out, puts, tells}
-use Rattle.ng_text.proofs.KnownBytesLemmas.{Appends-trans}
+use Rattle.ng_streams.proofs.KnownBytesLemmas.{Appends-trans}
 
 lines_of-append : (a b : List Timed) → lines_of (a ++ b) ≡ lines_of a ++ lines_of b
 lines_of-append [] b = refl

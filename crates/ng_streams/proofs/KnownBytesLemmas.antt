@@ -1,8 +1,6 @@
--- Known bytes of writers, piece by piece.
-use Rattle.std.proofs.Common.{◌≡◌, ℕ, List, [], ◌++◌, Option, None, Some, sym, ap, ◌∙◌, append_assoc}
-use Rattle.std.proofs.Common.{append-nil, take, drop, length, ◌-◌, arith, length-drop}
-use Rattle.std.proofs.lemmas.List.{take_all}
-use Rattle.std.specs.Io.KnownBytes.{Appends}
+-- Known bytes of readers and writers, piece by piece.
+use Rattle.std.proofs.Common.{◌≡◌, ℕ, List, [], ◌++◌, Option, None, Some, refl, sym, ap, ◌∙◌, append_assoc, append-nil}
+use Rattle.std.specs.Io.KnownBytes.{Appends, Consumes}
 
 pub Appends-nil : (a : Option (List ℕ)) → Appends a a []
 Appends-nil None = tt
@@ -14,6 +12,12 @@ Appends-trans (Some x) None c bs cs p q = absurd p
 Appends-trans (Some x) (Some y) None bs cs p q = absurd q
 Appends-trans (Some x) (Some y) (Some z) bs cs p q = q ∙ ap (λ l. l ++ cs) p ∙ append_assoc x bs cs
 
--- what is left of a slice after its first i elements
-pub rest_is : {A : Type 0} (i : ℕ) (xs : List A) → take (length xs - i) (drop i xs) ≡ drop i xs
-rest_is i xs = take_all (length xs - i) (drop i xs) (omega (arith, length-drop i xs))
+pub Consumes-nil : (a : Option (List ℕ)) → Consumes a a []
+Consumes-nil None = tt
+Consumes-nil (Some x) = refl
+
+pub Consumes-trans : (a b c : Option (List ℕ)) (bs cs : List ℕ) → Consumes a b bs → Consumes b c cs → Consumes a c (bs ++ cs)
+Consumes-trans None b c bs cs p q = tt
+Consumes-trans (Some x) None c bs cs p q = absurd p
+Consumes-trans (Some x) (Some y) None bs cs p q = absurd q
+Consumes-trans (Some x) (Some y) (Some z) bs cs p q = p ∙ ap (λ l. bs ++ l) q ∙ sym (append_assoc bs cs z)

@@ -1,2 +1,2 @@
-pub mod WrittenBytesLemmas
+pub mod KnownBytesLemmas
 pub mod WaitingLemmas

@@ -3,7 +3,7 @@ use Rattle.std.proofs.Common.{◌≡◌, ℕ, List, [], ◌++◌, Option, Result
 use Rattle.std.proofs.Common.{append_assoc, append-nil, take, drop, take-append-drop}
 use Rattle.std.specs.Io.KnownBytes.{Appends}
 use Rattle.ng_streams.specs.Waiting.{FlushSpec}
-use Rattle.ng_streams.proofs.WrittenBytesLemmas.{Appends-nil, Appends-trans}
+use Rattle.ng_streams.proofs.KnownBytesLemmas.{Appends-nil, Appends-trans}
 
 -- nothing is written yet
 pub Waits : {T : Type 0} (E : Type 0) (a : Option (List ℕ)) (waiting left : List ℕ) (x : T) → left ≡ waiting

@@ -1,4 +1,3 @@
-pub mod KnownBytesLemmas
 pub mod NewlineLemmas
 pub mod PercentLemmas
 pub mod FirstLineLemmas

@@ -2,7 +2,7 @@ use Rattle.std.proofs.Common.{◌++◌, ◌∙◌, List, ℕ, ap₂, append_asso
 use Rattle.std.proofs.lemmas.Result.{on_ok_weaker}
 use Rattle.std.specs.Io.KnownBytes.{Appends}
 use Rattle.ng_motion.specs.Fault.{cause_text, name_told}
-use Rattle.ng_text.proofs.KnownBytesLemmas.{Appends-trans}
+use Rattle.ng_streams.proofs.KnownBytesLemmas.{Appends-trans}
 use Rattle.ng_console.proofs.pacing.refuse_machine.Goals as goal
 
 pub returns : goal.returns

@@ -1,6 +1,6 @@
 use Rattle.std.proofs.Common.{arith, ◌++◌, take}
 use Rattle.std.proofs.lemmas.Grind.{common_steps}
-use Rattle.ng_text.proofs.KnownBytesLemmas.{Consumes-trans}
+use Rattle.ng_streams.proofs.KnownBytesLemmas.{Consumes-trans}
 use Rattle.ng_console.proofs.settings_file.read_whole.Goals as goal
 
 pub returns-then-is_err-clause-read : goal.returns-then-is_err-clause-read

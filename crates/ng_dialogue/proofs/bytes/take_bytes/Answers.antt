@@ -1,6 +1,6 @@
 use Rattle.std.proofs.Common.{rules, ◌≡◌, ◌≤◌, ◌++◌, ◌∙◌, List, ℕ, [], true, false, refl, sym, subst, ap, take, length, arith, length-append}
 use Rattle.std.specs.Io.KnownBytes.{Consumes}
-use Rattle.ng_text.proofs.KnownBytesLemmas.{Consumes-nil}
+use Rattle.ng_streams.proofs.KnownBytesLemmas.{Consumes-nil}
 use Rattle.ng_dialogue.specs.Waiting.{text_left}
 use Rattle.ng_dialogue.proofs.BufferLemmas.{nonempty, some_taken, taken_length}
 use Rattle.ng_dialogue.proofs.ReaderBytesLemmas.{ended_for_good, ended_still, holds_on, left_bytes, left_on, step_on, taken_still, text_over}

@@ -4,7 +4,7 @@ use Rattle.ng_dry.specs.Dry.{output_from}
 use Rattle.ng_dry.specs.declared.ending.DryFault.TheVariants.{Memory}
 use Rattle.ng_dry.specs.Private.Parts.{DryRunModel, rest_of}
 use Rattle.ng_dry.proofs.CloseLemmas.{Consumes-none, run_end, run_breaks, run_ends, run_goes, run_none, run_stops, Goes-begun}
-use Rattle.ng_text.proofs.KnownBytesLemmas.{Consumes-nil, Consumes-trans}
+use Rattle.ng_streams.proofs.KnownBytesLemmas.{Consumes-nil, Consumes-trans}
 use Rattle.ng_dry.proofs.dry_run.dry_from.Goals as goal
 
 pub returns-in-Err : goal.returns-in-Err

@@ -1,6 +1,6 @@
 use Rattle.std.proofs.Common.{List, ℕ, subst}
 use Rattle.std.specs.Io.KnownBytes.{Appends}
-use Rattle.ng_streams.proofs.WrittenBytesLemmas.{Appends-trans}
+use Rattle.ng_streams.proofs.KnownBytesLemmas.{Appends-trans}
 use Rattle.ng_file.proofs.ZeroAppendLemmas.{zeros_more}
 use Rattle.ng_file.proofs.device.write_zeros.Goals as goal
 

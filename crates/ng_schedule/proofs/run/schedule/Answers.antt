@@ -5,7 +5,7 @@ use Rattle.ng_schedule.specs.declared.ending.ScheduleFault.TheVariants.{Reader}
 use Rattle.ng_schedule.proofs.FinishLemmas.{ScheduleSpec-from, begun, cut_broken, nothing_written, run_ends, run_stops}
 use Rattle.ng_schedule.proofs.RunStepLemmas.{stops_for_no_limits}
 use Rattle.ng_schedule.proofs.ScheduleRunLemmas.{cut}
-use Rattle.ng_text.proofs.KnownBytesLemmas.{Consumes-nil, Consumes-trans}
+use Rattle.ng_streams.proofs.KnownBytesLemmas.{Consumes-nil, Consumes-trans}
 use Rattle.ng_schedule.proofs.run.schedule.Goals as goal
 
 pub returns-in-Err-clause-run : goal.returns-in-Err-clause-run

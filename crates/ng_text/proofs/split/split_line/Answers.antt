@@ -1,13 +1,13 @@
 use Rattle.std.proofs.Common.{arith, add-one}
+use Rattle.std.proofs.lemmas.List.{take_rest}
 use Rattle.ng_text.proofs.NewlineLemmas.{HasNoNewline-take, HasNoNewline-all, parted}
-use Rattle.ng_text.proofs.KnownBytesLemmas.{rest_is}
 use Rattle.ng_text.proofs.split.split_line.Goals as goal
 
 pub returns-in-Some : goal.returns-in-Some
 returns-in-Some c =
     let found = c.in-Some.ensures in (
       HasNoNewline-take c.args.bytes.now c.in-Some.end (λ k below within. found.0.before k (omega arith) below),
-      rw (rest_is, add-one) (parted c.args.bytes.now c.in-Some.end found.0.high found.1),
+      rw (take_rest, add-one) (parted c.args.bytes.now c.in-Some.end found.0.high found.1),
     )
 
 pub returns-in-None : goal.returns-in-None
