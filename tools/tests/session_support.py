@@ -10,19 +10,22 @@ import subprocess
 import sys
 import tempfile
 import termios
+import threading
 import time
 import unittest
 from collections.abc import Callable
-from contextlib import redirect_stderr, redirect_stdout
+from contextlib import AbstractContextManager, redirect_stderr, redirect_stdout
 from functools import cache
 from io import StringIO
 from pathlib import Path
+from unittest import mock
 
 TOOLS = Path(__file__).resolve().parents[1]
 sys.path.insert(0, str(TOOLS))
 
 from forked_tool import forked
 
+from ngc_tools import scratch
 from ngc_tools.language import ENGLISH, of_environment
 from ngc_tools.link.out_file import born_ns
 
@@ -51,12 +54,17 @@ def ngc() -> str:
 def told(main: Callable[[list[str]], int], *words: str) -> tuple[int, str, str]:
     """The status, standard output and standard error of a tool in this process, which is quicker."""
     out, error = StringIO(), StringIO()
-    with redirect_stdout(out), redirect_stderr(error):
+    with redirect_stdout(out), redirect_stderr(error), going_on():
         try:
             status = main(list(words))
         except SystemExit as why:
             status = int(why.code or 0)
     return status, out.getvalue(), error.getvalue()
+
+
+def going_on() -> AbstractContextManager[object]:
+    """A tool that ends meanwhile doesn't end this process, whose threads make folders and files afterwards."""
+    return mock.patch.object(scratch, "_is_over", threading.Event())
 
 
 def is_alive(pid: str) -> bool:

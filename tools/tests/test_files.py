@@ -14,7 +14,7 @@ from unittest import mock
 
 sys.path.insert(0, str(Path(__file__).resolve().parent))
 
-from session_support import FIRST, TOOLS, InFolder
+from session_support import FIRST, TOOLS, InFolder, going_on
 from out_support import text_of
 
 from ngc_tools import files
@@ -148,6 +148,10 @@ class Read(InFolder):
 
 class Scratched(unittest.TestCase):
     """`Scratch` and `scratch_file`."""
+
+    def setUp(self) -> None:
+        """What ends here doesn't end this process."""
+        self.enterContext(going_on())
 
     def test_interrupted_while_it_is_removed(self) -> None:
         """Where Ctrl-C comes in the midst of the removal, whoever ends the work goes on with it."""

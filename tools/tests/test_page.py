@@ -1424,12 +1424,14 @@ class Asides(InFolder):
         aside = Aside()
         self.addCleanup(aside.close)
         child = aside.begin(bytes, 1 << 20)
-        pipe = child._said
+        pipe, ended = child._said, select.poll()
+        ended.register(pipe, 0)  # till nobody can write there
 
         def cut_off(size: int = -1) -> bytes:
             """What came before it was given up."""
             select.select([pipe], [], [])
             child.give_up()
+            ended.poll()
             return pipe.read(size)
 
         child._said = SimpleNamespace(read=cut_off, close=pipe.close)

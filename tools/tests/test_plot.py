@@ -14,7 +14,7 @@ from unittest import mock
 
 sys.path.insert(0, str(Path(__file__).resolve().parent))
 
-from session_support import FIRST, TOOLS, InFolder, ngc
+from session_support import FIRST, TOOLS, InFolder, going_on, ngc
 
 from ngc_tools.cli.plot import main
 from ngc_tools.job import timing
@@ -111,7 +111,7 @@ class Plot(InFolder):
         """Runs it, in this process."""
         out, error = TextIOWrapper(BytesIO(), "utf-8"), StringIO()
         given = mock.patch.object(sys, "stdin", TextIOWrapper(BytesIO(text.encode())))
-        with redirect_stdout(out), redirect_stderr(error), given:
+        with redirect_stdout(out), redirect_stderr(error), given, going_on():
             status = main(["--ngc", ngc(), *words])
         return subprocess.CompletedProcess(words, status, out.buffer.getvalue().decode(), error.getvalue())
 
