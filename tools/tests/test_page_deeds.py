@@ -39,6 +39,9 @@ M2
 PRESSES = 50
 UNTOLD = "document.getElementById('toast').hidden || void document.dispatchEvent(new Event('pointerdown'))"
 """Nothing is told beside a button any more: another touch ends that, once it could be read."""
+COMES = """void (window.comes = 0, new MutationObserver(() => { comes += 1; }).observe(
+    document.querySelector('#tab-setup .why'), { attributes: true }))"""
+"""How often the line above all of Setup comes or goes."""
 WORDS = "document.querySelector('#over .words').textContent"
 GAUGES = "[...document.querySelectorAll('#gauges dd')].slice(1, 3).map(one => one.textContent).join()"
 """Of spindle and coolant."""
@@ -116,9 +119,16 @@ class Deeds(OverBodies):
         self.browser.wait(UNTOLD)
 
     def steps(self) -> None:
-        """One by a key, which is pressed anew where the page is too late."""
+        """Two while the spindle turns, by which nothing on the page moves; one by a key, which is pressed anew where the
+        page is too late."""
         browser = self.browser
         browser.press("0.1", ".jog .choices button")
+        self.press("Clockwise M3", "#tab-setup button")
+        browser.js(COMES)
+        for says in ("X+", "X\u2212"):
+            self.press(says, ".pad button")
+        self.assertEqual(browser.js("[comes, document.querySelector('#tab-setup .why').checkVisibility()]"), [0, True])
+        self.press("Off M5", "#tab-setup button")
         browser.press("By keys", "#tab-setup button")
         for _ in range(PRESSES if isinstance(browser, Chromium) else 0):
             browser.key("rawKeyDown", "ArrowRight")

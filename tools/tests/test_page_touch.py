@@ -136,6 +136,38 @@ class Shut(Twice, test_page_browser.Moves):
         axes.stands = axes.machine = replace(axes.stands, on=())
         self.is_dead_first("#run", "Go on", ["release"])
 
+    def test_moved(self) -> None:
+        """What a line moves that comes or goes above it is dead for a second, where it says what it said."""
+        browser, axes, pad = self.browser, self.machine.axes, ".pad .right"
+        browser.press("Setup", "nav button")
+        browser.js(RESTS)
+        for on, sees in ((("door",), "true"), ((), "false")):
+            axes.stands = axes.machine = replace(axes.stands, on=on)
+            browser.wait(f"document.querySelector('#tab-setup .why').checkVisibility() === {sees}")
+            browser.frame()
+            self.assertEqual(self.alive("#tab-setup button"), [])
+            self.assertEqual(self.alive("nav button"), ["Program", "Setup", "Tools", "Log"])
+            self.assertEqual(self.tap(pad), [])
+            self.second_passes()
+        self.assertEqual(self.tap(pad), ["jog", "jogstop"])
+
+    def test_never_dead(self) -> None:
+        """Hold and Stop go on wherever they are moved to, and so does a button that a finger is on."""
+        browser = self.browser
+        browser.js(RESTS)
+        at = browser.place("Load", "#load")
+        browser.down(*at)
+        browser.js("void (document.querySelector('footer').style.paddingLeft = '60px')")
+        browser.wait("document.getElementById('run').closest('[inert]')")
+        inert = "[...document.querySelectorAll('footer [inert]')].map(one => one.id)"
+        self.assertEqual(browser.js(inert), ["run", "do", "single", "optional", "delete"])
+        browser.move(1, 1)
+        browser.up(1, 1)
+
+    def alive(self, nodes: str) -> list[str]:
+        """Which of these buttons take a touch."""
+        return self.browser.js(BELOW.replace("main button, main input", nodes))
+
 
 class Changing(Twice):
     """A tap does nothing before a second has passed, and then it does what the button says."""

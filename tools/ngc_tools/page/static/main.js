@@ -17,7 +17,7 @@ import { Setup } from './setup.js';
 import * as sheet from './sheet.js';
 import * as sight from './sight.js';
 import { StockSheet } from './stock_sheet.js';
-import { dead, means, rest } from './steady.js';
+import { dead, means, rest, sizes } from './steady.js';
 import * as tools from './tools.js';
 import { place, unit } from './units.js';
 import { givenBack, lostOf } from './ways.js';
@@ -46,6 +46,8 @@ const stock = new StockSheet(app, asks);
 const alarm = new Alarm(asks, () => { if (recovery.isOpen) recovery.later(); });
 Object.assign(app, { picture, program, readout, stock, dead, keys: setup.keys });
 $('run').addEventListener('click', () => rest($('run'))); // the second tap of two means nothing
+document.querySelectorAll('header, header button, .tab > *, .program-head > *, footer > *, .switches > *')
+  .forEach(part => sizes.observe(part));
 
 new MutationObserver(() => { if (app.state) showControls(app.state); })
   .observe($('over'), { attributes: true, attributeFilter: ['hidden'] });

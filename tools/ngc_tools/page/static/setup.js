@@ -82,10 +82,10 @@ export class Setup {
 
   show(s) {
     this.shown = s;
-    const hasMoves = s.machine !== null && s.machine !== undefined, isJogging = s.command?.word === 'jog';
+    const hasMoves = s.machine !== null && s.machine !== undefined;
     for (const name of ['home', 'jog', 'probe']) this.parts[name].hidden = !hasMoves;
     this.parts.home.hidden ||= s.homes === ''; // the machine's file doesn't say how
-    text(this.why, hasMoves && !isJogging ? whyNot(s) : '');
+    text(this.why, hasMoves ? whyNot(s) || wantsOff(s) : '');
     this.why.hidden = !this.why.textContent;
     text(this.homed, s.homed ? `homed: ${[...s.homed].join(' ')}` : 'not homed');
     text(this.system, systemName(s.system));
@@ -223,8 +223,11 @@ function whyNot(s) {
   if (s.alarm) return 'After the alarm home comes first.';
   if (s.does === 'held') return 'A line is held: Continue or Stop comes before the axes are jogged or homed.';
   if (s.held_motors && s.behind) return 'The motors are held with lines in hand: Go on carries them out first.';
-  return isOn(s) ? 'Spindle or coolant is on: home and the probe want both off.' : '';
+  return wantsOff(s);
 }
+
+// Said while something moves too, so that what is below it stays where it is.
+const wantsOff = s => (isOn(s) ? 'Spindle or coolant is on: home and the probe want both off.' : '');
 
 const TOUCHES = 'The probe is on: it touches something, or its wire is broken.';
 

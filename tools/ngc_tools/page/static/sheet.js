@@ -1,6 +1,6 @@
 // Sheets over the middle of the page: a question, findings, recovery. The state and Hold stay in sight.
 import { $, el, may } from './dom.js';
-import { means, rest } from './steady.js';
+import { means, rest, sizes } from './steady.js';
 
 // What a sheet asks, and what its buttons answer: where that changes they are dead for a second.
 const asked = '#over h1, #over h2, #over .asked, #over .foot button';
@@ -32,6 +32,7 @@ export function open(name, content, buttons, beside = null) {
   end();
   $('over').replaceChildren(sheet.head, middle, sheet.foot);
   $('over').hidden = false;
+  sizes.observe(sheet.words);
   return sheet;
 }
 
