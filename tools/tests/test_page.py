@@ -32,6 +32,7 @@ from ngc_tools.operator.face import REFUSED, UnderWay
 from ngc_tools.operator.recover import ON_WAY
 from ngc_tools.operator.sentences import SWITCHED
 from ngc_tools.operator.way_back import TYPE_GO
+from ngc_tools.page import forks
 from ngc_tools.page import server as server_module
 from ngc_tools.page.aside import Aside, NotDone
 from ngc_tools.page.band import Standing
@@ -1438,15 +1439,30 @@ class Asides(InFolder):
         with self.assertRaisesRegex(NotDone, "it was ended before it was done"):
             child.result()
 
+    def test_interrupted_as_it_forks(self) -> None:
+        """Ctrl-C as a fork begins ends that one; it heeds none as this process does, whose folders it would remove."""
+        fork = os.fork
+
+        def interrupted() -> int:
+            if not (pid := fork()):
+                os.kill(os.getpid(), signal.SIGINT)
+            return pid
+
+        ours, theirs = socket.socketpair(socket.AF_UNIX, socket.SOCK_SEQPACKET)
+        with ours, theirs, patch.object(os, "fork", interrupted):
+            _, status = forks._forked(theirs)()
+        self.assertEqual(os.waitstatus_to_exitcode(status), -signal.SIGINT)
+        self.assertEqual(signal.pthread_sigmask(signal.SIG_BLOCK, ()), set())
+
     def test_forks_killed(self) -> None:
         """Where what forks children was killed another one does."""
         aside = Aside()
         self.addCleanup(aside.close)
-        forks = aside.call(os.getppid)
-        os.kill(forks, signal.SIGKILL)
-        self.wait_for("it is gone", lambda: not is_alive(str(forks)))
+        first = aside.call(os.getppid)
+        os.kill(first, signal.SIGKILL)
+        self.wait_for("it is gone", lambda: not is_alive(str(first)))
         self.assertEqual(aside.call(divmod, 7, 2), (3, 1))
-        self.assertNotEqual(aside.call(os.getppid), forks)
+        self.assertNotEqual(aside.call(os.getppid), first)
 
     def test_killed(self) -> None:
         """A kill of the parent leaves neither the work nor what that started behind, nor what forked it."""
