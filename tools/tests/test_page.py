@@ -34,7 +34,7 @@ from ngc_tools.operator.sentences import SWITCHED
 from ngc_tools.operator.way_back import TYPE_GO
 from ngc_tools.page import forks
 from ngc_tools.page import server as server_module
-from ngc_tools.page.aside import Aside, NotDone
+from ngc_tools.page.aside import MOST_CPU_S, MOST_MEMORY, Aside, NotDone
 from ngc_tools.page.band import Standing
 from ngc_tools.page.drawing import SWITCH, DrawingRequest, draw, draw_exactly, job_of
 from ngc_tools.page.face import LOOKS, PageFace, Question
@@ -45,6 +45,7 @@ from ngc_tools.page.session import SessionCommand, PageSession
 from ngc_tools.page.stand import Stand
 from ngc_tools.page.state import Pictured, state_of
 from ngc_tools.link.progress import MoveReport, NoAnswer
+from ngc_tools.scratch import Scratch
 
 EXAMPLES = TOOLS.parent / "examples"
 COARSE = """step_nm = [100000, 100000, 100000]
@@ -1453,6 +1454,14 @@ class Asides(InFolder):
             _, status = forks._forked(theirs)()
         self.assertEqual(os.waitstatus_to_exitcode(status), -signal.SIGINT)
         self.assertEqual(signal.pthread_sigmask(signal.SIG_BLOCK, ()), set())
+
+    def test_nothing_given(self) -> None:
+        """A child whose parent was killed before it gave it work removes its folder all the same."""
+        made, folder = forks.Forks(), Scratch("ngc-test-")
+        self.addCleanup(made.close)
+        for pipe in made.child(folder.name, MOST_MEMORY, MOST_CPU_S):
+            pipe.close()
+        self.wait_for("its folder is gone", lambda: not os.path.exists(folder.name))
 
     def test_forks_killed(self) -> None:
         """Where what forks children was killed another one does."""

@@ -23,11 +23,19 @@ _says: list[int] = []  # of a child the descriptor by which it answers
 
 
 def work(given: BinaryIO, said: int, folder: str, most_memory: int, most_cpu_s: float) -> None:
-    """Does what it is given, and says what came of it."""
-    os.nice(10)
-    _says.append(said)
-    scratch.use(folder)
-    _bound(most_memory, math.ceil(2 * most_cpu_s))
+    """Does what it is given, says what came of it, and removes its files."""
+    try:
+        os.nice(10)
+        _says.append(said)
+        scratch.use(folder)
+        _bound(most_memory, math.ceil(2 * most_cpu_s))
+        _answer(given, said, folder, most_memory, most_cpu_s)
+    finally:
+        scratch.remove(folder)
+
+
+def _answer(given: BinaryIO, said: int, folder: str, most_memory: int, most_cpu_s: float) -> None:
+    """Does it, if its parent is still there."""
     (size,) = HEAD.unpack(given.read(HEAD.size))
     asked = given.read(size)
     threading.Thread(target=_watch, args=[given, folder], daemon=True).start()
