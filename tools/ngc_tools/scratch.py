@@ -1,7 +1,7 @@
 """Folders and files for a while, which are removed whatever ends the work.
 
-The path of each is noted before it is made: wherever a signal comes, whoever ends the process removes it. Another thread
-than the main one that would make one after that ends there."""
+The path of each is noted before it is made: wherever a signal comes, whoever ends the process removes it. A thread that
+would make one after that ends there, unless it is the main one."""
 import os
 import shutil
 import tempfile

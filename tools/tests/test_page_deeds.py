@@ -119,8 +119,8 @@ class Deeds(OverBodies):
         self.browser.wait(UNTOLD)
 
     def steps(self) -> None:
-        """Two while the spindle turns, by which nothing on the page moves; one by a key, which is pressed anew where the
-        page is too late."""
+        """Two while the spindle turns, by which nothing on the page moves. One by a key, which is pressed anew where it
+        came too late."""
         browser = self.browser
         browser.press("0.1", ".jog .choices button")
         self.press("Clockwise M3", "#tab-setup button")
