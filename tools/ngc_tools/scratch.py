@@ -1,7 +1,7 @@
 """Folders and files for a while, which are removed whatever ends the work.
 
-The path of each is noted before it is made: wherever a signal comes, whoever ends the process removes it. A thread that
-would make one after that ends there, unless it is the main one."""
+The path of each is noted before it is made, so that it is removed as the process ends, wherever a signal came: what
+`tempfile` makes it names itself. A thread that would make one after that ends, unless it is the main one."""
 import os
 import shutil
 import tempfile
@@ -38,7 +38,7 @@ class Scratch:
         folder = _folders[-1] if Path(_folders[-1]).is_dir() else tempfile.gettempdir()
         self.name = _new_path(folder, prefix)
         _make(self.name, partial(os.mkdir, mode=0o700))
-        self.cleanup = weakref.finalize(self, remove, self.name)
+        self.cleanup = weakref.finalize(self, remove, self.name)  # removes it, once
 
     def __enter__(self) -> str:
         """Its path."""

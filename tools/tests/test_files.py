@@ -154,7 +154,7 @@ class Scratched(unittest.TestCase):
         self.enterContext(going_on())
 
     def test_interrupted_while_it_is_removed(self) -> None:
-        """Where Ctrl-C comes in the midst of the removal, whoever ends the work goes on with it."""
+        """What is left where Ctrl-C comes in the midst of the removal is removed as the work ends."""
         before = signal.signal(signal.SIGINT, signal.default_int_handler)
         self.addCleanup(signal.signal, signal.SIGINT, before)
         folder = Scratch("ngc-test-")

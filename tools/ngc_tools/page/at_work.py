@@ -35,7 +35,7 @@ def work(given: BinaryIO, said: int, folder: str, most_memory: int, most_cpu_s: 
 
 
 def _answer(given: BinaryIO, said: int, folder: str, most_memory: int, most_cpu_s: float) -> None:
-    """Does it, if its parent is still there."""
+    """Does it, and says what came of it. Raises struct.error where its parent is gone."""
     (size,) = HEAD.unpack(given.read(HEAD.size))
     asked = given.read(size)
     threading.Thread(target=_watch, args=[given, folder], daemon=True).start()

@@ -58,7 +58,7 @@ class Forks:
 
 def _forked(theirs: socket.socket) -> Callable[[], object]:
     """Has a fork of this process serve at a socket, and returns what waits for its end. Raises OSError."""
-    before = signal.pthread_sigmask(signal.SIG_BLOCK, _ENDINGS)  # the fork heeds none as this process does
+    before = signal.pthread_sigmask(signal.SIG_BLOCK, _ENDINGS)  # none finds the fork with our handlers
     pid = os.fork()
     if not pid:
         try:

@@ -46,6 +46,7 @@ const stock = new StockSheet(app, asks);
 const alarm = new Alarm(asks, () => { if (recovery.isOpen) recovery.later(); });
 Object.assign(app, { picture, program, readout, stock, dead, keys: setup.keys });
 $('run').addEventListener('click', () => rest($('run'))); // the second tap of two means nothing
+// What moves buttons as it comes or goes.
 document.querySelectorAll('header, header button, .tab > *, .program-head > *, footer > *, .switches > *')
   .forEach(part => sizes.observe(part));
 

@@ -1,7 +1,7 @@
 // A button that comes to mean something else is dead for a second: the finger that is on its way to it meant what it
 // said before. So are the buttons of a sheet that opens, those below one that goes, and each that a change moves.
 export const dead = { ms: 1000 };
-const ALWAYS = ['hold', 'stop']; // never dead
+const NEVER_DEAD = ['hold', 'stop'];
 const MOVED_PX = 4;
 
 const timers = new WeakMap();
@@ -34,7 +34,7 @@ function look(node) {
   if (!at) return;
   places.set(node, at);
   const isMoved = was && (Math.abs(at.x - was.x) > MOVED_PX || Math.abs(at.y - was.y) > MOVED_PX);
-  if (isMoved && !ALWAYS.includes(node.id) && !node.matches(':active')) rest(node);
+  if (isMoved && !NEVER_DEAD.includes(node.id) && !node.matches(':active')) rest(node);
 }
 
 // Where it is, as if nothing were scrolled; null where nobody sees it.
