@@ -1,5 +1,5 @@
-//! Tests of a desk for callers in threads, over devices in memory, through public functions. No program depends on this
-//! crate.
+//! Tests of a desk for callers in threads, and of a controller that is given a list of events, over devices in memory,
+//! through public functions. No program depends on this crate.
 //!
 //! Expected values are worked out by hand from what a controller does, never copied from what the crates return.
 #![tactic(auto)]
@@ -8,5 +8,7 @@
 mod callers;
 #[cfg(test)]
 mod devices;
+#[cfg(test)]
+mod listed;
 #[cfg(test)]
 mod memory;

@@ -1,13 +1,16 @@
-//! Tests of the crates below `ng_block` through their public functions, for what no case of `ngc_cases` can show. The
-//! cases show what arcs, cycles and offsets do. No program depends on this crate.
+//! Tests of the crates below `ng_session` through their public functions, for what no case of `ngc_cases` can show:
+//! numbers and lines, pulses' times, programs and single lines, devices in memory and large records on them. No program
+//! depends on this crate.
 //!
-//! Expected values are worked out from the language, by hand or by other means, never copied from what the crates
-//! return. The tests are in crates of their own because a crate with tests is proved twice. Tests that need private
-//! parts of a crate are in that crate.
+//! Expected values are worked out from the language and from docs/DEVICE.md, by hand or by other means, never copied
+//! from what the crates return. The tests are in crates of their own because a crate with tests is proved twice. Tests
+//! that need private parts of a crate are in that crate.
 #![tactic(auto)]
 
 #[cfg(test)]
 mod commands;
+#[cfg(test)]
+mod device;
 #[cfg(test)]
 mod faults;
 #[cfg(test)]
@@ -20,5 +23,11 @@ mod pacing;
 mod parameters;
 #[cfg(test)]
 mod printing;
+#[cfg(test)]
+mod programs;
+#[cfg(test)]
+mod records;
+#[cfg(test)]
+mod sectors;
 #[cfg(test)]
 mod settings;
